@@ -1,0 +1,3 @@
+//! Evidence about systems of rows: a certificate that refutes one, or a rational point of it, and checks of
+//! both that run no solver.
+#![tactic(auto)]

@@ -1,0 +1,40 @@
+use thiserror::Error;
+
+/// Why a text is no program of the profile.
+#[derive(Clone, Copy, Debug, PartialEq, Eq)]
+pub struct Refusal {
+    /// The number of the rule that the text breaks, as the program prints it behind an `E`.
+    pub code: u8,
+    /// The byte at which it does, from 0.
+    pub place: u32,
+}
+
+/// Why a program was not read.
+#[derive(Clone, Copy, Debug, Error, PartialEq, Eq)]
+pub enum Stop {
+    #[error("E{} at byte {}", .0.code, .0.place)]
+    Refused(Refusal),
+    #[error("out of memory")]
+    Memory,
+}
+
+/// Why a text of lines was not read.
+#[derive(Clone, Copy, Debug, Error, PartialEq, Eq)]
+pub enum LineStop {
+    /// The first line that the text's grammar does not allow, from 1.
+    #[error("line {0} is not allowed")]
+    BadLine(u32),
+    #[error("out of memory")]
+    Memory,
+}
+
+/// Why a file was not read whole.
+#[derive(Clone, Copy, Debug, Error, PartialEq, Eq)]
+pub enum ReadStop {
+    #[error("a read failed")]
+    Fault,
+    #[error("the file is too long")]
+    TooLong,
+    #[error("out of memory")]
+    Memory,
+}
