@@ -1,0 +1,10 @@
+pub mod Accepted
+pub mod Answer
+pub mod Graph
+pub mod Least
+pub mod Seen
+pub mod Spelling
+pub mod Table
+pub mod Token
+pub mod Tree
+pub mod Word

@@ -1,0 +1,41 @@
+-- Which tokens are names and numbers.
+use Rattle.std.specs.Prelude.{ℕ, ◌+◌, ◌-◌, ◌*◌, ◌^◌, Bool, true, false, not, ◌&&◌, ◌||◌, List, [], ◌∷◌, ◌++◌, codes, fold, nat_lt, ◌==◌, bytes_eq, if◌then◌else◌}
+use Rattle.std.specs.List.{list_any, list_all}
+use Rattle.threader_cli.specs.Token.{is_letter, is_digit, is_word_byte}
+
+abbrev pub onto_first : ℕ → List (List ℕ) → List (List ℕ)
+onto_first b [] = (b ∷ []) ∷ []
+onto_first b (piece ∷ rest) = (b ∷ piece) ∷ rest
+
+-- the texts between the blanks of a text
+abbrev pub pieces : List ℕ → List (List ℕ)
+pieces [] = [] ∷ []
+pieces (b ∷ bytes) = if b == 32 then [] ∷ pieces bytes else onto_first b (pieces bytes)
+
+-- the words that are no names: those of the profile, and those of C that it refuses
+unfoldable pub reserved : List (List ℕ)
+reserved =
+    pieces (codes "__VERIFIER_nondet_int __VERIFIER_assume __VERIFIER_atomic_begin __VERIFIER_atomic_end assert reach_error abort")
+    ++ pieces (codes "pthread_create pthread_join pthread_exit pthread_mutex_init pthread_mutex_destroy pthread_mutex_lock pthread_mutex_unlock")
+    ++ pieces (codes "static volatile extern int long void main if else while for break return pthread_mutex_t pthread_t NULL PTHREAD_MUTEX_INITIALIZER")
+    ++ pieces (codes "struct union enum typedef unsigned signed char short float double _Bool bool switch case default goto do continue sizeof register auto inline")
+    ++ pieces (codes "_Atomic pthread_cond_t pthread_cond_wait pthread_cond_signal pthread_cond_broadcast pthread_barrier_t sem_t pthread_mutex_trylock")
+
+abbrev pub is_word : List ℕ → Bool
+is_word [] = false
+is_word (b ∷ bytes) = is_letter b && list_all is_word_byte bytes
+
+-- a word that is not reserved
+unfoldable pub is_name : List ℕ → Bool
+is_name text = is_word text && not (list_any (bytes_eq text) reserved)
+
+-- the number that digits stand for
+abbrev pub value_of : List ℕ → ℕ
+value_of digits = fold (λ value digit. 10 * value + (digit - 48)) 0 digits
+
+-- Digits without a needless zero, for a number below 2^127.
+unfoldable pub is_number : List ℕ → Bool
+is_number [] = false
+is_number (b ∷ []) = is_digit b
+is_number (b ∷ c ∷ bytes) =
+    is_digit b && not (b == 48) && list_all is_digit (c ∷ bytes) && nat_lt (value_of (b ∷ c ∷ bytes)) (2 ^ 127)

@@ -1,0 +1,5 @@
+//! What the program does, over stores and sinks: reads words and a text, and writes the answer.
+#![tactic(auto)]
+
+mod token;
+mod tree;
