@@ -1,6 +1,8 @@
 -- What a contract sees of the trees that the code holds.
 use Rattle.std.specs.Prelude.{ℕ, List, [], ◌∷◌, map, option_map}
+use Rattle.threader_cli.specs.Graph as graph
 use Rattle.threader_cli.specs.Token as specs
+use Rattle.threader_cli.specs.declared.graph.Edge.{Edge}
 use Rattle.threader_cli.specs.Tree as tree
 use Rattle.threader_cli.specs.declared.token.Token.{Token}
 use Rattle.threader_cli.specs.declared.tree.Statement.{Statement, Block', Empty, Assign, AssertFalse, If', IfElse', While', Row_of-Statement, end_of-Statement, more_of-Statement}
@@ -51,3 +53,6 @@ token_of t = record { from = t.from; text = t.text.now }
 -- the texts of tokens
 abbrev pub texts : List Token → List (List ℕ)
 texts tokens = map (λ t. t.text.now) tokens
+
+abbrev pub edge_of : Edge → graph.Edge
+edge_of e = record { from = e.from; to = e.to }
