@@ -1,5 +1,5 @@
 -- Numbers: which of them fit, and the one text of each.
-use Rattle.std.specs.Prelude.{ℕ, zero, suc, ◌^◌, ◌<◌, ℤ, pos, negsuc, List, Bool, nat_lt}
+use Rattle.std.specs.Prelude.{ℕ, suc, ◌^◌, ◌<◌, ℤ, pos, negsuc, List, Bool, nat_lt}
 use Rattle.std.specs.Fmt.{signed_decimal}
 
 -- The absolute value is at most 2^127 - 1. An `i128` also holds -2^127, which does not fit.

@@ -5,9 +5,11 @@
 mod limits;
 mod names;
 mod outside;
+mod reading;
 mod stops;
 
 pub use limits::Limits;
 pub use names::{EdgeNo, Epoch, Fact, FactId, Home, HomeNo, Instance, Loc, RuleName, ThreadNo};
 pub use outside::{Failed, Gate, Sink, Store};
+pub use reading::{read_all, write_all};
 pub use stops::{LineStop, ReadStop, Refusal, Stop};
