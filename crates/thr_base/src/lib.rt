@@ -3,6 +3,7 @@
 #![tactic(auto)]
 
 mod failing_calls;
+mod file_store;
 mod honest_store;
 mod limits;
 mod mem_files;
@@ -11,6 +12,7 @@ mod mem_store;
 mod names;
 mod number;
 mod open_gate;
+mod out_sink;
 mod outside;
 mod reading;
 mod room;
@@ -18,6 +20,7 @@ mod room_sink;
 mod stops;
 mod zero_sink;
 
+pub use file_store::FileStore;
 pub use honest_store::HonestStore;
 pub use limits::Limits;
 pub use mem_sink::MemSink;
@@ -25,6 +28,7 @@ pub use mem_store::MemStore;
 pub use names::{EdgeNo, Epoch, Fact, FactId, Home, HomeNo, Instance, Loc, RuleName, ThreadNo};
 pub use number::{number_text_is_decimal, parse_number, push_number};
 pub use open_gate::OpenGate;
+pub use out_sink::OutSink;
 pub use outside::{Failed, Gate, Sink, Store};
 pub use reading::{read_all, write_all};
 pub use room_sink::RoomSink;
