@@ -63,6 +63,7 @@ FillsFront (Left bytes) buffer n filled rest =
 pub record Reads (old : StoreMeaning) (buffer : List ℕ) (n : ℕ) (filled : List ℕ) (new : StoreMeaning) : Type 0 where
   pub front : FillsFront old.file buffer n filled new.file
   pub counted : new.taken ≡ min (old.taken + n) count_end
+  pub grew : old.taken ≤ new.taken
   pub kept : old.faults ≤ new.faults
   pub same : new ≡ record old { file = new.file; taken = new.taken; faults = new.faults }
 
