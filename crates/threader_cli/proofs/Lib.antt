@@ -1,3 +1,4 @@
 pub mod GraphLemmas
 pub mod SeenLemmas
 pub mod TokenLemmas
+pub mod WordLemmas

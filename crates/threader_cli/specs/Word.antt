@@ -1,6 +1,7 @@
 -- Which tokens are names and numbers.
-use Rattle.std.specs.Prelude.{ℕ, ◌+◌, ◌-◌, ◌*◌, ◌^◌, Bool, true, false, not, ◌&&◌, ◌||◌, List, [], ◌∷◌, ◌++◌, codes, fold, nat_lt, ◌==◌, bytes_eq, if◌then◌else◌}
+use Rattle.std.specs.Prelude.{ℕ, ◌+◌, ◌-◌, ◌*◌, ◌^◌, Bool, true, false, not, ◌&&◌, ◌||◌, List, [], ◌∷◌, ◌++◌, map, fold, nat_lt, ◌==◌, bytes_eq, if◌then◌else◌}
 use Rattle.std.specs.List.{list_any, list_all}
+use Rattle.threader_cli.specs.declared.word.TheConstants.{RESERVED}
 use Rattle.threader_cli.specs.Token.{is_letter, is_digit, is_word_byte}
 
 abbrev pub onto_first : ℕ → List (List ℕ) → List (List ℕ)
@@ -12,14 +13,9 @@ abbrev pub pieces : List ℕ → List (List ℕ)
 pieces [] = [] ∷ []
 pieces (b ∷ bytes) = if b == 32 then [] ∷ pieces bytes else onto_first b (pieces bytes)
 
--- the words that are no names: those of the profile, and those of C that it refuses
+-- the words that are no names
 unfoldable pub reserved : List (List ℕ)
-reserved =
-    pieces (codes "__VERIFIER_nondet_int __VERIFIER_assume __VERIFIER_atomic_begin __VERIFIER_atomic_end assert reach_error abort")
-    ++ pieces (codes "pthread_create pthread_join pthread_exit pthread_mutex_init pthread_mutex_destroy pthread_mutex_lock pthread_mutex_unlock")
-    ++ pieces (codes "static volatile extern int long void main if else while for break return pthread_mutex_t pthread_t NULL PTHREAD_MUTEX_INITIALIZER")
-    ++ pieces (codes "struct union enum typedef unsigned signed char short float double _Bool bool switch case default goto do continue sizeof register auto inline")
-    ++ pieces (codes "_Atomic pthread_cond_t pthread_cond_wait pthread_cond_signal pthread_cond_broadcast pthread_barrier_t sem_t pthread_mutex_trylock")
+reserved = map (λ word. word.now) RESERVED
 
 abbrev pub is_word : List ℕ → Bool
 is_word [] = false

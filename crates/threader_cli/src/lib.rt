@@ -4,3 +4,4 @@
 mod graph;
 mod token;
 mod tree;
+mod word;

@@ -42,19 +42,19 @@ fn is_blank(byte: u8) -> bool
     byte == b' ' || byte == b'\n'
 }
 
-fn is_letter(byte: u8) -> bool
+pub fn is_letter(byte: u8) -> bool
     ensures { result ≡ specs.is_letter byte }
 {
     byte.is_ascii_alphabetic() || byte == b'_'
 }
 
-fn is_digit(byte: u8) -> bool
+pub fn is_digit(byte: u8) -> bool
     ensures { result ≡ specs.is_digit byte }
 {
     byte.is_ascii_digit()
 }
 
-fn is_word_byte(byte: u8) -> bool
+pub fn is_word_byte(byte: u8) -> bool
     ensures { result ≡ specs.is_word_byte byte }
 {
     is_letter(byte) || is_digit(byte)
