@@ -4,7 +4,7 @@ use Rattle.std.specs.List.{list_any, list_all, IsDistinct}
 use Rattle.threader_cli.specs.Graph.{actions_each, graph_of, ThreadGraph}
 use Rattle.threader_cli.specs.Spelling.{spell_program}
 use Rattle.threader_cli.specs.Token.{Token, tokens_of}
-use Rattle.threader_cli.specs.Tree.{Statement, Block, Empty, Assign, AssertFalse, If, IfElse, While, Statements, End, Then, Global, Function, Creation, Program}
+use Rattle.threader_cli.specs.Tree.{Statement, Block, Empty, Assign, AssertFalse, If, IfElse, While, Statements, End, Then, Function, Creation, Program}
 use Rattle.threader_cli.specs.Word.{is_name, is_number}
 
 -- The statement ends with an `if` without `else`, to which an `else` that follows would belong.
@@ -35,7 +35,7 @@ is_proper_start (Some digits) = is_number digits
 
 abbrev pub is_proper_program : Program → Bool
 is_proper_program p =
-    list_all (λ g. is_name g.name && is_proper_start g.start) p.globals
+    list_all (λ v. is_name v.name && is_proper_start v.start) p.variables
     && list_all (λ f. is_name f.name && is_name f.parameter && are_proper f.body) p.functions
     && list_all is_name p.handles
     && list_all (λ c. is_name c.handle && is_name c.function) p.creations
@@ -70,16 +70,16 @@ abbrev mutual
   all_assign_among names End = true
   all_assign_among names (Then s rest) = assigns_among names s && all_assign_among names rest
 
-abbrev pub variables : Program → List (List ℕ)
-variables p = map (λ g. g.name) p.globals
+abbrev pub variable_names : Program → List (List ℕ)
+variable_names p = map (λ v. v.name) p.variables
 
-abbrev pub functions : Program → List (List ℕ)
-functions p = map (λ f. f.name) p.functions
+abbrev pub function_names : Program → List (List ℕ)
+function_names p = map (λ f. f.name) p.functions
 
 -- A creation's first name is a handle's, and its second a function's that no handle hides.
 abbrev pub is_declared : Program → Creation → Bool
 is_declared p c =
-    list_any (bytes_eq c.handle) p.handles && list_any (bytes_eq c.function) (functions p)
+    list_any (bytes_eq c.handle) p.handles && list_any (bytes_eq c.function) (function_names p)
     && not (list_any (bytes_eq c.function) p.handles)
 
 -- The bytes are a text of the narrow language, and this is its tree.
@@ -89,10 +89,10 @@ pub record IsAccepted (bytes : List ℕ) (p : Program) : Type 0 where
   -- No statement is at a level above 64.
   pub shallow : IsTrue (list_all (λ f. nat_le (deepest f.body) 64) p.functions)
   -- Each name that is used is declared, with the kind of its use.
-  pub variables_declared : IsTrue (list_all (λ f. all_assign_among (variables p) f.body) p.functions)
+  pub variables_declared : IsTrue (list_all (λ f. all_assign_among (variable_names p) f.body) p.functions)
   pub creations_declared : IsTrue (list_all (is_declared p) p.creations)
   -- No name is declared twice in one scope.
-  pub distinct : IsDistinct bytes_eq (variables p ++ functions p)
+  pub distinct : IsDistinct bytes_eq (variable_names p ++ function_names p)
   pub distinct_handles : IsDistinct bytes_eq p.handles
   -- There is no third creation.
   pub few_creations : length p.creations ≤ 2

@@ -3,6 +3,7 @@ pub mod Answer
 pub mod Graph
 pub mod Least
 pub mod Reading
+pub mod Refusals
 pub mod Seen
 pub mod Spelling
 pub mod Table

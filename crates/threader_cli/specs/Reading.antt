@@ -1,7 +1,7 @@
 -- How tokens are read, from the front: each reading gives what it read and the tokens behind it, or nothing.
 use Rattle.std.specs.Prelude.{ℕ, zero, suc, Bool, true, false, not, ◌&&◌, List, [], ◌∷◌, length, drop, codes, Option, Some, None, option_map, option_and_then, bytes_eq, if◌then◌else◌}
 use Rattle.threader_cli.specs.Spelling.{choice}
-use Rattle.threader_cli.specs.Tree.{Statement, Block, Empty, Assign, AssertFalse, If, IfElse, While, Statements, End, Then, Global, Function, Creation, Program}
+use Rattle.threader_cli.specs.Tree.{Statement, Block, Empty, Assign, AssertFalse, If, IfElse, While, Statements, End, Then, Variable, Function, Creation, Program}
 use Rattle.threader_cli.specs.Word.{pieces, is_name, is_number}
 
 abbrev pub Tokens : Type 0
@@ -29,10 +29,14 @@ after (x ∷ xs) (t ∷ ts) = if bytes_eq t x then after xs ts else None
 abbrev pub in_front : {A : Type 0} → A → Option (List A × Tokens) → Option (List A × Tokens)
 in_front x read = option_map (λ found. (x ∷ found.0, found.1)) read
 
--- As many as there are while a test passes. The number bounds them; the count of the tokens is always enough.
+-- as many as there are while a test passes, at most n of them
 unfoldable pub many : {A : Type 0} → (Tokens → Bool) → Reading A → ℕ → Reading (List A)
-many test read zero ts = Some ([], ts)
+many test read zero ts = None
 many test read (suc n) ts = if test ts then (read ts >>= λ found. in_front found.0 (many test read n found.1)) else Some ([], ts)
+
+-- As many as there are while a test passes: there are no more than tokens.
+abbrev pub each : {A : Type 0} → (Tokens → Bool) → Reading A → Reading (List A)
+each test read ts = many test read (suc (length ts)) ts
 
 abbrev pub name_at : Reading (List ℕ)
 name_at [] = None
@@ -62,7 +66,7 @@ assignment_at ts = do
 -- the statements up to the brace that closes them, and what follows it
 unfoldable pub body_at : Reading Statement → Reading Statements
 body_at statement ts = do
-  body ← many (λ rest. not (begins (codes "}") rest)) statement (length ts) ts
+  body ← each (λ rest. not (begins (codes "}") rest)) statement ts
   rest ← after (pieces (codes "}")) body.1
   Some (listed body.0, rest)
 
@@ -97,8 +101,8 @@ level_limit = 64
 abbrev pub start_at : Reading (Option (List ℕ))
 start_at ts = if begins (codes "=") ts then option_map (λ digits. (Some digits.0, digits.1)) (number_at (drop 1 ts)) else Some (None, ts)
 
-unfoldable pub global_at : Reading Global
-global_at ts = do
+unfoldable pub variable_at : Reading Variable
+variable_at ts = do
   named ← after (pieces (codes "int")) ts
   name ← name_at named
   start ← start_at name.1
@@ -131,9 +135,9 @@ creation_at ts = do
   rest ← after (pieces (codes ", 0 ) ;")) function.1
   Some (record { handle = handle.0; function = function.0 }, rest)
 
--- A global comes next: `int`, and not `int main`.
-abbrev pub is_global : Tokens → Bool
-is_global ts = begins (codes "int") ts && not (begins (codes "main") (drop 1 ts))
+-- A variable comes next: `int`, and not `int main`.
+abbrev pub is_variable : Tokens → Bool
+is_variable ts = begins (codes "int") ts && not (begins (codes "main") (drop 1 ts))
 
 -- nothing stands behind the program
 abbrev pub if_last : {A : Type 0} → A → Tokens → Option A
@@ -142,10 +146,10 @@ if_last x (t ∷ ts) = None
 
 unfoldable pub program_at : Tokens → Option Program
 program_at ts = do
-  globals ← many is_global global_at (length ts) ts
-  functions ← many (begins (codes "void")) function_at (length globals.1) globals.1
+  variables ← each is_variable variable_at ts
+  functions ← each (begins (codes "void")) function_at variables.1
   main ← after (pieces (codes "int main ( ) {")) functions.1
-  handles ← many (begins (codes "pthread_t")) handle_at (length main) main
-  creations ← many (begins (codes "pthread_create")) creation_at (length handles.1) handles.1
+  handles ← each (begins (codes "pthread_t")) handle_at main
+  creations ← each (begins (codes "pthread_create")) creation_at handles.1
   rest ← after (pieces (codes "return 0 ; }")) creations.1
-  if_last (record { globals = globals.0; functions = functions.0; handles = handles.0; creations = creations.0 }) rest
+  if_last (record { variables = variables.0; functions = functions.0; handles = handles.0; creations = creations.0 }) rest

@@ -6,7 +6,7 @@ use Rattle.threader_cli.specs.declared.graph.Edge.{Edge}
 use Rattle.threader_cli.specs.Tree as tree
 use Rattle.threader_cli.specs.declared.token.Token.{Token}
 use Rattle.threader_cli.specs.declared.tree.Statement.{Statement, Block', Empty, Assign, AssertFalse, If', IfElse', While', Row_of-Statement, end_of-Statement, more_of-Statement}
-use Rattle.threader_cli.specs.declared.tree.Global.{Global}
+use Rattle.threader_cli.specs.declared.tree.Variable.{Variable}
 use Rattle.threader_cli.specs.declared.tree.Function.{Function}
 use Rattle.threader_cli.specs.declared.tree.Creation.{Creation}
 use Rattle.threader_cli.specs.declared.tree.Program.{Program}
@@ -30,8 +30,8 @@ abbrev pub statements_of : List Statement → tree.Statements
 statements_of [] = tree.End
 statements_of (s ∷ rest) = tree.Then (statement_of s) (statements_of rest)
 
-abbrev pub global_of : Global → tree.Global
-global_of g = record { name = g.name.items; start = option_map (λ digits. digits.items) g.start }
+abbrev pub variable_of : Variable → tree.Variable
+variable_of v = record { name = v.name.items; start = option_map (λ digits. digits.items) v.start }
 
 abbrev pub function_of : Function → tree.Function
 function_of f = record { name = f.name.items; parameter = f.parameter.items; body = statements_of f.body.items }
@@ -41,7 +41,7 @@ creation_of c = record { handle = c.handle.items; function = c.function.items }
 
 abbrev pub program_of : Program → tree.Program
 program_of p = record {
-    globals = map global_of p.globals.items;
+    variables = map variable_of p.variables.items;
     functions = map function_of p.functions.items;
     handles = map (λ name. name.items) p.handles.items;
     creations = map creation_of p.creations.items;

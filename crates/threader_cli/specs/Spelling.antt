@@ -1,6 +1,6 @@
 -- The grammar of the narrow language: the tokens that a program is spelled with.
 use Rattle.std.specs.Prelude.{ℕ, Bool, true, false, List, [], ◌∷◌, ◌++◌, codes, flat_map, Option, Some, None}
-use Rattle.threader_cli.specs.Tree.{Statement, Block, Empty, Assign, AssertFalse, If, IfElse, While, Statements, End, Then, Global, Function, Creation, Program}
+use Rattle.threader_cli.specs.Tree.{Statement, Block, Empty, Assign, AssertFalse, If, IfElse, While, Statements, End, Then, Variable, Function, Creation, Program}
 use Rattle.threader_cli.specs.Word.{pieces}
 
 -- a condition, which a run may choose either way
@@ -29,8 +29,8 @@ abbrev pub spell_start : Option (List ℕ) → List (List ℕ)
 spell_start None = []
 spell_start (Some digits) = pieces (codes "=") ++ digits ∷ []
 
-abbrev pub spell_global : Global → List (List ℕ)
-spell_global g = pieces (codes "int") ++ g.name ∷ spell_start g.start ++ pieces (codes ";")
+abbrev pub spell_variable : Variable → List (List ℕ)
+spell_variable v = pieces (codes "int") ++ v.name ∷ spell_start v.start ++ pieces (codes ";")
 
 abbrev pub spell_function : Function → List (List ℕ)
 spell_function f =
@@ -45,5 +45,5 @@ spell_creation c = pieces (codes "pthread_create ( &") ++ c.handle ∷ pieces (c
 
 unfoldable pub spell_program : Program → List (List ℕ)
 spell_program p =
-    flat_map spell_global p.globals ++ flat_map spell_function p.functions ++ pieces (codes "int main ( ) {")
+    flat_map spell_variable p.variables ++ flat_map spell_function p.functions ++ pieces (codes "int main ( ) {")
     ++ flat_map spell_handle p.handles ++ flat_map spell_creation p.creations ++ pieces (codes "return 0 ; }")

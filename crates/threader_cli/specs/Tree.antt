@@ -1,4 +1,4 @@
--- Programs of the narrow language as trees: global integers, functions that threads run, and a `main` that creates threads.
+-- Programs of the narrow language as trees: integers that all threads share, functions that threads run, and a `main` that creates threads.
 use Rattle.std.specs.Prelude.{ℕ, Bool, List, Option}
 
 mutual
@@ -17,7 +17,7 @@ mutual
     End : Statements
     Then : Statement → Statements → Statements
 
-pub record Global : Type 0 where
+pub record Variable : Type 0 where
   pub name : List ℕ
   -- the digits of its first value, where one is written
   pub start : Option (List ℕ)
@@ -32,7 +32,7 @@ pub record Creation : Type 0 where
   pub function : List ℕ
 
 pub record Program : Type 0 where
-  pub globals : List Global
+  pub variables : List Variable
   pub functions : List Function
   pub handles : List (List ℕ)
   pub creations : List Creation

@@ -1,7 +1,9 @@
 //! What the program does, over stores and sinks: reads words and a text, and writes the answer.
 #![tactic(auto)]
 
+mod cursor;
 mod graph;
+mod reader;
 mod token;
 mod tree;
 mod word;

@@ -20,7 +20,7 @@ pub struct Assignment {
 
 /// A variable that all threads share.
 #[derive(Drop)]
-pub struct Global {
+pub struct Variable {
     pub name: Vec<u8>,
     pub start: Option<Vec<u8>>,
 }
@@ -43,7 +43,7 @@ pub struct Creation {
 /// A program of the narrow language.
 #[derive(Drop)]
 pub struct Program {
-    pub globals: Vec<Global>,
+    pub variables: Vec<Variable>,
     pub functions: Vec<Function>,
     pub handles: Vec<Vec<u8>>,
     pub creations: Vec<Creation>,
