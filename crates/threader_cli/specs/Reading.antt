@@ -1,7 +1,7 @@
 -- How tokens are read, from the front: each reading gives what it read and the tokens behind it, or nothing.
 use Rattle.std.specs.Prelude.{ℕ, zero, suc, Bool, true, false, not, ◌&&◌, List, [], ◌∷◌, length, drop, codes, Option, Some, None, option_map, option_and_then, bytes_eq, if◌then◌else◌}
 use Rattle.threader_cli.specs.Spelling.{choice}
-use Rattle.threader_cli.specs.Tree.{Statement, Block, Empty, Assign, AssertFalse, If, IfElse, While, Statements, End, Then, Variable, Function, Creation, Program}
+use Rattle.threader_cli.specs.Tree.{Statement, Block, Empty, Assign, AssertFalse, If, IfElse, While, Statements, listed, Variable, Function, Creation, Program}
 use Rattle.threader_cli.specs.Word.{pieces, is_name, is_number}
 
 abbrev pub Tokens : Type 0
@@ -45,11 +45,6 @@ name_at (t ∷ ts) = if is_name t then Some (t, ts) else None
 abbrev pub number_at : Reading (List ℕ)
 number_at [] = None
 number_at (t ∷ ts) = if is_number t then Some (t, ts) else None
-
--- statements in order
-abbrev pub listed : List Statement → Statements
-listed [] = End
-listed (s ∷ rest) = Then s (listed rest)
 
 -- a sign, if there is one
 abbrev pub sign_at : Tokens → Bool × Tokens
