@@ -10,7 +10,7 @@ use Rattle.threader_cli.specs.Reading as specs
 use Rattle.threader_cli.specs.Refusals.{Gives, Fails}
 use Rattle.threader_cli.specs.Seen.{statement_of, statements_of}
 use Rattle.threader_cli.specs.Tree as tree
-use Rattle.threader_cli.proofs.reader.+statement.Goals as goal
+use Rattle.threader_cli.proofs.statement.+statement.Goals as goal
 
 pub body-returns-in_err-statement : goal.body-returns-in_err-statement
 body-returns-in_err-statement t c =

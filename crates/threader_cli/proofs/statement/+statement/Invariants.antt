@@ -2,7 +2,7 @@ use Rattle.std.proofs.Common.{◌≡◌, ◌+◌, ◌*◌, map, length, codes, n
 use Rattle.threader_cli.proofs.ManyLemmas.{all_in_front}
 use Rattle.threader_cli.specs.Reading.{begins, each, statement_at}
 use Rattle.threader_cli.specs.Seen.{statement_of}
-use Rattle.threader_cli.proofs.reader.+statement.Given as goal
+use Rattle.threader_cli.proofs.statement.+statement.Given as goal
 
 -- a statement stands below the functions that read its parts at the same level
 abbrev pub decreases-body : goal.decreases-body
