@@ -47,7 +47,12 @@ impl<'a> Cursor<'a> {
     pub fn second_is(&self, text: &str) -> bool
         ensures { result ≡ specs.begins text.now (drop 1 self.now) }
     {
-        self.at + 1 < self.tokens.len() && is_text(self.tokens[self.at + 1].text, text)
+        let mut ahead = Cursor {
+            tokens: self.tokens,
+            at: self.at,
+        };
+        let _first = ahead.next();
+        ahead.begins(text)
     }
 
     pub fn next(&mut self) -> Option<&'a [u8]>
