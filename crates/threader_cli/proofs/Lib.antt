@@ -1,4 +1,6 @@
 pub mod GraphLemmas
+pub mod ReadingShrinks
+pub mod ReadingSteps
 pub mod SeenLemmas
 pub mod TokenLemmas
 pub mod WordLemmas
