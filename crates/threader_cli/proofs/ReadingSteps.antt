@@ -2,7 +2,7 @@
 use Rattle.std.proofs.Common.{◌≡◌, Bool, true, false, cond, Option, Some, None, option_map, ◌⊎◌, inl, inr, refl, arith}
 use Rattle.threader_cli.specs.Reading.{◌>>=◌}
 
-none_given : {A : Type 0} {P : Type 0} (x : A) → None ≡ Some x → P
+pub none_given : {A : Type 0} {P : Type 0} (x : A) → None ≡ Some x → P
 none_given x e = absurd (grind arith)
 
 pub bind_ok : {A B : Type 0} (o : Option A) (f : A → Option B) (y : B) → (o >>= f) ≡ Some y → (x : A) × (o ≡ Some x) × (f x ≡ Some y)
