@@ -1,5 +1,6 @@
 pub mod GraphLemmas
 pub mod ReadingShrinks
+pub mod ReadingSound
 pub mod ReadingSteps
 pub mod SeenLemmas
 pub mod TokenLemmas
