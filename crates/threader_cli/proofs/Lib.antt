@@ -1,7 +1,9 @@
 pub mod BodyLemmas
 pub mod GraphLemmas
 pub mod ManyLemmas
+pub mod ReadingShrinks
 pub mod ReadingSound
+pub mod ReadingSteps
 pub mod SeenLemmas
 pub mod TokenLemmas
 pub mod WordLemmas

@@ -4,7 +4,7 @@ use Rattle.std.proofs.lemmas.List.{map_push}
 use Rattle.std.proofs.lemmas.Result.{err_from_is_err_and}
 use Rattle.threader_cli.proofs.BodyLemmas.{goes_on, body_at-read, body_at-unclosed, body_at-none, Fails-through, statement_at-assignment}
 use Rattle.threader_cli.proofs.ManyLemmas.{all_in_front, each-step, each-stop, each-none}
-use Rattle.threader_cli.proofs.ReadingSound.{statement_shrinks}
+use Rattle.threader_cli.proofs.ReadingShrinks.{statement_shrinks}
 use Rattle.threader_cli.proofs.SeenLemmas.{statement_of-Block}
 use Rattle.threader_cli.specs.Reading as specs
 use Rattle.threader_cli.specs.Refusals.{Gives, Fails}
