@@ -3,6 +3,7 @@ pub mod BodyLemmas
 pub mod GraphLemmas
 pub mod ManyLemmas
 pub mod NameLemmas
+pub mod ReachLemmas
 pub mod ReadingShrinks
 pub mod ReadingSound
 pub mod ReadingSteps

@@ -3,6 +3,7 @@ use Rattle.std.specs.Prelude.{ℕ, List, map, option_map}
 use Rattle.threader_cli.specs.Graph as graph
 use Rattle.threader_cli.specs.Token as specs
 use Rattle.threader_cli.specs.declared.graph.Edge.{Edge}
+use Rattle.threader_cli.specs.declared.graph.Graph.{Graph}
 use Rattle.threader_cli.specs.Tree as tree
 use Rattle.threader_cli.specs.declared.token.Token.{Token}
 use Rattle.threader_cli.specs.declared.tree.Statement.{Statement, Block', Empty, Assign, AssertFalse, If', IfElse', While', Row_of-Statement, end_of-Statement, more_of-Statement}
@@ -55,3 +56,6 @@ texts tokens = map (λ t. t.text.now) tokens
 
 abbrev pub edge_of : Edge → graph.Edge
 edge_of e = record { from = e.from; to = e.to }
+
+abbrev pub graph_of : Graph → graph.ThreadGraph
+graph_of g = record { locations = g.locations; edges = map edge_of g.edges.items }

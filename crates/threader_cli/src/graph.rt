@@ -1,9 +1,9 @@
-ghost use Rattle.std.specs.Prelude.{◌≡◌, ℕ, ◌+◌, ◌-◌, ◌^◌, ◌<◌, [], ◌∷◌, ◌++◌, map, min, OnOk};
+ghost use Rattle.std.specs.Prelude.{◌≡◌, ℕ, ◌+◌, ◌-◌, ◌^◌, ◌<◌, [], ◌∷◌, ◌++◌, map, min, IfOk, OnOk};
 ghost use Rattle.threader_cli.specs.Graph as specs;
-ghost use Rattle.threader_cli.specs.Seen.{statement_of, statements_of, edge_of};
+ghost use Rattle.threader_cli.specs.Seen.{statement_of, statements_of, edge_of, graph_of};
 
 use crate::tree::Statement;
-use std::alloc::AllocError;
+use std::alloc::{AllocError, Global};
 
 /// A step of a thread from one location to another.
 #[derive(Clone, Copy)]
@@ -101,4 +101,27 @@ fn add_edge(edges: &mut Vec<Edge>, from: u32, to: u32) -> Result<(), AllocError>
 {
     edges.push(Edge { from, to })?;
     Ok(())
+}
+
+/// The graph of a thread.
+#[derive(Drop)]
+pub struct Graph {
+    /// How many locations there are, 0 and the exit included.
+    pub locations: u32,
+    /// In the order of their numbers, which count from 1.
+    pub edges: Vec<Edge>,
+}
+
+/// The graph of a thread with this body.
+pub fn thread_graph(alloc: Global, body: &[Statement]) -> Result<Graph, AllocError>
+    requires { specs.actions_each (statements_of body.now) < 2 ^ 31 }
+    ensures { IfOk result (λ graph. graph_of graph ≡ specs.graph_of (statements_of body.now)) }
+{
+    let count = actions_each(body);
+    let mut edges = Vec::new(alloc);
+    add_edges_each(&mut edges, body, 1, count + 1)?;
+    Ok(Graph {
+        locations: count + 2,
+        edges,
+    })
 }

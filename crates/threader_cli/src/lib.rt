@@ -6,6 +6,7 @@ mod cursor;
 mod graph;
 mod names;
 mod program;
+mod reach;
 mod statement;
 mod token;
 mod tree;

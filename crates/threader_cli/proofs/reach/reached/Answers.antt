@@ -1,0 +1,29 @@
+use Rattle.std.proofs.Common.{◌≡◌, ◌<◌, ◌≤◌, ◌+◌, ℕ, Bool, true, false, List, [], ◌∷◌, ◌++◌, length, map, set, get_or, Some, slice_get, refl, sym, ap, ◌∙◌, subst, inl, arith}
+use Rattle.threader_cli.proofs.ReachLemmas.{Explored, Explores, explored-first, explores-first, explores-skip, explores-marks, explores-done, explored-all, edge_at, unreached}
+use Rattle.threader_cli.specs.Seen.{edge_of}
+use Rattle.threader_cli.specs.declared.graph.Edge.{Edge}
+use Rattle.threader_cli.proofs.reach.reached.Goals as goal
+
+pub explore-init : goal.explore-init
+explore-init c =
+    let es = map edge_of c.args.graph.now.edges.items in
+    let queue = c.in_ok-push.ensures.items ∙ ap (λ xs. xs ++ 1 ∷ []) c.new-new.ensures.items in
+    let first = explored-first es c.args.graph.now.locations c.requires.first in
+    record {
+      whole = ?;
+      explored = subst (λ (new : List ℕ). Explored es (set c.in_ok-reached.reached.items 1 true) new) (sym queue)
+          (subst (λ (rs : List Bool). Explored es (set rs 1 true) (1 ∷ [])) (sym c.in_ok-reached.ensures.items) first);
+    }
+
+pub leave-init : goal.leave-init
+leave-init c = record {
+    whole = c.explore.invariant.whole;
+    explores = explores-first _ _ _ _ (subst (Explored (map edge_of c.args.graph.now.edges.items) c.explore.reached.items) c.in-Some.ensures.items c.explore.invariant.explored);
+    counted = refl;
+  }
+
+pub explore-preserved : goal.explore-preserved
+explore-preserved c = record {
+    whole = c.leave.invariant.whole;
+    explored = explores-done _ _ _ _ c.leave.edge-index ? c.leave.invariant.explores;
+  }
