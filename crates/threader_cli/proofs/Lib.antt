@@ -1,4 +1,5 @@
 pub mod GraphLemmas
+pub mod ReadingComplete
 pub mod ReadingShrinks
 pub mod ReadingSound
 pub mod ReadingSteps

@@ -79,15 +79,15 @@ many_pass test read good sound (suc n) ts xs rest e =
     (λ no. subst (λ y. list_all good y.0 ≡ true) (same_Some _ _ no.1) refl)
     (chosen (test ts) _ _ _ e)
 
-spell-listed : (body : List Statement) → spell_statements (listed body) ≡ flat_map spell_statement body
+pub spell-listed : (body : List Statement) → spell_statements (listed body) ≡ flat_map spell_statement body
 spell-listed [] = refl
 spell-listed (s ∷ body) = ap (λ ts. spell_statement s ++ ts) (spell-listed body)
 
-proper-listed : (body : List Statement) → are_proper (listed body) ≡ list_all is_proper body
+pub proper-listed : (body : List Statement) → are_proper (listed body) ≡ list_all is_proper body
 proper-listed [] = refl
 proper-listed (s ∷ body) = ap (λ b. is_proper s && b) (proper-listed body)
 
-abbrev is_within : ℕ → Statement → Bool
+abbrev pub is_within : ℕ → Statement → Bool
 is_within n s = nat_le (depth s) n
 
 deepest-listed : (n : ℕ) (body : List Statement) → list_all (is_within n) body ≡ true → deepest (listed body) ≤ n
@@ -285,13 +285,13 @@ start_sound ts x rest e =
     P : Option (List ℕ) × Tokens → Type 0
     P y = (ts ≡ spell_start y.0 ++ y.1) × (is_proper_start y.0 ≡ true)
 
-abbrev is_proper_variable : Variable → Bool
+abbrev pub is_proper_variable : Variable → Bool
 is_proper_variable v = is_name v.name && is_proper_start v.start
 
-abbrev is_proper_function : Function → Bool
+abbrev pub is_proper_function : Function → Bool
 is_proper_function f = is_name f.name && is_name f.parameter && are_proper f.body
 
-abbrev is_proper_creation : Creation → Bool
+abbrev pub is_proper_creation : Creation → Bool
 is_proper_creation c = is_name c.handle && is_name c.function
 
 variable_sound : (ts : Tokens) (v : Variable) (rest : Tokens) → variable_at ts ≡ Some (v, rest)
@@ -375,11 +375,11 @@ last_sound : (p q : Program) (rest : Tokens) → if_last p rest ≡ Some q → (
 last_sound p q [] e = (refl, same_Some p q e)
 last_sound p q (t ∷ ts) e = none_given q e
 
-abbrev is_shallow_function : Function → Bool
+abbrev pub is_shallow_function : Function → Bool
 is_shallow_function f = nat_le (deepest f.body) 64
 
 -- the parts of a program's spelling, from the front
-regrouped : (vs : List Variable) (fs : List Function) (hs : List (List ℕ)) (cs : List Creation)
+pub regrouped : (vs : List Variable) (fs : List Function) (hs : List (List ℕ)) (cs : List Creation)
     → spell_program (record { variables = vs; functions = fs; handles = hs; creations = cs })
     ≡ flat_map spell_variable vs ++ (flat_map spell_function fs ++ (pieces (codes "int main ( ) {") ++ (flat_map spell_handle hs ++ (flat_map spell_creation cs ++ pieces (codes "return 0 ; }")))))
 unfolding spell_program
