@@ -224,3 +224,118 @@ statement_complete (suc n) (IfElse s t) rest proper shallow free =
       statement_complete n t rest proper_t (omega (arith, shallow)) free) refl
 statement_complete (suc n) (While s) rest proper shallow free =
     ap (option_map {U = Statement × Tokens} (λ part. (While part.0, part.1))) (statement_complete n s rest proper (omega (arith, shallow)) free)
+
+-- ---- declarations
+
+abbrev always : Tokens → Bool
+always ts = true
+
+variable_with : (name : List ℕ) (start : Option (List ℕ)) (rest : Tokens) → is_name name ≡ true → is_proper_start start ≡ true
+    → let v : Variable = record { name = name; start = start } in variable_at (spell_variable v ++ rest) ≡ Some (v, rest)
+unfolding variable_at
+variable_with name None rest named number = rw named refl
+variable_with name (Some digits) rest named number = rw (named, number) refl
+
+variable_complete : (v : Variable) (rest : Tokens) → is_proper_variable v ≡ true → variable_at (spell_variable v ++ rest) ≡ Some (v, rest)
+variable_complete v rest h =
+    variable_with v.name v.start rest (left_true (is_name v.name) (is_proper_start v.start) h) (right_true (is_name v.name) (is_proper_start v.start) h)
+
+abbrev is_good_function : Function → Bool
+is_good_function f = is_proper_function f && is_shallow_function f
+
+function_complete : (f : Function) (rest : Tokens) → is_good_function f ≡ true → function_at (spell_function f ++ rest) ≡ Some (f, rest)
+unfolding function_at
+function_complete f rest h =
+    let proper = left_true (is_proper_function f) (is_shallow_function f) h in
+    let names = left_true (is_name f.name && is_name f.parameter) (are_proper f.body) proper in
+    let body = body_complete level_limit (statement_at level_limit) (statement_shrinks level_limit) (statement_complete level_limit) f.body rest
+          (right_true (is_name f.name && is_name f.parameter) (are_proper f.body) proper)
+          (leb-true (deepest f.body) 64 (right_true (is_proper_function f) (is_shallow_function f) h)) in
+    rw (left_true (is_name f.name) (is_name f.parameter) names, right_true (is_name f.name) (is_name f.parameter) names, body) refl
+
+handle_complete : (x : List ℕ) (rest : Tokens) → is_name x ≡ true → handle_at (spell_handle x ++ rest) ≡ Some (x, rest)
+unfolding handle_at
+handle_complete x rest h = rw h refl
+
+creation_complete : (c : Creation) (rest : Tokens) → is_proper_creation c ≡ true → creation_at (spell_creation c ++ rest) ≡ Some (c, rest)
+unfolding creation_at
+creation_complete c rest h = rw (left_true (is_name c.handle) (is_name c.function) h, right_true (is_name c.handle) (is_name c.function) h) refl
+
+-- ---- programs
+
+variable_turn : Again is_variable variable_at spell_variable is_proper_variable always
+variable_turn = record {
+    shrinks = variable_shrinks;
+    reads = λ v rest good _. variable_complete v rest good;
+    passes = λ v rest good. ap not (no_main v.name (left_true (is_name v.name) (is_proper_start v.start) good));
+    stops_before = λ v rest good. refl }
+
+function_turn : Again (begins (codes "void")) function_at spell_function is_good_function always
+function_turn = record {
+    shrinks = function_shrinks;
+    reads = λ f rest good _. function_complete f rest good;
+    passes = λ f rest good. refl;
+    stops_before = λ f rest good. refl }
+
+handle_turn : Again (begins (codes "pthread_t")) handle_at spell_handle is_name always
+handle_turn = record {
+    shrinks = handle_shrinks;
+    reads = λ x rest good _. handle_complete x rest good;
+    passes = λ x rest good. refl;
+    stops_before = λ x rest good. refl }
+
+creation_turn : Again (begins (codes "pthread_create")) creation_at spell_creation is_proper_creation always
+creation_turn = record {
+    shrinks = creation_shrinks;
+    reads = λ c rest good _. creation_complete c rest good;
+    passes = λ c rest good. refl;
+    stops_before = λ c rest good. refl }
+
+good_functions : (fs : List Function) → list_all is_proper_function fs ≡ true → list_all is_shallow_function fs ≡ true → list_all is_good_function fs ≡ true
+good_functions [] proper shallow = refl
+good_functions (f ∷ fs) proper shallow =
+    ap₂ ◌&&◌ (ap₂ ◌&&◌ (left_true (is_proper_function f) (list_all is_proper_function fs) proper) (left_true (is_shallow_function f) (list_all is_shallow_function fs) shallow))
+      (good_functions fs (right_true (is_proper_function f) (list_all is_proper_function fs) proper) (right_true (is_shallow_function f) (list_all is_shallow_function fs) shallow))
+
+no_more_variables : (fs : List Function) (rest : Tokens) → is_variable (flat_map spell_function fs ++ (pieces (codes "int main ( ) {") ++ rest)) ≡ false
+no_more_variables [] rest = refl
+no_more_variables (f ∷ fs) rest = refl
+
+no_more_handles : (cs : List Creation) → begins (codes "pthread_t") (flat_map spell_creation cs ++ pieces (codes "return 0 ; }")) ≡ false
+no_more_handles [] = refl
+no_more_handles (c ∷ cs) = refl
+
+pub program_complete : (p : Program) → IsTrue (is_proper_program p) → IsTrue (list_all (λ f. nat_le (deepest f.body) 64) p.functions)
+    → program_at (spell_program p) ≡ Some p
+unfolding program_at
+program_complete p proper shallow =
+    let vs = p.variables in
+    let fs = p.functions in
+    let hs = p.handles in
+    let cs = p.creations in
+    let a = list_all is_proper_variable vs in
+    let b = list_all is_proper_function fs in
+    let c = list_all is_name hs in
+    let d = list_all is_proper_creation cs in
+    let abc = left_true (a && b && c) d proper in
+    let ab = left_true (a && b) c abc in
+
+    let in_end : Tokens = pieces (codes "return 0 ; }") in
+    let in_creations : Tokens = flat_map spell_creation cs ++ in_end in
+    let in_handles : Tokens = flat_map spell_handle hs ++ in_creations in
+    let in_functions : Tokens = flat_map spell_function fs ++ (pieces (codes "int main ( ) {") ++ in_handles) in
+    let in_variables : Tokens = flat_map spell_variable vs ++ in_functions in
+
+    let variables : each is_variable variable_at in_variables ≡ Some (vs, in_functions) =
+        many_again is_variable variable_at spell_variable is_proper_variable always variable_turn vs in_functions (suc (length in_variables))
+          (left_true a b ab) refl (no_more_variables fs in_handles) (omega arith) in
+    let functions : each (begins (codes "void")) function_at in_functions ≡ Some (fs, pieces (codes "int main ( ) {") ++ in_handles) =
+        many_again (begins (codes "void")) function_at spell_function is_good_function always function_turn fs (pieces (codes "int main ( ) {") ++ in_handles) (suc (length in_functions))
+          (good_functions fs (right_true a b ab) shallow) refl refl (omega arith) in
+    let handles : each (begins (codes "pthread_t")) handle_at in_handles ≡ Some (hs, in_creations) =
+        many_again (begins (codes "pthread_t")) handle_at spell_handle is_name always handle_turn hs in_creations (suc (length in_handles))
+          (right_true (a && b) c abc) refl (no_more_handles cs) (omega arith) in
+    let creations : each (begins (codes "pthread_create")) creation_at in_creations ≡ Some (cs, in_end) =
+        many_again (begins (codes "pthread_create")) creation_at spell_creation is_proper_creation always creation_turn cs in_end (suc (length in_creations))
+          (right_true (a && b && c) d proper) refl refl (omega arith) in
+    ap program_at (regrouped vs fs hs cs) ∙ rw (variables, functions, handles, creations) refl
