@@ -1,4 +1,6 @@
+pub mod BodyLemmas
 pub mod GraphLemmas
+pub mod ManyLemmas
 pub mod ReadingComplete
 pub mod ReadingShrinks
 pub mod ReadingSound

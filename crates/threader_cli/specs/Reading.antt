@@ -1,7 +1,7 @@
 -- How tokens are read, from the front: each reading gives what it read and the tokens behind it, or nothing.
 use Rattle.std.specs.Prelude.{ℕ, zero, suc, Bool, true, false, not, ◌&&◌, List, [], ◌∷◌, length, drop, codes, Option, Some, None, option_map, option_and_then, bytes_eq, if◌then◌else◌}
 use Rattle.threader_cli.specs.Spelling.{choice}
-use Rattle.threader_cli.specs.Tree.{Statement, Block, Empty, Assign, AssertFalse, If, IfElse, While, Statements, End, Then, Variable, Function, Creation, Program}
+use Rattle.threader_cli.specs.Tree.{Statement, Block, Empty, Assign, AssertFalse, If, IfElse, While, Statements, listed, Variable, Function, Creation, Program}
 use Rattle.threader_cli.specs.Word.{pieces, is_name, is_number}
 
 abbrev pub Tokens : Type 0
@@ -45,11 +45,6 @@ name_at (t ∷ ts) = if is_name t then Some (t, ts) else None
 abbrev pub number_at : Reading (List ℕ)
 number_at [] = None
 number_at (t ∷ ts) = if is_number t then Some (t, ts) else None
-
--- statements in order
-abbrev pub listed : List Statement → Statements
-listed [] = End
-listed (s ∷ rest) = Then s (listed rest)
 
 -- a sign, if there is one
 abbrev pub sign_at : Tokens → Bool × Tokens
@@ -139,6 +134,15 @@ creation_at ts = do
 abbrev pub is_variable : Tokens → Bool
 is_variable ts = begins (codes "int") ts && not (begins (codes "main") (drop 1 ts))
 
+abbrev pub is_function : Tokens → Bool
+is_function ts = begins (codes "void") ts
+
+abbrev pub is_handle : Tokens → Bool
+is_handle ts = begins (codes "pthread_t") ts
+
+abbrev pub is_creation : Tokens → Bool
+is_creation ts = begins (codes "pthread_create") ts
+
 -- nothing stands behind the program
 abbrev pub if_last : {A : Type 0} → A → Tokens → Option A
 if_last x [] = Some x
@@ -147,9 +151,9 @@ if_last x (t ∷ ts) = None
 unfoldable pub program_at : Tokens → Option Program
 program_at ts = do
   variables ← each is_variable variable_at ts
-  functions ← each (begins (codes "void")) function_at variables.1
+  functions ← each is_function function_at variables.1
   main ← after (pieces (codes "int main ( ) {")) functions.1
-  handles ← each (begins (codes "pthread_t")) handle_at main
-  creations ← each (begins (codes "pthread_create")) creation_at handles.1
+  handles ← each is_handle handle_at main
+  creations ← each is_creation creation_at handles.1
   rest ← after (pieces (codes "return 0 ; }")) creations.1
   if_last (record { variables = variables.0; functions = functions.0; handles = handles.0; creations = creations.0 }) rest

@@ -1,5 +1,5 @@
 -- What a contract sees of the trees that the code holds.
-use Rattle.std.specs.Prelude.{ℕ, List, [], ◌∷◌, map, option_map}
+use Rattle.std.specs.Prelude.{ℕ, List, map, option_map}
 use Rattle.threader_cli.specs.Graph as graph
 use Rattle.threader_cli.specs.Token as specs
 use Rattle.threader_cli.specs.declared.graph.Edge.{Edge}
@@ -27,8 +27,7 @@ abbrev mutual
 
 -- the statements of a list
 abbrev pub statements_of : List Statement → tree.Statements
-statements_of [] = tree.End
-statements_of (s ∷ rest) = tree.Then (statement_of s) (statements_of rest)
+statements_of statements = tree.listed (map statement_of statements)
 
 abbrev pub variable_of : Variable → tree.Variable
 variable_of v = record { name = v.name.items; start = option_map (λ digits. digits.items) v.start }

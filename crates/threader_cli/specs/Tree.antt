@@ -1,5 +1,5 @@
 -- Programs of the narrow language as trees: integers that all threads share, functions that threads run, and a `main` that creates threads.
-use Rattle.std.specs.Prelude.{ℕ, Bool, List, Option}
+use Rattle.std.specs.Prelude.{ℕ, Bool, List, [], ◌∷◌, Option}
 
 mutual
   pub data Statement : Type 0 where
@@ -16,6 +16,10 @@ mutual
   pub data Statements : Type 0 where
     End : Statements
     Then : Statement → Statements → Statements
+
+abbrev pub listed : List Statement → Statements
+listed [] = End
+listed (s ∷ rest) = Then s (listed rest)
 
 pub record Variable : Type 0 where
   pub name : List ℕ

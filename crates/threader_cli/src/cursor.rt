@@ -1,4 +1,4 @@
-ghost use Rattle.std.specs.Prelude.{◌≡◌, [], ◌∷◌, map, MatchOption};
+ghost use Rattle.std.specs.Prelude.{◌≡◌, [], ◌∷◌, drop, map, MatchOption};
 ghost use Rattle.threader_cli.specs.Reading as specs;
 ghost use Rattle.threader_cli.specs.Refusals.{not_built, Gives};
 ghost use Rattle.threader_cli.specs.Seen.{texts};
@@ -41,6 +41,18 @@ impl<'a> Cursor<'a> {
         ensures { result ≡ specs.begins text.now self.now }
     {
         self.at < self.tokens.len() && is_text(self.tokens[self.at].text, text)
+    }
+
+    /// Whether the token behind the next one is this one.
+    pub fn second_is(&self, text: &str) -> bool
+        ensures { result ≡ specs.begins text.now (drop 1 self.now) }
+    {
+        let mut ahead = Cursor {
+            tokens: self.tokens,
+            at: self.at,
+        };
+        let _first = ahead.next();
+        ahead.begins(text)
     }
 
     pub fn next(&mut self) -> Option<&'a [u8]>

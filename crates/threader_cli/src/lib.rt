@@ -3,7 +3,8 @@
 
 mod cursor;
 mod graph;
-mod reader;
+mod program;
+mod statement;
 mod token;
 mod tree;
 mod word;

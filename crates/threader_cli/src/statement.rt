@@ -1,10 +1,10 @@
 ghost use Rattle.std.specs.Prelude.{◌≡◌};
 ghost use Rattle.threader_cli.specs.Reading as specs;
 ghost use Rattle.threader_cli.specs.Refusals.{Gives};
-ghost use Rattle.threader_cli.specs.Seen.{statement_of, statements_of, variable_of, function_of, creation_of, program_of};
+ghost use Rattle.threader_cli.specs.Seen.{statement_of, statements_of};
 
 use crate::cursor::{Cursor, NOT_BUILT};
-use crate::tree::{Assignment, Creation, Function, Program, Statement, Variable};
+use crate::tree::{Assignment, Statement};
 use std::alloc::Global;
 use thr_base::Stop;
 
@@ -38,7 +38,7 @@ fn assignment(alloc: Global, cursor: &mut Cursor<'_>) -> Result<Assignment, Stop
 /// The statements up to the brace that closes them, each at most so many levels deep.
 #[cycle(statement)]
 #[tactic(auto, unfolding(crate::specs::Reading::body_at))]
-fn body(alloc: Global, levels: u32, cursor: &mut Cursor<'_>) -> Result<Vec<Statement>, Stop>
+pub fn body(alloc: Global, levels: u32, cursor: &mut Cursor<'_>) -> Result<Vec<Statement>, Stop>
     ensures { Gives (λ found. (statements_of found.items, cursor.new)) result (specs.body_at (specs.statement_at levels) cursor.old) }
 {
     let mut statements = Vec::new(alloc);
