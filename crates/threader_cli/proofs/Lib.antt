@@ -6,5 +6,7 @@ pub mod ReadingShrinks
 pub mod ReadingSound
 pub mod ReadingSteps
 pub mod SeenLemmas
+pub mod StatementComplete
+pub mod StatementSound
 pub mod TokenLemmas
 pub mod WordLemmas
