@@ -1,8 +1,8 @@
 -- What is read is spelled so, and is proper.
-use Rattle.std.proofs.Common.{◌≡◌, ℕ, ◌≤◌, Bool, true, ◌&&◌, List, [], ◌∷◌, ◌++◌, drop, codes, flat_map, Option, Some, nat_le, IsTrue, ⊎_elim, append_assoc, refl, sym, ap, ap₂, ◌∙◌, subst, le-leb}
+use Rattle.std.proofs.Common.{◌≡◌, ℕ, ◌≤◌, Bool, true, ◌&&◌, List, [], ◌∷◌, ◌++◌, drop, codes, flat_map, Option, Some, nat_le, IsTrue, append_assoc, refl, sym, ap, ap₂, ◌∙◌, subst, le-leb}
 use Rattle.std.specs.List.{list_all}
-use Rattle.std.proofs.lemmas.Option.{same_Some}
-use Rattle.threader_cli.proofs.ReadingSteps.{none_given, bind_ok, map_ok, chosen}
+use Rattle.std.proofs.lemmas.Option.{option_and_then_some, same_Some}
+use Rattle.threader_cli.proofs.ReadingSteps.{none_given, option_map_some, chosen}
 pub use Rattle.threader_cli.proofs.StatementSound.{after_sound, begins_sound, name_sound, number_sound, sign_sound, IsRead, IsBodyRead, Reads, statement_sound, body_sound}
 use Rattle.threader_cli.proofs.StatementSound.{many_spelled, many_pass}
 use Rattle.threader_cli.specs.Accepted.{are_proper, is_proper_start, is_proper_program, deepest}
@@ -15,12 +15,12 @@ use Rattle.threader_cli.specs.Word.{pieces, is_name}
 
 start_sound : (ts : Tokens) (x : Option (List ℕ)) (rest : Tokens) → start_at ts ≡ Some (x, rest) → (ts ≡ spell_start x ++ rest) × (is_proper_start x ≡ true)
 start_sound ts x rest e =
-    ⊎_elim
-    (λ yes. let digits = map_ok (number_at (drop 1 ts)) (λ digits. (Some digits.0, digits.1)) (x, rest) yes.1 in
-    let number = number_sound (drop 1 ts) digits.0.0 digits.0.1 digits.1 in
-    subst P (same_Some _ _ digits.2) (begins_sound (codes "=") ts yes.0 ∙ ap (λ us. codes "=" ∷ us) number.0, number.1))
-    (λ no. subst P (same_Some _ _ no.1) (refl, refl))
-    (chosen (begins (codes "=") ts) _ _ _ e)
+    chosen (begins (codes "=") ts) _ _ _ e
+    (λ starts e.
+    option_map_some _ (number_at (drop 1 ts)) _ e (λ digits digits_is e.
+    let number = number_sound (drop 1 ts) digits.0 digits.1 digits_is in
+    subst P e (begins_sound (codes "=") ts starts ∙ ap (λ us. codes "=" ∷ us) number.0, number.1)))
+    (λ _ e. subst P (same_Some _ _ e) (refl, refl))
   where
     P : Option (List ℕ) × Tokens → Type 0
     P y = (ts ≡ spell_start y.0 ++ y.1) × (is_proper_start y.0 ≡ true)
@@ -38,76 +38,76 @@ variable_sound : (ts : Tokens) (v : Variable) (rest : Tokens) → variable_at ts
     → (ts ≡ spell_variable v ++ rest) × (is_proper_variable v ≡ true)
 unfolding variable_at
 variable_sound ts v rest e =
-    let named = bind_ok (after (pieces (codes "int")) ts) _ _ e in
-    let name = bind_ok (name_at named.0) _ _ named.2 in
-    let start = bind_ok (start_at name.0.1) _ _ name.2 in
-    let behind = bind_ok (after (pieces (codes ";")) start.0.1) _ _ start.2 in
-    let is_name = name_sound named.0 name.0.0 name.0.1 name.1 in
-    let is_start = start_sound name.0.1 start.0.0 start.0.1 start.1 in
-    subst (λ y. (ts ≡ spell_variable y.0 ++ y.1) × (is_proper_variable y.0 ≡ true)) (same_Some _ _ behind.2) (
-      after_sound (pieces (codes "int")) ts named.0 named.1
-          ∙ ap (λ us. codes "int" ∷ us) (is_name.0 ∙ ap (λ us. name.0.0 ∷ us)
-          (is_start.0 ∙ ap (λ us. spell_start start.0.0 ++ us) (after_sound (pieces (codes ";")) start.0.1 behind.0 behind.1)
-          ∙ sym (append_assoc (spell_start start.0.0) (pieces (codes ";")) behind.0))),
+    option_and_then_some _ (after (pieces (codes "int")) ts) _ e (λ named named_is e.
+    option_and_then_some _ (name_at named) _ e (λ name name_is e.
+    option_and_then_some _ (start_at name.1) _ e (λ start start_is e.
+    option_and_then_some _ (after (pieces (codes ";")) start.1) _ e (λ behind behind_is e.
+    let is_name = name_sound named name.0 name.1 name_is in
+    let is_start = start_sound name.1 start.0 start.1 start_is in
+    subst (λ y. (ts ≡ spell_variable y.0 ++ y.1) × (is_proper_variable y.0 ≡ true)) (same_Some _ _ e) (
+      after_sound (pieces (codes "int")) ts named named_is
+          ∙ ap (λ us. codes "int" ∷ us) (is_name.0 ∙ ap (λ us. name.0 ∷ us)
+          (is_start.0 ∙ ap (λ us. spell_start start.0 ++ us) (after_sound (pieces (codes ";")) start.1 behind behind_is)
+          ∙ sym (append_assoc (spell_start start.0) (pieces (codes ";")) behind))),
       ap₂ ◌&&◌ is_name.1 is_start.1,
-    )
+    )))))
 
 function_sound : (ts : Tokens) (f : Function) (rest : Tokens) → function_at ts ≡ Some (f, rest)
     → (ts ≡ spell_function f ++ rest) × (is_proper_function f ≡ true) × (deepest f.body ≤ level_limit)
 unfolding function_at
 function_sound ts f rest e =
-    let named = bind_ok (after (pieces (codes "void *")) ts) _ _ e in
-    let name = bind_ok (name_at named.0) _ _ named.2 in
-    let parameters = bind_ok (after (pieces (codes "( void *")) name.0.1) _ _ name.2 in
-    let parameter = bind_ok (name_at parameters.0) _ _ parameters.2 in
-    let inside = bind_ok (after (pieces (codes ") {")) parameter.0.1) _ _ parameter.2 in
-    let found = bind_ok (body_at (statement_at level_limit) inside.0) _ _ inside.2 in
-    let is_name = name_sound named.0 name.0.0 name.0.1 name.1 in
-    let is_parameter = name_sound parameters.0 parameter.0.0 parameter.0.1 parameter.1 in
-    let body = body_sound level_limit (statement_at level_limit) (statement_sound level_limit) inside.0 found.0.0 found.0.1 found.1 in
-    subst (λ y. (ts ≡ spell_function y.0 ++ y.1) × (is_proper_function y.0 ≡ true) × (deepest y.0.body ≤ level_limit)) (same_Some _ _ found.2) (
-      after_sound (pieces (codes "void *")) ts named.0 named.1
+    option_and_then_some _ (after (pieces (codes "void *")) ts) _ e (λ named named_is e.
+    option_and_then_some _ (name_at named) _ e (λ name name_is e.
+    option_and_then_some _ (after (pieces (codes "( void *")) name.1) _ e (λ parameters parameters_is e.
+    option_and_then_some _ (name_at parameters) _ e (λ parameter parameter_is e.
+    option_and_then_some _ (after (pieces (codes ") {")) parameter.1) _ e (λ inside inside_is e.
+    option_and_then_some _ (body_at (statement_at level_limit) inside) _ e (λ found found_is e.
+    let is_name = name_sound named name.0 name.1 name_is in
+    let is_parameter = name_sound parameters parameter.0 parameter.1 parameter_is in
+    let body = body_sound level_limit (statement_at level_limit) (statement_sound level_limit) inside found.0 found.1 found_is in
+    subst (λ y. (ts ≡ spell_function y.0 ++ y.1) × (is_proper_function y.0 ≡ true) × (deepest y.0.body ≤ level_limit)) (same_Some _ _ e) (
+      after_sound (pieces (codes "void *")) ts named named_is
           ∙ ap (λ us. pieces (codes "void *") ++ us) (is_name.0
-          ∙ ap (λ us. name.0.0 ∷ us) (after_sound (pieces (codes "( void *")) name.0.1 parameters.0 parameters.1
+          ∙ ap (λ us. name.0 ∷ us) (after_sound (pieces (codes "( void *")) name.1 parameters parameters_is
           ∙ ap (λ us. pieces (codes "( void *") ++ us) (is_parameter.0
-          ∙ ap (λ us. parameter.0.0 ∷ us) (after_sound (pieces (codes ") {")) parameter.0.1 inside.0 inside.1
+          ∙ ap (λ us. parameter.0 ∷ us) (after_sound (pieces (codes ") {")) parameter.1 inside inside_is
           ∙ ap (λ us. pieces (codes ") {") ++ us) body.spelled)))),
       ap₂ ◌&&◌ (ap₂ ◌&&◌ is_name.1 is_parameter.1) body.proper,
       body.shallow,
-    )
+    )))))))
 
 handle_sound : (ts : Tokens) (x : List ℕ) (rest : Tokens) → handle_at ts ≡ Some (x, rest) → (ts ≡ spell_handle x ++ rest) × (is_name x ≡ true)
 unfolding handle_at
 handle_sound ts x rest e =
-    let named = bind_ok (after (pieces (codes "pthread_t")) ts) _ _ e in
-    let name = bind_ok (name_at named.0) _ _ named.2 in
-    let behind = bind_ok (after (pieces (codes ";")) name.0.1) _ _ name.2 in
-    let is = name_sound named.0 name.0.0 name.0.1 name.1 in
-    subst (λ y. (ts ≡ spell_handle y.0 ++ y.1) × (is_name y.0 ≡ true)) (same_Some _ _ behind.2) (
-      after_sound (pieces (codes "pthread_t")) ts named.0 named.1
-          ∙ ap (λ us. codes "pthread_t" ∷ us) (is.0 ∙ ap (λ us. name.0.0 ∷ us) (after_sound (pieces (codes ";")) name.0.1 behind.0 behind.1)),
+    option_and_then_some _ (after (pieces (codes "pthread_t")) ts) _ e (λ named named_is e.
+    option_and_then_some _ (name_at named) _ e (λ name name_is e.
+    option_and_then_some _ (after (pieces (codes ";")) name.1) _ e (λ behind behind_is e.
+    let is = name_sound named name.0 name.1 name_is in
+    subst (λ y. (ts ≡ spell_handle y.0 ++ y.1) × (is_name y.0 ≡ true)) (same_Some _ _ e) (
+      after_sound (pieces (codes "pthread_t")) ts named named_is
+          ∙ ap (λ us. codes "pthread_t" ∷ us) (is.0 ∙ ap (λ us. name.0 ∷ us) (after_sound (pieces (codes ";")) name.1 behind behind_is)),
       is.1,
-    )
+    ))))
 
 creation_sound : (ts : Tokens) (c : Creation) (rest : Tokens) → creation_at ts ≡ Some (c, rest)
     → (ts ≡ spell_creation c ++ rest) × (is_proper_creation c ≡ true)
 unfolding creation_at
 creation_sound ts c rest e =
-    let first = bind_ok (after (pieces (codes "pthread_create ( &")) ts) _ _ e in
-    let handle = bind_ok (name_at first.0) _ _ first.2 in
-    let second = bind_ok (after (pieces (codes ", 0 ,")) handle.0.1) _ _ handle.2 in
-    let function = bind_ok (name_at second.0) _ _ second.2 in
-    let behind = bind_ok (after (pieces (codes ", 0 ) ;")) function.0.1) _ _ function.2 in
-    let is_handle = name_sound first.0 handle.0.0 handle.0.1 handle.1 in
-    let is_function = name_sound second.0 function.0.0 function.0.1 function.1 in
-    subst (λ y. (ts ≡ spell_creation y.0 ++ y.1) × (is_proper_creation y.0 ≡ true)) (same_Some _ _ behind.2) (
-      after_sound (pieces (codes "pthread_create ( &")) ts first.0 first.1
+    option_and_then_some _ (after (pieces (codes "pthread_create ( &")) ts) _ e (λ first first_is e.
+    option_and_then_some _ (name_at first) _ e (λ handle handle_is e.
+    option_and_then_some _ (after (pieces (codes ", 0 ,")) handle.1) _ e (λ second second_is e.
+    option_and_then_some _ (name_at second) _ e (λ function function_is e.
+    option_and_then_some _ (after (pieces (codes ", 0 ) ;")) function.1) _ e (λ behind behind_is e.
+    let is_handle = name_sound first handle.0 handle.1 handle_is in
+    let is_function = name_sound second function.0 function.1 function_is in
+    subst (λ y. (ts ≡ spell_creation y.0 ++ y.1) × (is_proper_creation y.0 ≡ true)) (same_Some _ _ e) (
+      after_sound (pieces (codes "pthread_create ( &")) ts first first_is
           ∙ ap (λ us. pieces (codes "pthread_create ( &") ++ us) (is_handle.0
-          ∙ ap (λ us. handle.0.0 ∷ us) (after_sound (pieces (codes ", 0 ,")) handle.0.1 second.0 second.1
+          ∙ ap (λ us. handle.0 ∷ us) (after_sound (pieces (codes ", 0 ,")) handle.1 second second_is
           ∙ ap (λ us. pieces (codes ", 0 ,") ++ us) (is_function.0
-          ∙ ap (λ us. function.0.0 ∷ us) (after_sound (pieces (codes ", 0 ) ;")) function.0.1 behind.0 behind.1)))),
+          ∙ ap (λ us. function.0 ∷ us) (after_sound (pieces (codes ", 0 ) ;")) function.1 behind behind_is)))),
       ap₂ ◌&&◌ is_handle.1 is_function.1,
-    )
+    ))))))
 
 -- ---- programs
 
@@ -132,35 +132,35 @@ pub program_sound : (ts : Tokens) (p : Program) → program_at ts ≡ Some p
     → (ts ≡ spell_program p) × IsTrue (is_proper_program p) × IsTrue (list_all (λ f. nat_le (deepest f.body) 64) p.functions)
 unfolding program_at spell_program
 program_sound ts p e =
-    let variables = bind_ok (each is_variable variable_at ts) _ _ e in
-    let functions = bind_ok (each (begins (codes "void")) function_at variables.0.1) _ _ variables.2 in
-    let main = bind_ok (after (pieces (codes "int main ( ) {")) functions.0.1) _ _ functions.2 in
-    let handles = bind_ok (each (begins (codes "pthread_t")) handle_at main.0) _ _ main.2 in
-    let creations = bind_ok (each (begins (codes "pthread_create")) creation_at handles.0.1) _ _ handles.2 in
-    let behind = bind_ok (after (pieces (codes "return 0 ; }")) creations.0.1) _ _ creations.2 in
-    let last = last_sound _ _ behind.0 behind.2 in
-    let vs = variables.0.0 in
-    let fs = functions.0.0 in
-    let hs = handles.0.0 in
-    let cs = creations.0.0 in
-    let end : creations.0.1 ≡ pieces (codes "return 0 ; }") =
-    after_sound (pieces (codes "return 0 ; }")) creations.0.1 behind.0 behind.1 ∙ ap (λ us. pieces (codes "return 0 ; }") ++ us) last.0 in
-    let by_creations : handles.0.1 ≡ flat_map spell_creation cs ++ pieces (codes "return 0 ; }") =
-    many_spelled _ creation_at spell_creation (λ us x rest e. (creation_sound us x rest e).0) _ handles.0.1 cs creations.0.1 creations.1 ∙ ap (λ us. flat_map spell_creation cs ++ us) end in
-    let by_handles : main.0 ≡ flat_map spell_handle hs ++ (flat_map spell_creation cs ++ pieces (codes "return 0 ; }")) =
-    many_spelled _ handle_at spell_handle (λ us x rest e. (handle_sound us x rest e).0) _ main.0 hs handles.0.1 handles.1 ∙ ap (λ us. flat_map spell_handle hs ++ us) by_creations in
-    let by_main : functions.0.1 ≡ pieces (codes "int main ( ) {") ++ (flat_map spell_handle hs ++ (flat_map spell_creation cs ++ pieces (codes "return 0 ; }"))) =
-    after_sound (pieces (codes "int main ( ) {")) functions.0.1 main.0 main.1 ∙ ap (λ us. pieces (codes "int main ( ) {") ++ us) by_handles in
-    let by_functions : variables.0.1 ≡ flat_map spell_function fs ++ (pieces (codes "int main ( ) {") ++ (flat_map spell_handle hs ++ (flat_map spell_creation cs ++ pieces (codes "return 0 ; }")))) =
-    many_spelled _ function_at spell_function (λ us x rest e. (function_sound us x rest e).0) _ variables.0.1 fs functions.0.1 functions.1 ∙ ap (λ us. flat_map spell_function fs ++ us) by_main in
+    option_and_then_some _ (each is_variable variable_at ts) _ e (λ variables variables_is e.
+    option_and_then_some _ (each (begins (codes "void")) function_at variables.1) _ e (λ functions functions_is e.
+    option_and_then_some _ (after (pieces (codes "int main ( ) {")) functions.1) _ e (λ main main_is e.
+    option_and_then_some _ (each (begins (codes "pthread_t")) handle_at main) _ e (λ handles handles_is e.
+    option_and_then_some _ (each (begins (codes "pthread_create")) creation_at handles.1) _ e (λ creations creations_is e.
+    option_and_then_some _ (after (pieces (codes "return 0 ; }")) creations.1) _ e (λ behind behind_is e.
+    let last = last_sound _ _ behind e in
+    let vs = variables.0 in
+    let fs = functions.0 in
+    let hs = handles.0 in
+    let cs = creations.0 in
+    let end : creations.1 ≡ pieces (codes "return 0 ; }") =
+    after_sound (pieces (codes "return 0 ; }")) creations.1 behind behind_is ∙ ap (λ us. pieces (codes "return 0 ; }") ++ us) last.0 in
+    let by_creations : handles.1 ≡ flat_map spell_creation cs ++ pieces (codes "return 0 ; }") =
+    many_spelled _ creation_at spell_creation (λ us x rest e. (creation_sound us x rest e).0) _ handles.1 cs creations.1 creations_is ∙ ap (λ us. flat_map spell_creation cs ++ us) end in
+    let by_handles : main ≡ flat_map spell_handle hs ++ (flat_map spell_creation cs ++ pieces (codes "return 0 ; }")) =
+    many_spelled _ handle_at spell_handle (λ us x rest e. (handle_sound us x rest e).0) _ main hs handles.1 handles_is ∙ ap (λ us. flat_map spell_handle hs ++ us) by_creations in
+    let by_main : functions.1 ≡ pieces (codes "int main ( ) {") ++ (flat_map spell_handle hs ++ (flat_map spell_creation cs ++ pieces (codes "return 0 ; }"))) =
+    after_sound (pieces (codes "int main ( ) {")) functions.1 main main_is ∙ ap (λ us. pieces (codes "int main ( ) {") ++ us) by_handles in
+    let by_functions : variables.1 ≡ flat_map spell_function fs ++ (pieces (codes "int main ( ) {") ++ (flat_map spell_handle hs ++ (flat_map spell_creation cs ++ pieces (codes "return 0 ; }")))) =
+    many_spelled _ function_at spell_function (λ us x rest e. (function_sound us x rest e).0) _ variables.1 fs functions.1 functions_is ∙ ap (λ us. flat_map spell_function fs ++ us) by_main in
     let by_variables =
-    many_spelled _ variable_at spell_variable (λ us x rest e. (variable_sound us x rest e).0) _ ts vs variables.0.1 variables.1 ∙ ap (λ us. flat_map spell_variable vs ++ us) by_functions in
+    many_spelled _ variable_at spell_variable (λ us x rest e. (variable_sound us x rest e).0) _ ts vs variables.1 variables_is ∙ ap (λ us. flat_map spell_variable vs ++ us) by_functions in
     subst (λ q. (ts ≡ spell_program q) × IsTrue (is_proper_program q) × IsTrue (list_all is_shallow_function q.functions)) last.1 (
       by_variables ∙ sym (regrouped vs fs hs cs),
       ap₂ ◌&&◌ (ap₂ ◌&&◌ (ap₂ ◌&&◌
-          (many_pass _ variable_at is_proper_variable (λ us x rest e. (variable_sound us x rest e).1) _ ts vs variables.0.1 variables.1)
-          (many_pass _ function_at is_proper_function (λ us x rest e. (function_sound us x rest e).1) _ variables.0.1 fs functions.0.1 functions.1))
-          (many_pass _ handle_at is_name (λ us x rest e. (handle_sound us x rest e).1) _ main.0 hs handles.0.1 handles.1))
-          (many_pass _ creation_at is_proper_creation (λ us x rest e. (creation_sound us x rest e).1) _ handles.0.1 cs creations.0.1 creations.1),
-      many_pass _ function_at is_shallow_function (λ us x rest e. le-leb (deepest x.body) 64 (function_sound us x rest e).2) _ variables.0.1 fs functions.0.1 functions.1,
-    )
+          (many_pass _ variable_at is_proper_variable (λ us x rest e. (variable_sound us x rest e).1) _ ts vs variables.1 variables_is)
+          (many_pass _ function_at is_proper_function (λ us x rest e. (function_sound us x rest e).1) _ variables.1 fs functions.1 functions_is))
+          (many_pass _ handle_at is_name (λ us x rest e. (handle_sound us x rest e).1) _ main hs handles.1 handles_is))
+          (many_pass _ creation_at is_proper_creation (λ us x rest e. (creation_sound us x rest e).1) _ handles.1 cs creations.1 creations_is),
+      many_pass _ function_at is_shallow_function (λ us x rest e. le-leb (deepest x.body) 64 (function_sound us x rest e).2) _ variables.1 fs functions.1 functions_is,
+    )))))))
