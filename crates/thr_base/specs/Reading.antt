@@ -11,11 +11,13 @@ IsFileNamed files name bytes = MatchOption files (Unit {0}) (λ told. file_named
 -- Where the files are told, the file of this name has more than `limit` bytes.
 abbrev pub IsLonger : Option Files → List ℕ → ℕ → Type 0
 IsLonger files name limit =
-    MatchOption files (Unit {0}) (λ told. (bytes : List ℕ) × (file_named name told ≡ Some bytes) × (limit < length bytes))
+    MatchOption files (Unit {0}) (λ told.
+    (bytes : List ℕ) × (file_named name told ≡ Some bytes) × (limit < length bytes))
 
 -- Why a file was not read whole. Want of memory has no cause here.
 abbrev pub StopsReading : StoreMeaning → List ℕ → ℕ → ReadStop → StoreMeaning → Type 0
-StopsReading old name limit Fault new = Rose old.faults new.faults × (IsTrue old.honest → Lacks old.files name)
+StopsReading old name limit Fault new =
+    Rose old.faults new.faults × (IsTrue old.honest → Lacks old.files name)
 StopsReading old name limit TooLong new =
     (min (old.taken + limit + 1) count_end ≤ new.taken) × IsLonger old.files name limit
 StopsReading old name limit Memory new = Unit {0}

@@ -1,6 +1,5 @@
 ghost use Rattle.std.specs.Prelude.{◌≡◌, ◌+◌, ◌^◌, ◌<◌, All, ◌-◌, ◌↔◌, min, IsTrue, Contains};
-ghost use Rattle.thr_base.specs.Outside.{count_end};
-ghost use Rattle.thr_base.specs.InMemory.{FailingCallsView};
+ghost use Rattle.thr_base.specs.InMemory.{FailingCallsView, NextFails, CountsCall};
 
 use std::marker::Model;
 
@@ -28,8 +27,8 @@ impl FailingCalls {
 
     /// Counts a call, and says whether it fails. A number that a `u64` does not hold fails nowhere.
     pub fn next_fails(&mut self) -> bool
-        ensures fails { IsTrue result ↔ Contains self.old.failing (self.old.made + 1) }
-        ensures counted { self.new ≡ record self.old { made = min (self.old.made + 1) count_end } }
+        ensures fails { IsTrue result ↔ NextFails self.old }
+        ensures counted { CountsCall self.old self.new }
     {
         match self.made.checked_add(1) {
             Some(number) => {

@@ -31,7 +31,13 @@ impl<'a, R: Files> Model for FileStore<'a, R> {
 
 impl<'a, R: Files> FileStore<'a, R> {
     pub fn new(rt: &'a R) -> FileStore<'a, R>
-        ensures { result ≡ record { files = None; file = Closed; taken = 0; faults = 0; honest = false } }
+        ensures { result ≡ record {
+          files = None;
+          file = Closed;
+          taken = 0;
+          faults = 0;
+          honest = false;
+        } }
     {
         FileStore {
             rt,

@@ -34,3 +34,6 @@ pub use reading::{read_all, write_all};
 pub use room_sink::RoomSink;
 pub use stops::{LineStop, ReadStop, Refusal, Stop};
 pub use zero_sink::ZeroSink;
+
+#[cfg(test)]
+mod tests;

@@ -37,7 +37,8 @@ impl MemFiles {
 
     /// Opens the first file of this name, if there is one.
     pub fn open(&mut self, name: &str) -> bool
-        ensures found { MatchBool result (opened_file (Some self.old.told) name.now ≡ Some self.new.file)
+        ensures found { MatchBool result
+            (opened_file (Some self.old.told) name.now ≡ Some self.new.file)
             ((file_named name.now self.old.told ≡ None) × (self.new ≡ self.old)) }
         ensures told { self.new.told ≡ self.old.told }
     {
@@ -67,7 +68,8 @@ impl MemFiles {
 /// The index of the first file of this name.
 fn find(files: &[(String, Vec<u8>)], name: &str) -> Option<usize>
     ensures { MatchOption result (file_named name.now (files_of files.now) ≡ None) (λ i.
-        (i < length files.now) × (file_named name.now (files_of files.now) ≡ Some (file_at (files_of files.now) i))) }
+        (i < length files.now)
+        × (file_named name.now (files_of files.now) ≡ Some (file_at (files_of files.now) i))) }
 {
     for (i, file) in files.iter().enumerate() {
         if name == file.0.as_str() {

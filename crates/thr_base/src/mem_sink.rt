@@ -1,6 +1,6 @@
-ghost use Rattle.std.specs.Prelude.{◌≡◌, ◌+◌, ◌<◌, ◌⊎◌, ◌↔◌, min, [], length, Contains, IfOk, OnErr, IsErr};
-ghost use Rattle.thr_base.specs.Outside.{Writes, SinkFails, count_end};
-ghost use Rattle.thr_base.specs.InMemory.{MemSinkView, mem_sink_meaning};
+ghost use Rattle.std.specs.Prelude.{◌≡◌, ◌+◌, ◌<◌, ◌⊎◌, ◌↔◌, [], length, IfOk, OnErr, IsErr};
+ghost use Rattle.thr_base.specs.Outside.{Writes, SinkFails};
+ghost use Rattle.thr_base.specs.InMemory.{MemSinkView, NextFails, CountsCall, mem_sink_meaning};
 
 use crate::failing_calls::FailingCalls;
 use crate::outside::{Failed, Sink};
@@ -55,13 +55,15 @@ impl Sink for MemSink {
     ghost meaning = { mem_sink_meaning };
 
     fn write(&mut self, bytes: &[u8]) -> Result<usize, Failed>
-        ensures written { IfOk result (λ n. Writes (mem_sink_meaning self.old) bytes.now n (mem_sink_meaning self.new)) }
-        ensures failed { OnErr result (SinkFails (mem_sink_meaning self.old) (mem_sink_meaning self.new)) }
+        ensures written { IfOk result (λ n.
+            Writes (mem_sink_meaning self.old) bytes.now n (mem_sink_meaning self.new)) }
+        ensures failed { OnErr result
+            (SinkFails (mem_sink_meaning self.old) (mem_sink_meaning self.new)) }
         ensures whole { IfOk result (λ n. n ≡ length bytes.now) }
-        ensures fails { IsErr result ↔ (Contains self.old.calls.failing (self.old.calls.made + 1)
+        ensures fails { IsErr result ↔ (NextFails self.old.calls
             ⊎ (self.old.room < length self.old.written + length bytes.now)) }
         ensures room { self.new.room ≡ self.old.room }
-        ensures counted { self.new.calls ≡ record self.old.calls { made = min (self.old.calls.made + 1) count_end } }
+        ensures counted { CountsCall self.old.calls self.new.calls }
     {
         if !self.calls.next_fails() && self.room.append(bytes) {
             return Ok(bytes.len());

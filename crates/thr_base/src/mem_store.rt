@@ -1,6 +1,6 @@
-ghost use Rattle.std.specs.Prelude.{◌≡◌, ◌+◌, ◌⊎◌, ◌↔◌, min, Some, false, Contains, IfOk, OnOk, OnErr, IsErr, IsTrue};
-ghost use Rattle.thr_base.specs.Outside.{Closed, Lacks, Opens, Reads, StoreFails, count_end};
-ghost use Rattle.thr_base.specs.InMemory.{MemStoreView, files_of};
+ghost use Rattle.std.specs.Prelude.{◌≡◌, ◌⊎◌, ◌↔◌, Some, false, IfOk, OnOk, OnErr, IsErr, IsTrue};
+ghost use Rattle.thr_base.specs.Outside.{Closed, Lacks, Opens, Reads, StoreFails};
+ghost use Rattle.thr_base.specs.InMemory.{MemStoreView, NextFails, CountsCall, files_of};
 
 use crate::failing_calls::FailingCalls;
 use crate::mem_files::MemFiles;
@@ -60,10 +60,11 @@ impl Store for MemStore {
     fn open(&mut self, name: &str) -> Result<(), Failed>
         ensures opened { OnOk result (Opens self.old.store name.now self.new.store) }
         ensures failed { OnErr result (StoreFails self.old.store self.new.store) }
-        ensures honest { IsTrue self.old.store.honest → OnErr result (Lacks self.old.store.files name.now) }
+        ensures honest { IsTrue self.old.store.honest →
+            OnErr result (Lacks self.old.store.files name.now) }
         ensures fails { IsErr result ↔
-            (Contains self.old.calls.failing (self.old.calls.made + 1) ⊎ Lacks self.old.store.files name.now) }
-        ensures counted { self.new.calls ≡ record self.old.calls { made = min (self.old.calls.made + 1) count_end } }
+            (NextFails self.old.calls ⊎ Lacks self.old.store.files name.now) }
+        ensures counted { CountsCall self.old.calls self.new.calls }
     {
         if !self.calls.next_fails() && self.files.open(name) {
             return Ok(());
@@ -75,10 +76,11 @@ impl Store for MemStore {
     fn read(&mut self, buf: &mut [u8]) -> Result<usize, Failed>
         ensures filled { IfOk result (λ n. Reads self.old.store buf.old n buf.new self.new.store) }
         ensures failed { OnErr result (StoreFails self.old.store self.new.store) }
-        ensures honest { IsTrue self.old.store.honest → OnErr result (self.old.store.file ≡ Closed) }
+        ensures honest { IsTrue self.old.store.honest →
+            OnErr result (self.old.store.file ≡ Closed) }
         ensures fails { IsErr result ↔
-            (Contains self.old.calls.failing (self.old.calls.made + 1) ⊎ (self.old.store.file ≡ Closed)) }
-        ensures counted { self.new.calls ≡ record self.old.calls { made = min (self.old.calls.made + 1) count_end } }
+            (NextFails self.old.calls ⊎ (self.old.store.file ≡ Closed)) }
+        ensures counted { CountsCall self.old.calls self.new.calls }
     {
         if !self.calls.next_fails()
             && let Some(n) = self.files.read(buf)

@@ -17,7 +17,8 @@ pub fn read_all<S: Store>(
     limit: u32,
 ) -> Result<Vec<u8>, ReadStop>
     ensures within { IfOk result (λ bytes. vec_len bytes ≤ limit) }
-    ensures whole { IfOk result (λ bytes. IsFileNamed (S.meaning store.old).files name.now bytes.items) }
+    ensures whole { IfOk result (λ bytes.
+        IsFileNamed (S.meaning store.old).files name.now bytes.items) }
     ensures stopped { IfErr result (λ stop.
         StopsReading (S.meaning store.old) name.now limit stop (S.meaning store.new)) }
     ensures lacking { Lacks (S.meaning store.old).files name.now →

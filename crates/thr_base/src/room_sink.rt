@@ -41,8 +41,10 @@ impl Sink for RoomSink {
     ghost meaning = { room_sink_meaning };
 
     fn write(&mut self, bytes: &[u8]) -> Result<usize, Failed>
-        ensures written { IfOk result (λ n. Writes (room_sink_meaning self.old) bytes.now n (room_sink_meaning self.new)) }
-        ensures failed { OnErr result (SinkFails (room_sink_meaning self.old) (room_sink_meaning self.new)) }
+        ensures written { IfOk result (λ n.
+            Writes (room_sink_meaning self.old) bytes.now n (room_sink_meaning self.new)) }
+        ensures failed { OnErr result
+            (SinkFails (room_sink_meaning self.old) (room_sink_meaning self.new)) }
         ensures whole { IfOk result (λ n. n ≡ length bytes.now) }
         ensures fails { IsErr result ↔ (self.old.room < length self.old.written + length bytes.now) }
         ensures room { self.new.room ≡ self.old.room }

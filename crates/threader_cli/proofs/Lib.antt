@@ -1,6 +1,8 @@
+pub mod AcceptLemmas
 pub mod BodyLemmas
 pub mod GraphLemmas
 pub mod ManyLemmas
+pub mod NameLemmas
 pub mod ReadingComplete
 pub mod ReadingShrinks
 pub mod ReadingSound

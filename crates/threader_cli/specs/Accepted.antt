@@ -1,6 +1,6 @@
 -- Which texts are programs of the narrow language.
-use Rattle.std.specs.Prelude.{◌≡◌, ◌≤◌, ℕ, ◌+◌, Bool, true, false, not, ◌&&◌, ◌||◌, max, List, [], ◌∷◌, ◌++◌, map, length, fold, Option, Some, None, bytes_eq, nat_le, IsTrue}
-use Rattle.std.specs.List.{list_any, list_all, IsDistinct}
+use Rattle.std.specs.Prelude.{◌≡◌, ℕ, ◌+◌, Bool, true, false, not, ◌&&◌, ◌||◌, max, List, [], ◌∷◌, ◌++◌, map, length, fold, Option, Some, None, bytes_eq, nat_le, IsTrue}
+use Rattle.std.specs.List.{list_any, list_all}
 use Rattle.threader_cli.specs.Graph.{actions_each, graph_of, ThreadGraph}
 use Rattle.threader_cli.specs.Spelling.{spell_program}
 use Rattle.threader_cli.specs.Token.{Token, tokens_of}
@@ -76,25 +76,51 @@ variable_names p = map (λ v. v.name) p.variables
 abbrev pub function_names : Program → List (List ℕ)
 function_names p = map (λ f. f.name) p.functions
 
+-- Each of the names is none of those before it.
+abbrev pub are_new : List (List ℕ) → List (List ℕ) → Bool
+are_new before [] = true
+are_new before (name ∷ names) = not (list_any (bytes_eq name) before) && are_new (before ++ name ∷ []) names
+
 -- A creation's first name is a handle's, and its second a function's that no handle hides.
 abbrev pub is_declared : Program → Creation → Bool
 is_declared p c =
     list_any (bytes_eq c.handle) p.handles && list_any (bytes_eq c.function) (function_names p)
     && not (list_any (bytes_eq c.function) p.handles)
 
+-- Each name that is used is declared, with the kind of its use.
+abbrev pub variables_declared : Program → Bool
+variables_declared p = list_all (λ f. all_assign_among (variable_names p) f.body) p.functions
+
+abbrev pub creations_declared : Program → Bool
+creations_declared p = list_all (is_declared p) p.creations
+
+-- No name is declared twice in one scope: that of the text, and that of `main`.
+abbrev pub are_distinct : Program → Bool
+are_distinct p = are_new [] (variable_names p ++ function_names p)
+
+abbrev pub handles_distinct : Program → Bool
+handles_distinct p = are_new [] p.handles
+
+-- There is no third creation.
+abbrev pub has_few_creations : Program → Bool
+has_few_creations p = nat_le (length p.creations) 2
+
+-- No function has more than 128 locations.
+abbrev pub is_small : Program → Bool
+is_small p = list_all (λ f. nat_le (graph_of f.body).locations 128) p.functions
+
+-- No statement is at a level above 64.
+abbrev pub is_shallow : Program → Bool
+is_shallow p = list_all (λ f. nat_le (deepest f.body) 64) p.functions
+
 -- The bytes are a text of the narrow language, and this is its tree.
 pub record IsAccepted (bytes : List ℕ) (p : Program) : Type 0 where
   pub spelled : map (λ token. token.text) (tokens_of bytes) ≡ spell_program p
   pub proper : IsTrue (is_proper_program p)
-  -- No statement is at a level above 64.
-  pub shallow : IsTrue (list_all (λ f. nat_le (deepest f.body) 64) p.functions)
-  -- Each name that is used is declared, with the kind of its use.
-  pub variables_declared : IsTrue (list_all (λ f. all_assign_among (variable_names p) f.body) p.functions)
-  pub creations_declared : IsTrue (list_all (is_declared p) p.creations)
-  -- No name is declared twice in one scope.
-  pub distinct : IsDistinct bytes_eq (variable_names p ++ function_names p)
-  pub distinct_handles : IsDistinct bytes_eq p.handles
-  -- There is no third creation.
-  pub few_creations : length p.creations ≤ 2
-  -- No function has more than 128 locations.
-  pub small : IsTrue (list_all (λ f. nat_le (graph_of f.body).locations 128) p.functions)
+  pub shallow : IsTrue (is_shallow p)
+  pub variables_declared : IsTrue (variables_declared p)
+  pub creations_declared : IsTrue (creations_declared p)
+  pub distinct : IsTrue (are_distinct p)
+  pub handles_distinct : IsTrue (handles_distinct p)
+  pub few_creations : IsTrue (has_few_creations p)
+  pub small : IsTrue (is_small p)
