@@ -1,14 +1,15 @@
 -- What is spelled so, and is proper, is read.
-use Rattle.std.proofs.Common.{◌≡◌, ℕ, suc, Bool, true, false, not, ◌&&◌, List, [], ◌∷◌, ◌++◌, length, codes, flat_map, Option, Some, None, nat_le, IsTrue, refl, ap, ap₂, ◌∙◌, arith, leb-true}
+use Rattle.std.proofs.Common.{◌≡◌, ℕ, suc, Bool, true, false, not, ◌&&◌, List, [], ◌∷◌, ◌++◌, map, length, codes, flat_map, Option, Some, None, IsTrue, refl, ap, ap₂, ◌∙◌, arith, leb-true}
 use Rattle.std.specs.List.{list_all}
 use Rattle.threader_cli.proofs.ReadingSteps.{left_true, right_true}
 use Rattle.threader_cli.proofs.ReadingShrinks.{statement_shrinks, variable_shrinks, function_shrinks, handle_shrinks, creation_shrinks}
-use Rattle.threader_cli.proofs.ReadingSound.{is_proper_variable, is_proper_function, is_proper_creation, is_shallow_function, regrouped}
+use Rattle.threader_cli.proofs.ReadingSound.{is_proper_variable, is_proper_function, is_proper_creation, is_shallow_function, from_creations, from_main, from_functions, spell_program-parts}
 pub use Rattle.threader_cli.proofs.StatementComplete.{ReadsAgain, statement_complete, body_complete}
 use Rattle.threader_cli.proofs.StatementComplete.{Again, many_again, no_main}
-use Rattle.threader_cli.specs.Accepted.{are_proper, is_proper_start, is_proper_program, deepest}
-use Rattle.threader_cli.specs.Reading.{Tokens, begins, each, statement_at, level_limit, variable_at, function_at, handle_at, creation_at, is_variable, program_at}
+use Rattle.threader_cli.specs.Accepted.{IsAccepted, are_proper, is_proper_start, is_proper_program, is_shallow, deepest}
+use Rattle.threader_cli.specs.Reading.{Tokens, Reading, begins, each, statement_at, level_limit, variable_at, function_at, handle_at, creation_at, is_variable, program_at}
 use Rattle.threader_cli.specs.Spelling.{spell_variable, spell_function, spell_handle, spell_creation, spell_program}
+use Rattle.threader_cli.specs.Token.{tokens_of}
 use Rattle.threader_cli.specs.Tree.{Variable, Function, Creation, Program}
 use Rattle.threader_cli.specs.Word.{pieces, is_name}
 
@@ -88,16 +89,21 @@ good_functions (f ∷ fs) proper shallow =
     ap₂ ◌&&◌ (ap₂ ◌&&◌ (left_true (is_proper_function f) (list_all is_proper_function fs) proper) (left_true (is_shallow_function f) (list_all is_shallow_function fs) shallow))
     (good_functions fs (right_true (is_proper_function f) (list_all is_proper_function fs) proper) (right_true (is_shallow_function f) (list_all is_shallow_function fs) shallow))
 
-no_more_variables : (fs : List Function) (rest : Tokens) → is_variable (flat_map spell_function fs ++ (pieces (codes "int main ( ) {") ++ rest)) ≡ false
-no_more_variables [] rest = refl
-no_more_variables (f ∷ fs) rest = refl
+no_more_variables : (fs : List Function) (hs : List (List ℕ)) (cs : List Creation) → is_variable (from_functions fs hs cs) ≡ false
+no_more_variables [] hs cs = refl
+no_more_variables (f ∷ fs) hs cs = refl
 
-no_more_handles : (cs : List Creation) → begins (codes "pthread_t") (flat_map spell_creation cs ++ pieces (codes "return 0 ; }")) ≡ false
+no_more_handles : (cs : List Creation) → begins (codes "pthread_t") (from_creations cs) ≡ false
 no_more_handles [] = refl
 no_more_handles (c ∷ cs) = refl
 
-pub program_complete : (p : Program) → IsTrue (is_proper_program p) → IsTrue (list_all (λ f. nat_le (deepest f.body) 64) p.functions)
-    → program_at (spell_program p) ≡ Some p
+-- as many as there are, where there is one turn more than tokens
+each_again : {A : Type 0} (test : Tokens → Bool) (read : Reading A) (spell : A → Tokens) (good : A → Bool) → Again test read spell good always
+    → (xs : List A) (rest : Tokens) → list_all good xs ≡ true → test rest ≡ false → each test read (flat_map spell xs ++ rest) ≡ Some (xs, rest)
+each_again test read spell good turn xs rest all_good ends =
+    many_again test read spell good always turn xs rest (suc (length (flat_map spell xs ++ rest))) all_good refl ends (omega arith)
+
+pub program_complete : (p : Program) → IsTrue (is_proper_program p) → IsTrue (is_shallow p) → program_at (spell_program p) ≡ Some p
 unfolding program_at
 program_complete p proper shallow =
     let vs = p.variables in
@@ -110,21 +116,16 @@ program_complete p proper shallow =
     let d = list_all is_proper_creation cs in
     let abc = left_true (a && b && c) d proper in
     let ab = left_true (a && b) c abc in
-    let in_end : Tokens = pieces (codes "return 0 ; }") in
-    let in_creations : Tokens = flat_map spell_creation cs ++ in_end in
-    let in_handles : Tokens = flat_map spell_handle hs ++ in_creations in
-    let in_functions : Tokens = flat_map spell_function fs ++ (pieces (codes "int main ( ) {") ++ in_handles) in
-    let in_variables : Tokens = flat_map spell_variable vs ++ in_functions in
-    let variables : each is_variable variable_at in_variables ≡ Some (vs, in_functions) =
-    many_again is_variable variable_at spell_variable is_proper_variable always variable_turn vs in_functions (suc (length in_variables))
-    (left_true a b ab) refl (no_more_variables fs in_handles) (omega arith) in
-    let functions : each (begins (codes "void")) function_at in_functions ≡ Some (fs, pieces (codes "int main ( ) {") ++ in_handles) =
-    many_again (begins (codes "void")) function_at spell_function is_good_function always function_turn fs (pieces (codes "int main ( ) {") ++ in_handles) (suc (length in_functions))
-    (good_functions fs (right_true a b ab) shallow) refl refl (omega arith) in
-    let handles : each (begins (codes "pthread_t")) handle_at in_handles ≡ Some (hs, in_creations) =
-    many_again (begins (codes "pthread_t")) handle_at spell_handle is_name always handle_turn hs in_creations (suc (length in_handles))
-    (right_true (a && b) c abc) refl (no_more_handles cs) (omega arith) in
-    let creations : each (begins (codes "pthread_create")) creation_at in_creations ≡ Some (cs, in_end) =
-    many_again (begins (codes "pthread_create")) creation_at spell_creation is_proper_creation always creation_turn cs in_end (suc (length in_creations))
-    (right_true (a && b && c) d proper) refl refl (omega arith) in
-    ap program_at (regrouped vs fs hs cs) ∙ rw (variables, functions, handles, creations) refl
+    let variables =
+    each_again is_variable variable_at spell_variable is_proper_variable variable_turn vs (from_functions fs hs cs) (left_true a b ab) (no_more_variables fs hs cs) in
+    let functions =
+    each_again (begins (codes "void")) function_at spell_function is_good_function function_turn fs (from_main hs cs) (good_functions fs (right_true a b ab) shallow) refl in
+    let handles =
+    each_again (begins (codes "pthread_t")) handle_at spell_handle is_name handle_turn hs (from_creations cs) (right_true (a && b) c abc) (no_more_handles cs) in
+    let creations =
+    each_again (begins (codes "pthread_create")) creation_at spell_creation is_proper_creation creation_turn cs (pieces (codes "return 0 ; }")) (right_true (a && b && c) d proper) refl in
+    ap program_at (spell_program-parts p) ∙ rw (variables, functions, handles, creations) refl
+
+-- what is accepted is read from the text's tokens
+pub IsAccepted-read : (bytes : List ℕ) (p : Program) → IsAccepted bytes p → program_at (map (λ token. token.text) (tokens_of bytes)) ≡ Some p
+IsAccepted-read bytes p accepted = ap program_at accepted.spelled ∙ program_complete p accepted.proper accepted.shallow

@@ -1,14 +1,12 @@
 -- Each reading takes at least one token.
 use Rattle.std.proofs.Common.{◌≡◌, ℕ, zero, suc, ◌+◌, ◌<◌, ◌≤◌, Bool, true, false, cond, List, [], ◌∷◌, length, drop, codes, Option, Some, bytes_eq, not, ap, arith}
 use Rattle.std.proofs.lemmas.Option.{cond_some, option_and_then_some, same_Some}
+use Rattle.threader_cli.proofs.ManyLemmas.{Shrinks}
 use Rattle.threader_cli.proofs.ReadingSteps.{none_given, option_map_some, chosen}
 use Rattle.threader_cli.specs.Reading.{Tokens, Reading, begins, after, name_at, number_at, many, each, sign_at, assignment_at, body_at, choice_at, else_at, statement_by, statement_at, level_limit, start_at, variable_at, function_at, handle_at, creation_at}
 use Rattle.threader_cli.specs.Spelling.{choice}
 use Rattle.threader_cli.specs.Tree.{Statement, Variable, Function, Creation}
 use Rattle.threader_cli.specs.Word.{pieces, is_name, is_number}
-
-abbrev pub Shrinks : {A : Type 0} → Reading A → Type 0
-Shrinks {A} read = (ts : Tokens) (x : A) (rest : Tokens) → read ts ≡ Some (x, rest) → length rest < length ts
 
 after_shorter : (xs : List (List ℕ)) (ts rest : Tokens) → after xs ts ≡ Some rest → length ts ≡ length xs + length rest
 after_shorter [] ts rest e = grind (arith, e)

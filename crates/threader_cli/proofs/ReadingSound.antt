@@ -1,11 +1,10 @@
 -- What is read is spelled so, and is proper.
 use Rattle.std.proofs.Common.{◌≡◌, ℕ, ◌≤◌, Bool, true, ◌&&◌, List, [], ◌∷◌, ◌++◌, drop, codes, flat_map, Option, Some, nat_le, IsTrue, append_assoc, refl, sym, ap, ap₂, ◌∙◌, subst, le-leb}
-use Rattle.std.specs.List.{list_all}
 use Rattle.std.proofs.lemmas.Option.{option_and_then_some, same_Some}
 use Rattle.threader_cli.proofs.ReadingSteps.{none_given, option_map_some, chosen}
 pub use Rattle.threader_cli.proofs.StatementSound.{after_sound, begins_sound, name_sound, number_sound, sign_sound, IsRead, IsBodyRead, Reads, statement_sound, body_sound}
 use Rattle.threader_cli.proofs.StatementSound.{many_spelled, many_pass}
-use Rattle.threader_cli.specs.Accepted.{are_proper, is_proper_start, is_proper_program, deepest}
+use Rattle.threader_cli.specs.Accepted.{are_proper, is_proper_start, is_proper_program, is_shallow, deepest}
 use Rattle.threader_cli.specs.Reading.{Tokens, begins, after, name_at, number_at, each, body_at, statement_at, level_limit, start_at, variable_at, function_at, handle_at, creation_at, is_variable, if_last, program_at}
 use Rattle.threader_cli.specs.Spelling.{spell_start, spell_variable, spell_function, spell_handle, spell_creation, spell_program}
 use Rattle.threader_cli.specs.Tree.{Variable, Function, Creation, Program}
@@ -30,6 +29,9 @@ is_proper_variable v = is_name v.name && is_proper_start v.start
 
 abbrev pub is_proper_function : Function → Bool
 is_proper_function f = is_name f.name && is_name f.parameter && are_proper f.body
+
+abbrev pub is_shallow_function : Function → Bool
+is_shallow_function f = nat_le (deepest f.body) 64
 
 abbrev pub is_proper_creation : Creation → Bool
 is_proper_creation c = is_name c.handle && is_name c.function
@@ -115,22 +117,34 @@ last_sound : (p q : Program) (rest : Tokens) → if_last p rest ≡ Some q → (
 last_sound p q [] e = (refl, same_Some p q e)
 last_sound p q (t ∷ ts) e = none_given q e
 
-abbrev pub is_shallow_function : Function → Bool
-is_shallow_function f = nat_le (deepest f.body) 64
+-- a program's spelling from each of its parts on
+abbrev pub from_creations : List Creation → Tokens
+from_creations cs = flat_map spell_creation cs ++ pieces (codes "return 0 ; }")
 
--- the parts of a program's spelling, from the front
-pub regrouped : (vs : List Variable) (fs : List Function) (hs : List (List ℕ)) (cs : List Creation)
-    → spell_program (record { variables = vs; functions = fs; handles = hs; creations = cs })
-    ≡ flat_map spell_variable vs ++ (flat_map spell_function fs ++ (pieces (codes "int main ( ) {") ++ (flat_map spell_handle hs ++ (flat_map spell_creation cs ++ pieces (codes "return 0 ; }")))))
+abbrev pub from_handles : List (List ℕ) → List Creation → Tokens
+from_handles hs cs = flat_map spell_handle hs ++ from_creations cs
+
+abbrev pub from_main : List (List ℕ) → List Creation → Tokens
+from_main hs cs = pieces (codes "int main ( ) {") ++ from_handles hs cs
+
+abbrev pub from_functions : List Function → List (List ℕ) → List Creation → Tokens
+from_functions fs hs cs = flat_map spell_function fs ++ from_main hs cs
+
+abbrev pub from_variables : List Variable → List Function → List (List ℕ) → List Creation → Tokens
+from_variables vs fs hs cs = flat_map spell_variable vs ++ from_functions fs hs cs
+
+pub spell_program-parts : (p : Program) → spell_program p ≡ from_variables p.variables p.functions p.handles p.creations
 unfolding spell_program
-regrouped vs fs hs cs = by_assoc (flat_map spell_variable vs) (flat_map spell_function fs) (pieces (codes "int main ( ) {")) (flat_map spell_handle hs) (flat_map spell_creation cs) (pieces (codes "return 0 ; }"))
+spell_program-parts p =
+    by_assoc (flat_map spell_variable p.variables) (flat_map spell_function p.functions) (pieces (codes "int main ( ) {"))
+    (flat_map spell_handle p.handles) (flat_map spell_creation p.creations) (pieces (codes "return 0 ; }"))
   where
     by_assoc : (a b c d e f : Tokens) → a ++ b ++ c ++ d ++ e ++ f ≡ a ++ (b ++ (c ++ (d ++ (e ++ f))))
     by_assoc a b c d e f = simp append_assoc refl
 
 pub program_sound : (ts : Tokens) (p : Program) → program_at ts ≡ Some p
-    → (ts ≡ spell_program p) × IsTrue (is_proper_program p) × IsTrue (list_all (λ f. nat_le (deepest f.body) 64) p.functions)
-unfolding program_at spell_program
+    → (ts ≡ spell_program p) × IsTrue (is_proper_program p) × IsTrue (is_shallow p)
+unfolding program_at
 program_sound ts p e =
     option_and_then_some _ (each is_variable variable_at ts) _ e (λ variables variables_is e.
     option_and_then_some _ (each (begins (codes "void")) function_at variables.1) _ e (λ functions functions_is e.
@@ -138,29 +152,30 @@ program_sound ts p e =
     option_and_then_some _ (each (begins (codes "pthread_t")) handle_at main) _ e (λ handles handles_is e.
     option_and_then_some _ (each (begins (codes "pthread_create")) creation_at handles.1) _ e (λ creations creations_is e.
     option_and_then_some _ (after (pieces (codes "return 0 ; }")) creations.1) _ e (λ behind behind_is e.
-    let last = last_sound _ _ behind e in
-    let vs = variables.0 in
-    let fs = functions.0 in
-    let hs = handles.0 in
-    let cs = creations.0 in
-    let end : creations.1 ≡ pieces (codes "return 0 ; }") =
+    let found : Program = record { variables = variables.0; functions = functions.0; handles = handles.0; creations = creations.0 } in
+    let last = last_sound found p behind e in
+    let at_end : creations.1 ≡ pieces (codes "return 0 ; }") =
     after_sound (pieces (codes "return 0 ; }")) creations.1 behind behind_is ∙ ap (λ us. pieces (codes "return 0 ; }") ++ us) last.0 in
-    let by_creations : handles.1 ≡ flat_map spell_creation cs ++ pieces (codes "return 0 ; }") =
-    many_spelled _ creation_at spell_creation (λ us x rest e. (creation_sound us x rest e).0) _ handles.1 cs creations.1 creations_is ∙ ap (λ us. flat_map spell_creation cs ++ us) end in
-    let by_handles : main ≡ flat_map spell_handle hs ++ (flat_map spell_creation cs ++ pieces (codes "return 0 ; }")) =
-    many_spelled _ handle_at spell_handle (λ us x rest e. (handle_sound us x rest e).0) _ main hs handles.1 handles_is ∙ ap (λ us. flat_map spell_handle hs ++ us) by_creations in
-    let by_main : functions.1 ≡ pieces (codes "int main ( ) {") ++ (flat_map spell_handle hs ++ (flat_map spell_creation cs ++ pieces (codes "return 0 ; }"))) =
-    after_sound (pieces (codes "int main ( ) {")) functions.1 main main_is ∙ ap (λ us. pieces (codes "int main ( ) {") ++ us) by_handles in
-    let by_functions : variables.1 ≡ flat_map spell_function fs ++ (pieces (codes "int main ( ) {") ++ (flat_map spell_handle hs ++ (flat_map spell_creation cs ++ pieces (codes "return 0 ; }")))) =
-    many_spelled _ function_at spell_function (λ us x rest e. (function_sound us x rest e).0) _ variables.1 fs functions.1 functions_is ∙ ap (λ us. flat_map spell_function fs ++ us) by_main in
-    let by_variables =
-    many_spelled _ variable_at spell_variable (λ us x rest e. (variable_sound us x rest e).0) _ ts vs variables.1 variables_is ∙ ap (λ us. flat_map spell_variable vs ++ us) by_functions in
-    subst (λ q. (ts ≡ spell_program q) × IsTrue (is_proper_program q) × IsTrue (list_all is_shallow_function q.functions)) last.1 (
-      by_variables ∙ sym (regrouped vs fs hs cs),
+    let at_creations : handles.1 ≡ from_creations found.creations =
+    many_spelled _ creation_at spell_creation (λ us x rest e. (creation_sound us x rest e).0) _ handles.1 creations.0 creations.1 creations_is
+    ∙ ap (λ us. flat_map spell_creation found.creations ++ us) at_end in
+    let at_handles : main ≡ from_handles found.handles found.creations =
+    many_spelled _ handle_at spell_handle (λ us x rest e. (handle_sound us x rest e).0) _ main handles.0 handles.1 handles_is
+    ∙ ap (λ us. flat_map spell_handle found.handles ++ us) at_creations in
+    let at_main : functions.1 ≡ from_main found.handles found.creations =
+    after_sound (pieces (codes "int main ( ) {")) functions.1 main main_is ∙ ap (λ us. pieces (codes "int main ( ) {") ++ us) at_handles in
+    let at_functions : variables.1 ≡ from_functions found.functions found.handles found.creations =
+    many_spelled _ function_at spell_function (λ us x rest e. (function_sound us x rest e).0) _ variables.1 functions.0 functions.1 functions_is
+    ∙ ap (λ us. flat_map spell_function found.functions ++ us) at_main in
+    let at_variables : ts ≡ from_variables found.variables found.functions found.handles found.creations =
+    many_spelled _ variable_at spell_variable (λ us x rest e. (variable_sound us x rest e).0) _ ts variables.0 variables.1 variables_is
+    ∙ ap (λ us. flat_map spell_variable found.variables ++ us) at_functions in
+    subst (λ q. (ts ≡ spell_program q) × IsTrue (is_proper_program q) × IsTrue (is_shallow q)) last.1 (
+      at_variables ∙ sym (spell_program-parts found),
       ap₂ ◌&&◌ (ap₂ ◌&&◌ (ap₂ ◌&&◌
-          (many_pass _ variable_at is_proper_variable (λ us x rest e. (variable_sound us x rest e).1) _ ts vs variables.1 variables_is)
-          (many_pass _ function_at is_proper_function (λ us x rest e. (function_sound us x rest e).1) _ variables.1 fs functions.1 functions_is))
-          (many_pass _ handle_at is_name (λ us x rest e. (handle_sound us x rest e).1) _ main hs handles.1 handles_is))
-          (many_pass _ creation_at is_proper_creation (λ us x rest e. (creation_sound us x rest e).1) _ handles.1 cs creations.1 creations_is),
-      many_pass _ function_at is_shallow_function (λ us x rest e. le-leb (deepest x.body) 64 (function_sound us x rest e).2) _ variables.1 fs functions.1 functions_is,
+          (many_pass _ variable_at is_proper_variable (λ us x rest e. (variable_sound us x rest e).1) _ ts variables.0 variables.1 variables_is)
+          (many_pass _ function_at is_proper_function (λ us x rest e. (function_sound us x rest e).1) _ variables.1 functions.0 functions.1 functions_is))
+          (many_pass _ handle_at is_name (λ us x rest e. (handle_sound us x rest e).1) _ main handles.0 handles.1 handles_is))
+          (many_pass _ creation_at is_proper_creation (λ us x rest e. (creation_sound us x rest e).1) _ handles.1 creations.0 creations.1 creations_is),
+      many_pass _ function_at is_shallow_function (λ us x rest e. le-leb (deepest x.body) 64 (function_sound us x rest e).2) _ variables.1 functions.0 functions.1 functions_is,
     )))))))

@@ -2,8 +2,9 @@
 use Rattle.std.proofs.Common.{◌≡◌, ℕ, zero, suc, ◌<◌, ◌≤◌, Bool, true, false, not, ◌&&◌, List, [], ◌∷◌, ◌++◌, length, codes, flat_map, Some, option_map, bytes_eq, append_assoc, refl, sym, ap, ap₂, ◌∙◌, subst, arith, le-leb, leb-true, true≢false}
 use Rattle.std.specs.List.{list_all}
 use Rattle.std.proofs.lemmas.Slice.Eq.{bytes_eq-Decides}
+use Rattle.threader_cli.proofs.ManyLemmas.{Shrinks}
 use Rattle.threader_cli.proofs.ReadingSteps.{left_true, right_true, false_of_not}
-use Rattle.threader_cli.proofs.ReadingShrinks.{Shrinks, statement_shrinks}
+use Rattle.threader_cli.proofs.ReadingShrinks.{statement_shrinks}
 use Rattle.threader_cli.proofs.StatementSound.{is_within, spell-listed}
 use Rattle.threader_cli.specs.Accepted.{takes_else, is_proper, are_proper, depth, deepest}
 use Rattle.threader_cli.specs.Reading.{Tokens, Reading, ◌>>=◌, begins, many, each, assignment_at, body_at, choice_at, else_at, statement_by, statement_at}
