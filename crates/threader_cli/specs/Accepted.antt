@@ -1,5 +1,5 @@
 -- Which texts are programs of the narrow language.
-use Rattle.std.specs.Prelude.{◌≡◌, ℕ, ◌+◌, Bool, true, false, not, ◌&&◌, ◌||◌, max, List, [], ◌∷◌, ◌++◌, map, length, fold, Option, Some, None, bytes_eq, nat_le, IsTrue}
+use Rattle.std.specs.Prelude.{◌≡◌, ℕ, ◌+◌, Bool, true, false, not, ◌&&◌, ◌||◌, max, List, [], ◌∷◌, ◌++◌, map, length, find, is_some, Option, Some, None, bytes_eq, nat_le, IsTrue}
 use Rattle.std.specs.List.{list_any, list_all}
 use Rattle.threader_cli.specs.Graph.{actions_each, graph_of, ThreadGraph}
 use Rattle.threader_cli.specs.Spelling.{spell_program}
@@ -81,25 +81,22 @@ abbrev pub are_new : List (List ℕ) → List (List ℕ) → Bool
 are_new before [] = true
 are_new before (name ∷ names) = not (list_any (bytes_eq name) before) && are_new (before ++ name ∷ []) names
 
+-- the first function of a name
+abbrev pub find_function : List ℕ → List Function → Option Function
+find_function name functions = find (λ f. bytes_eq name f.name) functions
+
 -- A creation's first name is a handle's, and its second a function's that no handle hides.
 abbrev pub is_declared : Program → Creation → Bool
 is_declared p c =
-    list_any (bytes_eq c.handle) p.handles && list_any (bytes_eq c.function) (function_names p)
-    && not (list_any (bytes_eq c.function) p.handles)
+    list_any (bytes_eq c.handle) p.handles && not (list_any (bytes_eq c.function) p.handles) && is_some (find_function c.function p.functions)
 
--- Each name that is used is declared, with the kind of its use.
-abbrev pub variables_declared : Program → Bool
-variables_declared p = list_all (λ f. all_assign_among (variable_names p) f.body) p.functions
+-- No name of the text is declared twice, and each variable that is assigned is declared.
+abbrev pub text_declares : Program → Bool
+text_declares p = are_new [] (variable_names p ++ function_names p) && list_all (λ f. all_assign_among (variable_names p) f.body) p.functions
 
-abbrev pub creations_declared : Program → Bool
-creations_declared p = list_all (is_declared p) p.creations
-
--- No name is declared twice in one scope: that of the text, and that of `main`.
-abbrev pub are_distinct : Program → Bool
-are_distinct p = are_new [] (variable_names p ++ function_names p)
-
-abbrev pub handles_distinct : Program → Bool
-handles_distinct p = are_new [] p.handles
+-- No name of `main` is declared twice, and each handle and each function that a creation names is declared.
+abbrev pub main_declares : Program → Bool
+main_declares p = are_new [] p.handles && list_all (is_declared p) p.creations
 
 -- There is no third creation.
 abbrev pub has_few_creations : Program → Bool
@@ -113,14 +110,16 @@ is_small p = list_all (λ f. nat_le (graph_of f.body).locations 128) p.functions
 abbrev pub is_shallow : Program → Bool
 is_shallow p = list_all (λ f. nat_le (deepest f.body) 64) p.functions
 
+-- what is asked of a program beside its grammar
+abbrev pub is_allowed : Program → Bool
+is_allowed p = has_few_creations p && is_small p && text_declares p && main_declares p
+
 -- The bytes are a text of the narrow language, and this is its tree.
 pub record IsAccepted (bytes : List ℕ) (p : Program) : Type 0 where
   pub spelled : map (λ token. token.text) (tokens_of bytes) ≡ spell_program p
   pub proper : IsTrue (is_proper_program p)
   pub shallow : IsTrue (is_shallow p)
-  pub variables_declared : IsTrue (variables_declared p)
-  pub creations_declared : IsTrue (creations_declared p)
-  pub distinct : IsTrue (are_distinct p)
-  pub handles_distinct : IsTrue (handles_distinct p)
   pub few_creations : IsTrue (has_few_creations p)
   pub small : IsTrue (is_small p)
+  pub text_declared : IsTrue (text_declares p)
+  pub main_declared : IsTrue (main_declares p)

@@ -1,7 +1,9 @@
 -- What the program answers: its words, the file that they name, and the status and text that follow from both.
-use Rattle.std.specs.Prelude.{◌≡◌, ◌≢◌, ◌<◌, ◌≤◌, ℕ, Bool, true, not, List, [], ◌∷◌, ◌++◌, length, filter_map, find, Option, Some, None, option_map, MatchOption, ⊤, codes, decimal, bytes_eq, ◌==◌, IsTrue}
-use Rattle.thr_base.specs.Outside.{StoreMeaning, SinkMeaning, Files, file_named, Lacks, Rose, Appends, WritesFront}
-use Rattle.threader_cli.specs.Accepted.{IsAccepted}
+use Rattle.std.specs.Prelude.{◌≡◌, ◌≢◌, ◌≤◌, ℕ, Bool, true, not, List, [], ◌∷◌, ◌++◌, length, filter_map, find, Some, option_map, codes, decimal, bytes_eq, ◌==◌, IsTrue}
+use Rattle.thr_base.specs.Outside.{StoreMeaning, SinkMeaning, Appends, WritesFront}
+use Rattle.thr_base.specs.Reading.{IsFileNamed, StopsReading}
+use Rattle.thr_base.specs.declared.stops.ReadStop.TheVariants.{Fault, TooLong}
+use Rattle.threader_cli.specs.Accepted.{IsAccepted, find_function}
 use Rattle.threader_cli.specs.Graph.{ThreadGraph, graph_of}
 use Rattle.threader_cli.specs.Table.{IsTable}
 use Rattle.threader_cli.specs.Token.{Token, tokens_of}
@@ -33,28 +35,21 @@ IsMainAt bytes place = option_map (λ token. token.from) (find (λ token. bytes_
 
 -- the graphs of the threads that a program creates, in order
 abbrev pub threads_of : Program → List ThreadGraph
-threads_of p = filter_map (λ c. option_map (λ f. graph_of f.body) (find (λ f. bytes_eq c.function f.name) p.functions)) p.creations
+threads_of p = filter_map (λ c. option_map (λ f. graph_of f.body) (find_function c.function p.functions)) p.creations
 
--- The status and the text that follow from the bytes of the file.
+-- The status and the text that follow from the bytes of a file.
 pub data AnswersBytes (bytes : List ℕ) : ℕ → List ℕ → Type 0 where
-  long : text_limit < length bytes → AnswersBytes bytes 3 (codes "program long\n")
-  -- The text is none of the narrow language.
-  not_built : length bytes ≤ text_limit → ((p : Program) → IsAccepted bytes p → ⊥) → AnswersBytes bytes 3 (refusal_text 14 0)
-  no_thread : length bytes ≤ text_limit → (p : Program) (place : ℕ) → IsAccepted bytes p → p.creations ≡ [] → IsMainAt bytes place
-      → AnswersBytes bytes 3 (refusal_text 10 place)
-  table : length bytes ≤ text_limit → (p : Program) (text : List ℕ) → IsAccepted bytes p → p.creations ≢ [] → IsTable (threads_of p) text
-      → AnswersBytes bytes 0 text
-
--- The file of a name has these bytes, where the files are told.
-abbrev pub HasBytes : Option Files → List ℕ → List ℕ → Type 0
-HasBytes files name bytes = MatchOption files ⊤ (λ told. file_named name told ≡ Some bytes)
+  -- The bytes are no text of the narrow language.
+  not_built : ((p : Program) → IsAccepted bytes p → ⊥) → AnswersBytes bytes 3 (refusal_text 14 0)
+  no_thread : (p : Program) (place : ℕ) → IsAccepted bytes p → p.creations ≡ [] → IsMainAt bytes place → AnswersBytes bytes 3 (refusal_text 10 place)
+  table : (p : Program) (text : List ℕ) → IsAccepted bytes p → p.creations ≢ [] → IsTable (threads_of p) text → AnswersBytes bytes 0 text
 
 -- The status and the text that follow from the words and the store.
 pub data Answers (words : List (List ℕ)) (before after : StoreMeaning) : ℕ → List ℕ → Type 0 where
   usage : ((name : List ℕ) → NamesFile words name → ⊥) → Answers words before after 2 usage_text
-  read_fault : (name : List ℕ) → NamesFile words name → Rose before.faults after.faults
-      → (IsTrue before.honest → Lacks before.files name) → Answers words before after 5 (codes "read fault\n")
-  read : (name bytes : List ℕ) (status : ℕ) (text : List ℕ) → NamesFile words name → HasBytes before.files name bytes
+  read_fault : (name : List ℕ) → NamesFile words name → StopsReading before name text_limit Fault after → Answers words before after 5 (codes "read fault\n")
+  too_long : (name : List ℕ) → NamesFile words name → StopsReading before name text_limit TooLong after → Answers words before after 3 (codes "program long\n")
+  read : (name bytes : List ℕ) (status : ℕ) (text : List ℕ) → NamesFile words name → length bytes ≤ text_limit → IsFileNamed before.files name bytes
       → AnswersBytes bytes status text → Answers words before after status text
 
 -- How a call ends, by its status: its whole answer was written; the sink failed behind a front of it; or there was no memory, and
