@@ -4,9 +4,12 @@ pub mod GraphLemmas
 pub mod ManyLemmas
 pub mod NameLemmas
 pub mod ReachLemmas
+pub mod ReadingComplete
 pub mod ReadingShrinks
 pub mod ReadingSound
 pub mod ReadingSteps
 pub mod SeenLemmas
+pub mod StatementComplete
+pub mod StatementSound
 pub mod TokenLemmas
 pub mod WordLemmas

@@ -1,157 +1,181 @@
 -- What is read is spelled so, and is proper.
-use Rattle.std.proofs.Common.{◌≡◌, ℕ, zero, suc, ◌+◌, ◌<◌, ◌≤◌, max, Bool, true, false, cond, not, ◌&&◌, List, [], ◌∷◌, ◌++◌, length, drop, codes, flat_map, Option, Some, None, bytes_eq, nat_le, IsTrue, ⊎_elim, append_assoc, refl, sym, ap, ap₂, ◌∙◌, subst, arith, le-leb, leb-true}
-use Rattle.std.specs.List.{list_all}
-use Rattle.std.proofs.lemmas.Bool.{cases_Bool}
-use Rattle.std.proofs.lemmas.Option.{cond_some, same_Some}
-use Rattle.std.proofs.lemmas.Slice.Eq.{bytes_eq-Decides}
-use Rattle.threader_cli.proofs.ReadingSteps.{none_given, bind_ok, map_ok, chosen}
-use Rattle.threader_cli.specs.Accepted.{takes_else, is_proper, are_proper, is_proper_start, is_proper_program, depth, deepest}
-use Rattle.threader_cli.specs.Reading.{Tokens, Reading, begins, after, name_at, number_at, many, each, sign_at, assignment_at, body_at, choice_at, else_at, statement_by, statement_at, level_limit, start_at, variable_at, function_at, handle_at, creation_at, is_variable, if_last, program_at}
-use Rattle.threader_cli.specs.Spelling.{choice, spell_sign, spell_statement, spell_statements, spell_start, spell_variable, spell_function, spell_handle, spell_creation, spell_program}
-use Rattle.threader_cli.specs.Tree.{Statement, Block, Empty, Assign, AssertFalse, If, IfElse, While, Statements, End, Then, Variable, Function, Creation, Program, listed}
-use Rattle.threader_cli.specs.Word.{pieces, is_name, is_number}
+use Rattle.std.proofs.Common.{◌≡◌, ℕ, ◌≤◌, Bool, true, ◌&&◌, List, [], ◌∷◌, ◌++◌, drop, codes, flat_map, Option, Some, nat_le, IsTrue, append_assoc, refl, sym, ap, ap₂, ◌∙◌, subst, le-leb}
+use Rattle.std.proofs.lemmas.Option.{option_and_then_some, same_Some}
+use Rattle.threader_cli.proofs.ReadingSteps.{none_given, option_map_some, chosen}
+pub use Rattle.threader_cli.proofs.StatementSound.{after_sound, begins_sound, name_sound, number_sound, sign_sound, IsRead, IsBodyRead, Reads, statement_sound, body_sound}
+use Rattle.threader_cli.proofs.StatementSound.{many_spelled, many_pass}
+use Rattle.threader_cli.specs.Accepted.{are_proper, is_proper_start, is_proper_program, is_shallow, deepest}
+use Rattle.threader_cli.specs.Reading.{Tokens, begins, after, name_at, number_at, each, body_at, statement_at, level_limit, start_at, variable_at, function_at, handle_at, creation_at, is_variable, if_last, program_at}
+use Rattle.threader_cli.specs.Spelling.{spell_start, spell_variable, spell_function, spell_handle, spell_creation, spell_program}
+use Rattle.threader_cli.specs.Tree.{Variable, Function, Creation, Program}
+use Rattle.threader_cli.specs.Word.{pieces, is_name}
 
--- ---- words, names and numbers
+-- ---- declarations
 
-same_word : (t x : List ℕ) → bytes_eq t x ≡ true → t ≡ x
-same_word t x = (bytes_eq-Decides t x).0
-
-pub after_sound : (xs : List (List ℕ)) (ts rest : Tokens) → after xs ts ≡ Some rest → ts ≡ xs ++ rest
-after_sound [] ts rest e = same_Some ts rest e
-after_sound (x ∷ xs) [] rest e = none_given rest e
-after_sound (x ∷ xs) (t ∷ ts) rest e =
-    ⊎_elim
-      (λ yes. ap₂ ◌∷◌ (same_word t x yes.0) (after_sound xs ts rest yes.1))
-      (λ no. none_given rest no.1)
-      (chosen (bytes_eq t x) _ _ _ e)
-
-pub begins_sound : (x : List ℕ) (ts : Tokens) → begins x ts ≡ true → ts ≡ x ∷ drop 1 ts
-begins_sound x [] e = absurd (grind arith)
-begins_sound x (t ∷ ts) e = ap (λ u. u ∷ ts) (same_word t x e)
-
-pub name_sound : (ts : Tokens) (x : List ℕ) (rest : Tokens) → name_at ts ≡ Some (x, rest) → (ts ≡ x ∷ rest) × (is_name x ≡ true)
-name_sound [] x rest e = none_given _ e
-name_sound (t ∷ ts) x rest e =
-    let is = cond_some (is_name t) (t, ts) (x, rest) e in
-    (ap (λ y. y.0 ∷ y.1) is.1, ap (λ y. is_name y.0) (sym is.1) ∙ is.0)
-
-pub number_sound : (ts : Tokens) (x : List ℕ) (rest : Tokens) → number_at ts ≡ Some (x, rest) → (ts ≡ x ∷ rest) × (is_number x ≡ true)
-number_sound [] x rest e = none_given _ e
-number_sound (t ∷ ts) x rest e =
-    let is = cond_some (is_number t) (t, ts) (x, rest) e in
-    (ap (λ y. y.0 ∷ y.1) is.1, ap (λ y. is_number y.0) (sym is.1) ∙ is.0)
-
-pub sign_sound : (ts : Tokens) → ts ≡ spell_sign (sign_at ts).0 ++ (sign_at ts).1
-sign_sound ts = by_test (begins (codes "-") ts) (begins_sound (codes "-") ts)
+start_sound : (ts : Tokens) (x : Option (List ℕ)) (rest : Tokens) → start_at ts ≡ Some (x, rest) → (ts ≡ spell_start x ++ rest) × (is_proper_start x ≡ true)
+start_sound ts x rest e =
+    chosen (begins (codes "=") ts) _ _ _ e
+    (λ starts e.
+    option_map_some _ (number_at (drop 1 ts)) _ e (λ digits digits_is e.
+    let number = number_sound (drop 1 ts) digits.0 digits.1 digits_is in
+    subst P e (begins_sound (codes "=") ts starts ∙ ap (λ us. codes "=" ∷ us) number.0, number.1)))
+    (λ _ e. subst P (same_Some _ _ e) (refl, refl))
   where
-    by_test : (b : Bool) → (b ≡ true → ts ≡ codes "-" ∷ drop 1 ts)
-        → let found : Bool × Tokens = cond b (true, drop 1 ts) (false, ts) in ts ≡ spell_sign found.0 ++ found.1
-    by_test true minus = minus refl
-    by_test false minus = refl
+    P : Option (List ℕ) × Tokens → Type 0
+    P y = (ts ≡ spell_start y.0 ++ y.1) × (is_proper_start y.0 ≡ true)
 
--- ---- lists of what a reading reads
+abbrev pub is_proper_variable : Variable → Bool
+is_proper_variable v = is_name v.name && is_proper_start v.start
 
-many_spelled : {A : Type 0} (test : Tokens → Bool) (read : Reading A) (spell : A → Tokens)
-    → ((ts : Tokens) (x : A) (rest : Tokens) → read ts ≡ Some (x, rest) → ts ≡ spell x ++ rest)
-    → (n : ℕ) (ts : Tokens) (xs : List A) (rest : Tokens) → many test read n ts ≡ Some (xs, rest) → ts ≡ flat_map spell xs ++ rest
-unfolding many
-many_spelled test read spell sound zero ts xs rest e = none_given _ e
-many_spelled test read spell sound (suc n) ts xs rest e =
-    ⊎_elim
-      (λ yes. let one = bind_ok (read ts) _ _ yes.1 in
-        let more = map_ok (many test read n one.0.1) _ _ one.2 in
-        let behind = many_spelled test read spell sound n one.0.1 more.0.0 more.0.1 more.1 in
-        subst (λ y. ts ≡ flat_map spell y.0 ++ y.1) (same_Some _ _ more.2)
-          (sound ts one.0.0 one.0.1 one.1 ∙ ap (λ us. spell one.0.0 ++ us) behind ∙ sym (append_assoc (spell one.0.0) (flat_map spell more.0.0) more.0.1)))
-      (λ no. subst (λ y. ts ≡ flat_map spell y.0 ++ y.1) (same_Some _ _ no.1) refl)
-      (chosen (test ts) _ _ _ e)
+abbrev pub is_proper_function : Function → Bool
+is_proper_function f = is_name f.name && is_name f.parameter && are_proper f.body
 
-many_pass : {A : Type 0} (test : Tokens → Bool) (read : Reading A) (good : A → Bool)
-    → ((ts : Tokens) (x : A) (rest : Tokens) → read ts ≡ Some (x, rest) → good x ≡ true)
-    → (n : ℕ) (ts : Tokens) (xs : List A) (rest : Tokens) → many test read n ts ≡ Some (xs, rest) → list_all good xs ≡ true
-unfolding many
-many_pass test read good sound zero ts xs rest e = none_given _ e
-many_pass test read good sound (suc n) ts xs rest e =
-    ⊎_elim
-      (λ yes. let one = bind_ok (read ts) _ _ yes.1 in
-        let more = map_ok (many test read n one.0.1) _ _ one.2 in
-        subst (λ y. list_all good y.0 ≡ true) (same_Some _ _ more.2)
-          (ap₂ ◌&&◌ (sound ts one.0.0 one.0.1 one.1) (many_pass test read good sound n one.0.1 more.0.0 more.0.1 more.1)))
-      (λ no. subst (λ y. list_all good y.0 ≡ true) (same_Some _ _ no.1) refl)
-      (chosen (test ts) _ _ _ e)
+abbrev pub is_shallow_function : Function → Bool
+is_shallow_function f = nat_le (deepest f.body) 64
 
-spell-listed : (body : List Statement) → spell_statements (listed body) ≡ flat_map spell_statement body
-spell-listed [] = refl
-spell-listed (s ∷ body) = ap (λ ts. spell_statement s ++ ts) (spell-listed body)
+abbrev pub is_proper_creation : Creation → Bool
+is_proper_creation c = is_name c.handle && is_name c.function
 
-proper-listed : (body : List Statement) → are_proper (listed body) ≡ list_all is_proper body
-proper-listed [] = refl
-proper-listed (s ∷ body) = ap (λ b. is_proper s && b) (proper-listed body)
+variable_sound : (ts : Tokens) (v : Variable) (rest : Tokens) → variable_at ts ≡ Some (v, rest)
+    → (ts ≡ spell_variable v ++ rest) × (is_proper_variable v ≡ true)
+unfolding variable_at
+variable_sound ts v rest e =
+    option_and_then_some _ (after (pieces (codes "int")) ts) _ e (λ named named_is e.
+    option_and_then_some _ (name_at named) _ e (λ name name_is e.
+    option_and_then_some _ (start_at name.1) _ e (λ start start_is e.
+    option_and_then_some _ (after (pieces (codes ";")) start.1) _ e (λ behind behind_is e.
+    let is_name = name_sound named name.0 name.1 name_is in
+    let is_start = start_sound name.1 start.0 start.1 start_is in
+    subst (λ y. (ts ≡ spell_variable y.0 ++ y.1) × (is_proper_variable y.0 ≡ true)) (same_Some _ _ e) (
+      after_sound (pieces (codes "int")) ts named named_is
+          ∙ ap (λ us. codes "int" ∷ us) (is_name.0 ∙ ap (λ us. name.0 ∷ us)
+          (is_start.0 ∙ ap (λ us. spell_start start.0 ++ us) (after_sound (pieces (codes ";")) start.1 behind behind_is)
+          ∙ sym (append_assoc (spell_start start.0) (pieces (codes ";")) behind))),
+      ap₂ ◌&&◌ is_name.1 is_start.1,
+    )))))
 
-abbrev is_within : ℕ → Statement → Bool
-is_within n s = nat_le (depth s) n
+function_sound : (ts : Tokens) (f : Function) (rest : Tokens) → function_at ts ≡ Some (f, rest)
+    → (ts ≡ spell_function f ++ rest) × (is_proper_function f ≡ true) × (deepest f.body ≤ level_limit)
+unfolding function_at
+function_sound ts f rest e =
+    option_and_then_some _ (after (pieces (codes "void *")) ts) _ e (λ named named_is e.
+    option_and_then_some _ (name_at named) _ e (λ name name_is e.
+    option_and_then_some _ (after (pieces (codes "( void *")) name.1) _ e (λ parameters parameters_is e.
+    option_and_then_some _ (name_at parameters) _ e (λ parameter parameter_is e.
+    option_and_then_some _ (after (pieces (codes ") {")) parameter.1) _ e (λ inside inside_is e.
+    option_and_then_some _ (body_at (statement_at level_limit) inside) _ e (λ found found_is e.
+    let is_name = name_sound named name.0 name.1 name_is in
+    let is_parameter = name_sound parameters parameter.0 parameter.1 parameter_is in
+    let body = body_sound level_limit (statement_at level_limit) (statement_sound level_limit) inside found.0 found.1 found_is in
+    subst (λ y. (ts ≡ spell_function y.0 ++ y.1) × (is_proper_function y.0 ≡ true) × (deepest y.0.body ≤ level_limit)) (same_Some _ _ e) (
+      after_sound (pieces (codes "void *")) ts named named_is
+          ∙ ap (λ us. pieces (codes "void *") ++ us) (is_name.0
+          ∙ ap (λ us. name.0 ∷ us) (after_sound (pieces (codes "( void *")) name.1 parameters parameters_is
+          ∙ ap (λ us. pieces (codes "( void *") ++ us) (is_parameter.0
+          ∙ ap (λ us. parameter.0 ∷ us) (after_sound (pieces (codes ") {")) parameter.1 inside inside_is
+          ∙ ap (λ us. pieces (codes ") {") ++ us) body.spelled)))),
+      ap₂ ◌&&◌ (ap₂ ◌&&◌ is_name.1 is_parameter.1) body.proper,
+      body.shallow,
+    )))))))
 
-deepest-listed : (n : ℕ) (body : List Statement) → list_all (is_within n) body ≡ true → deepest (listed body) ≤ n
-deepest-listed n [] e = omega arith
-deepest-listed n (s ∷ body) e =
-    let both : (is_within n s ≡ true) × (list_all (is_within n) body ≡ true) = grind arith in
-    omega (arith, leb-true (depth s) n both.0, deepest-listed n body both.1)
+handle_sound : (ts : Tokens) (x : List ℕ) (rest : Tokens) → handle_at ts ≡ Some (x, rest) → (ts ≡ spell_handle x ++ rest) × (is_name x ≡ true)
+unfolding handle_at
+handle_sound ts x rest e =
+    option_and_then_some _ (after (pieces (codes "pthread_t")) ts) _ e (λ named named_is e.
+    option_and_then_some _ (name_at named) _ e (λ name name_is e.
+    option_and_then_some _ (after (pieces (codes ";")) name.1) _ e (λ behind behind_is e.
+    let is = name_sound named name.0 name.1 name_is in
+    subst (λ y. (ts ≡ spell_handle y.0 ++ y.1) × (is_name y.0 ≡ true)) (same_Some _ _ e) (
+      after_sound (pieces (codes "pthread_t")) ts named named_is
+          ∙ ap (λ us. codes "pthread_t" ∷ us) (is.0 ∙ ap (λ us. name.0 ∷ us) (after_sound (pieces (codes ";")) name.1 behind behind_is)),
+      is.1,
+    ))))
 
--- ---- statements
+creation_sound : (ts : Tokens) (c : Creation) (rest : Tokens) → creation_at ts ≡ Some (c, rest)
+    → (ts ≡ spell_creation c ++ rest) × (is_proper_creation c ≡ true)
+unfolding creation_at
+creation_sound ts c rest e =
+    option_and_then_some _ (after (pieces (codes "pthread_create ( &")) ts) _ e (λ first first_is e.
+    option_and_then_some _ (name_at first) _ e (λ handle handle_is e.
+    option_and_then_some _ (after (pieces (codes ", 0 ,")) handle.1) _ e (λ second second_is e.
+    option_and_then_some _ (name_at second) _ e (λ function function_is e.
+    option_and_then_some _ (after (pieces (codes ", 0 ) ;")) function.1) _ e (λ behind behind_is e.
+    let is_handle = name_sound first handle.0 handle.1 handle_is in
+    let is_function = name_sound second function.0 function.1 function_is in
+    subst (λ y. (ts ≡ spell_creation y.0 ++ y.1) × (is_proper_creation y.0 ≡ true)) (same_Some _ _ e) (
+      after_sound (pieces (codes "pthread_create ( &")) ts first first_is
+          ∙ ap (λ us. pieces (codes "pthread_create ( &") ++ us) (is_handle.0
+          ∙ ap (λ us. handle.0 ∷ us) (after_sound (pieces (codes ", 0 ,")) handle.1 second second_is
+          ∙ ap (λ us. pieces (codes ", 0 ,") ++ us) (is_function.0
+          ∙ ap (λ us. function.0 ∷ us) (after_sound (pieces (codes ", 0 ) ;")) function.1 behind behind_is)))),
+      ap₂ ◌&&◌ is_handle.1 is_function.1,
+    ))))))
 
--- these tokens are the statement, which is proper and not too deep, and these that follow
-pub record IsRead (n : ℕ) (ts : Tokens) (s : Statement) (rest : Tokens) : Type 0 where
-  pub spelled : ts ≡ spell_statement s ++ rest
-  pub proper : is_proper s ≡ true
-  pub shallow : depth s ≤ n
-  -- an `else` that follows belongs to no other statement
-  pub free : takes_else s ≡ true → begins (codes "else") rest ≡ false
+-- ---- programs
 
-pub record IsBodyRead (n : ℕ) (ts : Tokens) (body : Statements) (rest : Tokens) : Type 0 where
-  pub spelled : ts ≡ spell_statements body ++ pieces (codes "}") ++ rest
-  pub proper : are_proper body ≡ true
-  pub shallow : deepest body ≤ n
+last_sound : (p q : Program) (rest : Tokens) → if_last p rest ≡ Some q → (rest ≡ []) × (p ≡ q)
+last_sound p q [] e = (refl, same_Some p q e)
+last_sound p q (t ∷ ts) e = none_given q e
 
-abbrev pub Reads : ℕ → Reading Statement → Type 0
-Reads n read = (ts : Tokens) (s : Statement) (rest : Tokens) → read ts ≡ Some (s, rest) → IsRead n ts s rest
+-- a program's spelling from each of its parts on
+abbrev pub from_creations : List Creation → Tokens
+from_creations cs = flat_map spell_creation cs ++ pieces (codes "return 0 ; }")
 
--- a statement that begins with the token is read from tokens
-abbrev IsReadBy : ℕ → List ℕ → Tokens → Statement × Tokens → Type 0
-IsReadBy n first ts found = IsRead n (first ∷ ts) found.0 found.1
+abbrev pub from_handles : List (List ℕ) → List Creation → Tokens
+from_handles hs cs = flat_map spell_handle hs ++ from_creations cs
 
-never : {P : Type 0} → false ≡ true → P
-never e = absurd (grind arith)
+abbrev pub from_main : List (List ℕ) → List Creation → Tokens
+from_main hs cs = pieces (codes "int main ( ) {") ++ from_handles hs cs
 
-assignment_sound : (n : ℕ) (ts : Tokens) (s : Statement) (rest : Tokens) → assignment_at ts ≡ Some (s, rest) → IsRead (suc n) ts s rest
-unfolding assignment_at
-assignment_sound n ts s rest e =
-    let name = bind_ok (name_at ts) _ _ e in
-    let value = bind_ok (after (pieces (codes "=")) name.0.1) _ _ name.2 in
-    let digits = bind_ok (number_at (sign_at value.0).1) _ _ value.2 in
-    let behind = bind_ok (after (pieces (codes ";")) digits.0.1) _ _ digits.2 in
-    let named = name_sound ts name.0.0 name.0.1 name.1 in
-    let number = number_sound (sign_at value.0).1 digits.0.0 digits.0.1 digits.1 in
-    let is_value : ts ≡ name.0.0 ∷ codes "=" ∷ value.0 = named.0 ∙ ap (λ us. name.0.0 ∷ us) (after_sound (pieces (codes "=")) name.0.1 value.0 value.1) in
-    let is_digits : value.0 ≡ spell_sign (sign_at value.0).0 ++ (digits.0.0 ∷ codes ";" ∷ behind.0) =
-        sign_sound value.0 ∙ ap (λ us. spell_sign (sign_at value.0).0 ++ us) (number.0 ∙ ap (λ us. digits.0.0 ∷ us) (after_sound (pieces (codes ";")) digits.0.1 behind.0 behind.1)) in
-    subst (λ y. IsRead (suc n) ts y.0 y.1) (same_Some _ _ behind.2) (record {
-      spelled = is_value ∙ ap (λ us. name.0.0 ∷ codes "=" ∷ us) (is_digits ∙ sym (append_assoc (spell_sign (sign_at value.0).0) (digits.0.0 ∷ pieces (codes ";")) behind.0));
-      proper = ap₂ ◌&&◌ named.1 number.1;
-      shallow = omega arith;
-      free = never })
+abbrev pub from_functions : List Function → List (List ℕ) → List Creation → Tokens
+from_functions fs hs cs = flat_map spell_function fs ++ from_main hs cs
 
-body_sound : (n : ℕ) (read : Reading Statement) → Reads n read → (ts : Tokens) (body : Statements) (rest : Tokens)
-    → body_at read ts ≡ Some (body, rest) → IsBodyRead n ts body rest
-unfolding body_at
-body_sound n read sound ts body rest e =
-    let test : Tokens → Bool = λ rest. not (begins (codes "}") rest) in
-    let found = bind_ok (each test read ts) _ _ e in
-    let behind = bind_ok (after (pieces (codes "}")) found.0.1) _ _ found.2 in
-    let spelled = many_spelled test read spell_statement (λ us s more e. (sound us s more e).spelled) (suc (length ts)) ts found.0.0 found.0.1 found.1 in
-    let proper = many_pass test read is_proper (λ us s more e. (sound us s more e).proper) (suc (length ts)) ts found.0.0 found.0.1 found.1 in
-    let shallow = many_pass test read (is_within n) (λ us s more e. le-leb (depth s) n (sound us s more e).shallow) (suc (length ts)) ts found.0.0 found.0.1 found.1 in
-    subst (λ y. IsBodyRead n ts y.0 y.1) (same_Some _ _ behind.2) (record {
-      spelled = spelled ∙ ap₂ ◌++◌ (sym (spell-listed found.0.0)) (after_sound (pieces (codes "}")) found.0.1 behind.0 behind.1)
-          ∙ sym (append_assoc (spell_statements (listed found.0.0)) (pieces (codes "}")) behind.0);
-      proper = proper-listed found.0.0 ∙ proper;
-      shallow = deepest-listed n found.0.0 shallow })
+abbrev pub from_variables : List Variable → List Function → List (List ℕ) → List Creation → Tokens
+from_variables vs fs hs cs = flat_map spell_variable vs ++ from_functions fs hs cs
+
+pub spell_program-parts : (p : Program) → spell_program p ≡ from_variables p.variables p.functions p.handles p.creations
+unfolding spell_program
+spell_program-parts p =
+    by_assoc (flat_map spell_variable p.variables) (flat_map spell_function p.functions) (pieces (codes "int main ( ) {"))
+    (flat_map spell_handle p.handles) (flat_map spell_creation p.creations) (pieces (codes "return 0 ; }"))
+  where
+    by_assoc : (a b c d e f : Tokens) → a ++ b ++ c ++ d ++ e ++ f ≡ a ++ (b ++ (c ++ (d ++ (e ++ f))))
+    by_assoc a b c d e f = simp append_assoc refl
+
+pub program_sound : (ts : Tokens) (p : Program) → program_at ts ≡ Some p
+    → (ts ≡ spell_program p) × IsTrue (is_proper_program p) × IsTrue (is_shallow p)
+unfolding program_at
+program_sound ts p e =
+    option_and_then_some _ (each is_variable variable_at ts) _ e (λ variables variables_is e.
+    option_and_then_some _ (each (begins (codes "void")) function_at variables.1) _ e (λ functions functions_is e.
+    option_and_then_some _ (after (pieces (codes "int main ( ) {")) functions.1) _ e (λ main main_is e.
+    option_and_then_some _ (each (begins (codes "pthread_t")) handle_at main) _ e (λ handles handles_is e.
+    option_and_then_some _ (each (begins (codes "pthread_create")) creation_at handles.1) _ e (λ creations creations_is e.
+    option_and_then_some _ (after (pieces (codes "return 0 ; }")) creations.1) _ e (λ behind behind_is e.
+    let found : Program = record { variables = variables.0; functions = functions.0; handles = handles.0; creations = creations.0 } in
+    let last = last_sound found p behind e in
+    let at_end : creations.1 ≡ pieces (codes "return 0 ; }") =
+    after_sound (pieces (codes "return 0 ; }")) creations.1 behind behind_is ∙ ap (λ us. pieces (codes "return 0 ; }") ++ us) last.0 in
+    let at_creations : handles.1 ≡ from_creations found.creations =
+    many_spelled _ creation_at spell_creation (λ us x rest e. (creation_sound us x rest e).0) _ handles.1 creations.0 creations.1 creations_is
+    ∙ ap (λ us. flat_map spell_creation found.creations ++ us) at_end in
+    let at_handles : main ≡ from_handles found.handles found.creations =
+    many_spelled _ handle_at spell_handle (λ us x rest e. (handle_sound us x rest e).0) _ main handles.0 handles.1 handles_is
+    ∙ ap (λ us. flat_map spell_handle found.handles ++ us) at_creations in
+    let at_main : functions.1 ≡ from_main found.handles found.creations =
+    after_sound (pieces (codes "int main ( ) {")) functions.1 main main_is ∙ ap (λ us. pieces (codes "int main ( ) {") ++ us) at_handles in
+    let at_functions : variables.1 ≡ from_functions found.functions found.handles found.creations =
+    many_spelled _ function_at spell_function (λ us x rest e. (function_sound us x rest e).0) _ variables.1 functions.0 functions.1 functions_is
+    ∙ ap (λ us. flat_map spell_function found.functions ++ us) at_main in
+    let at_variables : ts ≡ from_variables found.variables found.functions found.handles found.creations =
+    many_spelled _ variable_at spell_variable (λ us x rest e. (variable_sound us x rest e).0) _ ts variables.0 variables.1 variables_is
+    ∙ ap (λ us. flat_map spell_variable found.variables ++ us) at_functions in
+    subst (λ q. (ts ≡ spell_program q) × IsTrue (is_proper_program q) × IsTrue (is_shallow q)) last.1 (
+      at_variables ∙ sym (spell_program-parts found),
+      ap₂ ◌&&◌ (ap₂ ◌&&◌ (ap₂ ◌&&◌
+          (many_pass _ variable_at is_proper_variable (λ us x rest e. (variable_sound us x rest e).1) _ ts variables.0 variables.1 variables_is)
+          (many_pass _ function_at is_proper_function (λ us x rest e. (function_sound us x rest e).1) _ variables.1 functions.0 functions.1 functions_is))
+          (many_pass _ handle_at is_name (λ us x rest e. (handle_sound us x rest e).1) _ main handles.0 handles.1 handles_is))
+          (many_pass _ creation_at is_proper_creation (λ us x rest e. (creation_sound us x rest e).1) _ handles.1 creations.0 creations.1 creations_is),
+      many_pass _ function_at is_shallow_function (λ us x rest e. le-leb (deepest x.body) 64 (function_sound us x rest e).2) _ variables.1 functions.0 functions.1 functions_is,
+    )))))))

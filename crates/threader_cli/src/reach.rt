@@ -1,4 +1,4 @@
-ghost use Rattle.std.specs.Prelude.{◌<◌, vec_len, IfOk, OnOk};
+ghost use Rattle.std.specs.Prelude.{◌≡◌, ◌<◌, false, replicate, vec_len, IfOk, OnOk};
 ghost use Rattle.threader_cli.specs.Reach.{HasEnds, IsReached, Marks};
 ghost use Rattle.threader_cli.specs.Seen.{graph_of};
 
@@ -10,7 +10,7 @@ pub fn reached(alloc: Global, graph: &Graph) -> Result<Vec<bool>, AllocError>
     requires { HasEnds (graph_of graph.now) }
     ensures { IfOk result (λ reached. IsReached (graph_of graph.now) reached.items) }
 {
-    let mut reached = vec![in alloc; false; graph.locations as usize]?;
+    let mut reached = unmarked(alloc, graph.locations)?;
     let mut new = Vec::new(alloc);
     reached[1] = true;
     new.push(1)?;
@@ -34,4 +34,10 @@ fn mark(location: u32, reached: &mut Vec<bool>, new: &mut Vec<u32>) -> Result<()
         new.push(location)?;
     }
     Ok(())
+}
+
+fn unmarked(alloc: Global, count: u32) -> Result<Vec<bool>, AllocError>
+    ensures { IfOk result (λ marks. marks.items ≡ replicate count false) }
+{
+    vec![in alloc; false; count as usize]
 }
