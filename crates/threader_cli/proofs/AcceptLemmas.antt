@@ -1,9 +1,13 @@
 -- Names in the statements of a block.
-use Rattle.std.proofs.Common.{◌≡◌, ℕ, Bool, true, false, cond, not, ◌&&◌, bytes_eq, List, [], ◌∷◌, ◌++◌, Vec, Global, refl, sym, ap, ◌∙◌, append_assoc}
+use Rattle.std.proofs.Common.{◌≡◌, ℕ, Bool, true, false, cond, not, ◌&&◌, bytes_eq, List, [], ◌∷◌, ◌++◌, Vec, Global, refl, sym, ap, ◌∙◌, append_assoc, Some, None, ◌<◌, ◌+◌, ◌^◌, nat_le, arith}
+use Rattle.std.proofs.lemmas.Bool.Decides.{nat_tests}
 use Rattle.std.proofs.lemmas.List.{append-nil}
-use Rattle.std.specs.List.{list_any}
+use Rattle.std.specs.List.{list_any, list_all}
+use Rattle.threader_cli.proofs.ReadingSteps.{left_true, right_true}
 use Rattle.threader_cli.proofs.SeenLemmas.{statement_of-Block}
-use Rattle.threader_cli.specs.Accepted.{assigns_among, all_assign_among, are_new}
+use Rattle.threader_cli.specs.Accepted.{assigns_among, all_assign_among, are_new, find_function}
+use Rattle.threader_cli.specs.Graph.{actions_each, graph_of}
+use Rattle.threader_cli.specs.Tree.{Function}
 use Rattle.threader_cli.specs.Seen.{statement_of, statements_of}
 use Rattle.threader_cli.specs.declared.tree.Statement.{Statement, Block}
 
@@ -20,3 +24,17 @@ are_new_append before (x ∷ xs) ys = by_test (list_any (bytes_eq x) before)
         → not b && are_new (before ++ x ∷ []) (xs ++ ys) ≡ (not b && are_new (before ++ x ∷ []) xs) && are_new (before ++ x ∷ xs) ys
     by_test true e = refl
     by_test false e = e
+
+-- what holds of each function holds of one that is found
+pub found_all : (p : Function → Bool) (name : List ℕ) (functions : List Function) (f : Function) → list_all p functions ≡ true → find_function name functions ≡ Some f → p f ≡ true
+found_all p name [] f all found = cc
+found_all p name (g ∷ functions) f all found = by_test (bytes_eq name g.name) found (found_all p name functions f (right_true (p g) _ all))
+  where
+    by_test : (b : Bool) → cond b (Some g) (find_function name functions) ≡ Some f → (find_function name functions ≡ Some f → p f ≡ true) → p f ≡ true
+    by_test true e later = let same : g ≡ f = cc in ap p (sym same) ∙ left_true (p g) _ all
+    by_test false e later = later e
+
+-- a function that is found is small
+pub found_small : (name : List ℕ) (functions : List Function) (f : Function) → list_all (λ g. nat_le (graph_of g.body).locations 128) functions ≡ true → find_function name functions ≡ Some f
+    → actions_each f.body < 2 ^ 31
+found_small name functions f all found = let small = found_all (λ g. nat_le (graph_of g.body).locations 128) name functions f all found in grind (arith, nat_tests)

@@ -13,3 +13,4 @@ pub mod StatementComplete
 pub mod StatementSound
 pub mod TokenLemmas
 pub mod WordLemmas
+pub mod WordsLemmas

@@ -1,5 +1,5 @@
 -- What the program answers: its words, the file that they name, and the status and text that follow from both.
-use Rattle.std.specs.Prelude.{◌≡◌, ◌≢◌, ◌≤◌, ℕ, Bool, true, not, List, [], ◌∷◌, ◌++◌, length, filter_map, find, Some, option_map, codes, decimal, bytes_eq, ◌==◌, IsTrue}
+use Rattle.std.specs.Prelude.{◌≡◌, ◌≢◌, ◌≤◌, ℕ, Bool, true, not, List, [], ◌∷◌, ◌++◌, length, filter_map, find, Option, Some, option_map, codes, decimal, bytes_eq, ◌==◌, IsTrue}
 use Rattle.thr_base.specs.Outside.{StoreMeaning, SinkMeaning, Appends, WritesFront}
 use Rattle.thr_base.specs.Reading.{IsFileNamed, StopsReading}
 use Rattle.thr_base.specs.declared.stops.ReadStop.TheVariants.{Fault, TooLong}
@@ -33,9 +33,13 @@ text_limit = 1048576
 abbrev pub IsMainAt : List ℕ → ℕ → Type 0
 IsMainAt bytes place = option_map (λ token. token.from) (find (λ token. bytes_eq token.text (codes "main")) (tokens_of bytes)) ≡ Some place
 
+-- the graph of the thread that a creation makes
+abbrev pub thread_of : Program → Creation → Option ThreadGraph
+thread_of p c = option_map (λ f. graph_of f.body) (find_function c.function p.functions)
+
 -- the graphs of the threads that a program creates, in order
 abbrev pub threads_of : Program → List ThreadGraph
-threads_of p = filter_map (λ c. option_map (λ f. graph_of f.body) (find_function c.function p.functions)) p.creations
+threads_of p = filter_map (thread_of p) p.creations
 
 -- The status and the text that follow from the bytes of a file.
 pub data AnswersBytes (bytes : List ℕ) : ℕ → List ℕ → Type 0 where
@@ -58,3 +62,8 @@ pub data Ends (words : List (List ℕ)) (before after : StoreMeaning) (old new :
   whole : (status : ℕ) (text : List ℕ) → Answers words before after status text → Appends old text new → Ends words before after old new status
   write_fault : (status : ℕ) (text : List ℕ) → Answers words before after status text → WritesFront old text new → Ends words before after old new 6
   no_memory : (name : List ℕ) → NamesFile words name → new ≡ old → Ends words before after old new 7
+
+-- A text was written and its status is the result, or the sink failed behind a front of it.
+pub data Wrote (old : SinkMeaning) (text : List ℕ) (new : SinkMeaning) (status : ℕ) : ℕ → Type 0 where
+  all : Appends old text new → Wrote old text new status status
+  front : WritesFront old text new → Wrote old text new status 6

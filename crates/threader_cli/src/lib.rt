@@ -2,12 +2,18 @@
 #![tactic(auto)]
 
 mod accept;
+mod answer;
 mod cursor;
 mod graph;
 mod names;
 mod program;
 mod reach;
 mod statement;
+mod table;
+mod threads;
 mod token;
 mod tree;
 mod word;
+mod words;
+
+pub use answer::threader_serial;
