@@ -1,6 +1,8 @@
 pub mod AcceptLemmas
 pub mod BodyLemmas
+pub mod GraphEnds
 pub mod GraphLemmas
+pub mod LeastLemmas
 pub mod ManyLemmas
 pub mod NameLemmas
 pub mod ReachLemmas
