@@ -1,4 +1,5 @@
 pub mod AcceptLemmas
+pub mod AnswerLemmas
 pub mod BodyLemmas
 pub mod GraphEnds
 pub mod GraphLemmas

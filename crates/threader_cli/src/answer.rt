@@ -77,8 +77,7 @@ fn answer_to(alloc: Global, bytes: &[u8]) -> Result<Answer, AllocError>
 }
 
 fn refusal(alloc: Global, code: u8, place: u32) -> Result<Answer, AllocError>
-    ensures status { IfOk result (λ answer. answer.status ≡ 3) }
-    ensures text { IfOk result (λ answer. answer.text.items ≡ refusal_text code place) }
+    ensures { IfOk result (λ answer. (answer.status ≡ 3) × (answer.text.items ≡ refusal_text code place)) }
 {
     let mut text = Vec::from_slice(alloc, b"program E")?;
     text.extend_from_slice(Buffer::new().format(code).as_bytes())?;
