@@ -13,5 +13,6 @@ pub mod ReadingSteps
 pub mod SeenLemmas
 pub mod StatementComplete
 pub mod StatementSound
+pub mod TableLemmas
 pub mod TokenLemmas
 pub mod WordLemmas

@@ -8,6 +8,7 @@ mod names;
 mod program;
 mod reach;
 mod statement;
+mod table;
 mod token;
 mod tree;
 mod word;
