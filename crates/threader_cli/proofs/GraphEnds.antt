@@ -1,8 +1,8 @@
 -- The ends of a thread's edges are locations of its graph.
-use Rattle.std.proofs.Common.{◌≡◌, ◌<◌, ◌≤◌, ℕ, zero, suc, ◌+◌, ◌==◌, if◌then◌else◌, List, [], ◌∷◌, ◌++◌, map, Some, None, refl, ap, subst, arith, All, slice_get}
-use Rattle.std.proofs.lemmas.List.Elements.{All-map, All-nil, All-cons}
+use Rattle.std.proofs.Common.{◌≡◌, ◌<◌, ◌≤◌, ℕ, zero, suc, ◌+◌, List, [], ◌∷◌, ◌++◌, map, Some, subst, arith, All, slice_get}
+use Rattle.std.proofs.lemmas.List.Elements.{All-nil, All-cons}
 use Rattle.std.proofs.lemmas.Bool.Decides.{nat_tests}
-use Rattle.threader_cli.specs.Graph.{Edge, edge, entry, edges, edges_each, actions, actions_each, ThreadGraph, graph_of}
+use Rattle.threader_cli.specs.Graph.{Edge, entry, edges, edges_each, actions, actions_each, graph_of}
 use Rattle.threader_cli.specs.Reach.{HasEnds}
 use Rattle.threader_cli.specs.Tree.{Statement, Block, Empty, Assign, AssertFalse, If, IfElse, While, Statements, End, Then}
 

@@ -1,5 +1,5 @@
 -- What the least set holds: the locations that each thread alone can come to, and its edges from these.
-use Rattle.std.proofs.Common.{◌≡◌, ◌<◌, ◌↔◌, ℕ, zero, suc, List, [], ◌∷◌, length, Contains, Option, Some, None, slice_get, option_and_then, refl, sym, ap, subst, ◌∙◌, arith, get_or}
+use Rattle.std.proofs.Common.{◌≡◌, ◌↔◌, ℕ, zero, suc, List, [], ◌∷◌, Contains, Some, option_and_then, refl, sym, ap, subst, ◌∙◌, arith}
 use Rattle.thr_base.specs.declared.names.Home.{Home}
 use Rattle.thr_base.specs.declared.names.Home.TheVariants.{State, Env}
 use Rattle.threader_cli.specs.Graph.{Edge, ThreadGraph}

@@ -7,7 +7,7 @@ use Rattle.thr_base.specs.declared.names.Home.TheVariants.{State, Env}
 use Rattle.threader_cli.proofs.LeastLemmas.{ReachesState, ReachesEdge, least-state, least-environment}
 use Rattle.threader_cli.specs.Graph.{Edge, ThreadGraph}
 use Rattle.threader_cli.specs.Least.{state, environment, numbered, edge_numbered, Least}
-use Rattle.threader_cli.specs.Lines.{state_lines, edge_lines, states_lines, edges_lines}
+use Rattle.threader_cli.specs.Lines.{thread_states, thread_environments, all_states, all_environments}
 use Rattle.threader_cli.specs.Reach.{HasEnds, IsReached}
 use Rattle.threader_cli.specs.Seen.{graph_of}
 use Rattle.threader_cli.specs.Table.{line_of, numbers_from, states_from, environments_from, table_of, IsTable}
@@ -96,7 +96,7 @@ lines_of-append holds (home ∷ homes) more =
     ∙ ap (λ first. first ++ lines_of holds more) (sym (lines_of-cons holds home homes (holds home) refl))
 
 lines_of-states : (holds : Home → Bool) (i l : ℕ) (marks : List Bool) → ((m : ℕ) → holds (state i (l + m)) ≡ get_or marks m false)
-    → lines_of holds (map (state i) (numbers_from l (length marks))) ≡ state_lines i l marks
+    → lines_of holds (map (state i) (numbers_from l (length marks))) ≡ thread_states i l marks
 lines_of-states holds i l [] h = refl
 lines_of-states holds i l (mark ∷ marks) h =
     lines_of-cons holds (state i l) (map (state i) (numbers_from (l + 1) (length marks))) mark (ap (λ n. holds (state i n)) (omega arith) ∙ h zero)
@@ -105,7 +105,7 @@ lines_of-states holds i l (mark ∷ marks) h =
 
 lines_of-edges : (holds : Home → Bool) (i k : ℕ) (es : List Edge) (marks : List Bool)
     → ((m : ℕ) (e : Edge) → slice_get es m ≡ Some e → holds (environment i (k + m)) ≡ get_or marks e.from false)
-    → lines_of holds (map (environment i) (numbers_from k (length es))) ≡ edge_lines i k es marks
+    → lines_of holds (map (environment i) (numbers_from k (length es))) ≡ thread_environments i k es marks
 lines_of-edges holds i k [] marks h = refl
 lines_of-edges holds i k (e ∷ es) marks h =
     lines_of-cons holds (environment i k) (map (environment i) (numbers_from (k + 1) (length es))) (get_or marks e.from false)
@@ -114,7 +114,7 @@ lines_of-edges holds i k (e ∷ es) marks h =
     (lines_of-edges holds i (k + 1) es marks (λ m f found. ap (λ n. holds (environment i n)) (omega arith) ∙ h (suc m) f found))
 
 lines_of-states_from : (holds : Home → Bool) (i : ℕ) (threads : List ThreadGraph) (marked : List (List Bool)) → AllZip IsReached threads marked
-    → ((j l : ℕ) → holds (state (i + j) l) ≡ is_marked (slice_get marked j) l) → lines_of holds (states_from i threads) ≡ states_lines i marked
+    → ((j l : ℕ) → holds (state (i + j) l) ≡ is_marked (slice_get marked j) l) → lines_of holds (states_from i threads) ≡ all_states i marked
 lines_of-states_from holds i [] [] all h = refl
 lines_of-states_from holds i [] (marks ∷ marked) all h = absurd all
 lines_of-states_from holds i (graph ∷ threads) [] all h = absurd all
@@ -127,7 +127,7 @@ lines_of-states_from holds i (graph ∷ threads) (marks ∷ marked) all h =
 
 lines_of-environments_from : (holds : Home → Bool) (i : ℕ) (threads : List ThreadGraph) (marked : List (List Bool)) → AllZip IsReached threads marked
     → ((j k : ℕ) → holds (environment (i + j) (suc k)) ≡ leaves_marked (option_and_then (λ graph. slice_get graph.edges k) (slice_get threads j)) (slice_get marked j))
-    → lines_of holds (environments_from i threads) ≡ edges_lines i threads marked
+    → lines_of holds (environments_from i threads) ≡ all_environments i threads marked
 lines_of-environments_from holds i [] marked all h = refl
 lines_of-environments_from holds i (graph ∷ threads) [] all h = absurd all
 lines_of-environments_from holds i (graph ∷ threads) (marks ∷ marked) all h =
@@ -140,7 +140,7 @@ one-add : (n : ℕ) → 1 + n ≡ suc n
 one-add n = omega arith
 
 pub lines-IsTable : (threads : List ThreadGraph) (marked : List (List Bool)) → AllZip IsReached threads marked
-    → IsTable threads (states_lines 1 marked ++ edges_lines 1 threads marked ++ codes "end\n")
+    → IsTable threads (all_states 1 marked ++ all_environments 1 threads marked ++ codes "end\n")
 unfolding table_of
 lines-IsTable threads marked all =
     let holds = is_listed threads marked in

@@ -1,29 +1,30 @@
--- The lines of a table, thread by thread, from the marks of the locations that each thread reaches.
+-- The lines of a table, thread by thread, by the marks of the locations that each thread reaches.
 use Rattle.std.specs.Prelude.{ℕ, ◌+◌, Bool, false, if◌then◌else◌, List, [], ◌∷◌, ◌++◌, slice_index_or, decimal, codes}
 use Rattle.threader_cli.specs.Graph.{Edge, ThreadGraph}
 use Rattle.threader_cli.specs.Least.{state, environment}
 use Rattle.threader_cli.specs.Table.{line_of}
 
--- a line of one letter's homes
+-- the line of a home, by its letter with a space, its thread, and its location or edge
 abbrev pub line : List ℕ → ℕ → ℕ → List ℕ
 line letter thread number = letter ++ decimal thread ++ codes " " ++ decimal number ++ codes " :\n"
 
--- the lines of a thread's marked locations, of locations from `l` on
-abbrev pub state_lines : ℕ → ℕ → List Bool → List ℕ
-state_lines i l [] = []
-state_lines i l (mark ∷ marks) = (if mark then line_of (state i l) else []) ++ state_lines i (l + 1) marks
+-- the lines of a thread's marked locations, where the marks are those of the locations from `l` on
+abbrev pub thread_states : ℕ → ℕ → List Bool → List ℕ
+thread_states i l [] = []
+thread_states i l (mark ∷ marks) = (if mark then line_of (state i l) else []) ++ thread_states i (l + 1) marks
 
--- the lines of a thread's edges that leave marked locations, of edges from `k` on
-abbrev pub edge_lines : ℕ → ℕ → List Edge → List Bool → List ℕ
-edge_lines i k [] marks = []
-edge_lines i k (e ∷ rest) marks = (if slice_index_or marks e.from false then line_of (environment i k) else []) ++ edge_lines i (k + 1) rest marks
+-- the lines of those of a thread's edges, from number `k` on, that leave a marked location
+abbrev pub thread_environments : ℕ → ℕ → List Edge → List Bool → List ℕ
+thread_environments i k [] marks = []
+thread_environments i k (e ∷ rest) marks =
+    (if slice_index_or marks e.from false then line_of (environment i k) else []) ++ thread_environments i (k + 1) rest marks
 
--- those of all threads, of threads from `i` on
-abbrev pub states_lines : ℕ → List (List Bool) → List ℕ
-states_lines i [] = []
-states_lines i (marks ∷ rest) = state_lines i 0 marks ++ states_lines (i + 1) rest
+-- the same of all threads from number `i` on
+abbrev pub all_states : ℕ → List (List Bool) → List ℕ
+all_states i [] = []
+all_states i (marks ∷ rest) = thread_states i 0 marks ++ all_states (i + 1) rest
 
-abbrev pub edges_lines : ℕ → List ThreadGraph → List (List Bool) → List ℕ
-edges_lines i [] marked = []
-edges_lines i (graph ∷ rest) [] = []
-edges_lines i (graph ∷ rest) (marks ∷ marked) = edge_lines i 1 graph.edges marks ++ edges_lines (i + 1) rest marked
+abbrev pub all_environments : ℕ → List ThreadGraph → List (List Bool) → List ℕ
+all_environments i [] marked = []
+all_environments i (graph ∷ rest) [] = []
+all_environments i (graph ∷ rest) (marks ∷ marked) = thread_environments i 1 graph.edges marks ++ all_environments (i + 1) rest marked

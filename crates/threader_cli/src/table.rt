@@ -37,7 +37,7 @@ fn mark_threads(alloc: Global, threads: &[Graph]) -> Result<Vec<Vec<bool>>, Allo
 
 /// Adds the lines of all threads' marked locations.
 fn add_states(text: &mut Vec<u8>, marked: &[Vec<bool>]) -> Result<(), AllocError>
-    ensures { OnOk result (text.new.items ≡ text.old.items ++ lines.states_lines 1 (map (λ marks. marks.items) marked.now)) }
+    ensures { OnOk result (text.new.items ≡ text.old.items ++ lines.all_states 1 (map (λ marks. marks.items) marked.now)) }
 {
     for (i, marks) in marked.iter().enumerate() {
         add_thread_states(text, i + 1, marks)?;
@@ -47,7 +47,7 @@ fn add_states(text: &mut Vec<u8>, marked: &[Vec<bool>]) -> Result<(), AllocError
 
 /// Adds the lines of a thread's marked locations.
 fn add_thread_states(text: &mut Vec<u8>, thread: usize, marks: &[bool]) -> Result<(), AllocError>
-    ensures { OnOk result (text.new.items ≡ text.old.items ++ lines.state_lines thread 0 marks.now) }
+    ensures { OnOk result (text.new.items ≡ text.old.items ++ lines.thread_states thread 0 marks.now) }
 {
     for (location, mark) in marks.iter().enumerate() {
         if *mark {
@@ -64,7 +64,7 @@ fn add_environments(
     marked: &[Vec<bool>],
 ) -> Result<(), AllocError>
     requires { length marked.now ≡ length threads.now }
-    ensures { OnOk result (text.new.items ≡ text.old.items ++ lines.edges_lines 1 (map graph_of threads.now) (map (λ marks. marks.items) marked.now)) }
+    ensures { OnOk result (text.new.items ≡ text.old.items ++ lines.all_environments 1 (map graph_of threads.now) (map (λ marks. marks.items) marked.now)) }
 {
     for (i, graph) in threads.iter().enumerate() {
         add_thread_environments(text, i + 1, &graph.edges, &marked[i])?;
@@ -79,7 +79,7 @@ fn add_thread_environments(
     edges: &[Edge],
     marks: &[bool],
 ) -> Result<(), AllocError>
-    ensures { OnOk result (text.new.items ≡ text.old.items ++ lines.edge_lines thread 1 (map edge_of edges.now) marks.now) }
+    ensures { OnOk result (text.new.items ≡ text.old.items ++ lines.thread_environments thread 1 (map edge_of edges.now) marks.now) }
 {
     for (i, edge) in edges.iter().enumerate() {
         if is_marked(marks, edge.from) {

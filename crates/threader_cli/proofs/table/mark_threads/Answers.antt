@@ -1,4 +1,4 @@
-use Rattle.std.proofs.Common.{List, Bool, ◌++◌, [], ◌∷◌, map, take, ◌+◌, subst, sym, Vec, Global}
+use Rattle.std.proofs.Common.{List, Bool, map, take, ◌+◌, subst, sym, Vec, Global}
 use Rattle.std.specs.List.{AllZip}
 use Rattle.threader_cli.proofs.TableLemmas.{graph_read-HasEnds, marked-more}
 use Rattle.threader_cli.specs.Reach.{IsReached}
