@@ -101,15 +101,6 @@ found_main (t ∷ tokens) h = by_first (is_main t.text) h (found_main tokens)
 pub main_there : (bytes : List ℕ) (p : Program) → IsAccepted bytes p → IsSome (find (λ (t : specs.Token). bytes_eq t.text (codes "main")) (specs.tokens_of bytes))
 main_there bytes p a = found_main (specs.tokens_of bytes) (ap (list_any is_main) a.spelled ∙ spells_main p)
 
--- there are no more threads than creations
-pub threads-few : (p : Program) (creations : List Creation) → length (filter_map (thread_of p) creations) ≤ length creations
-threads-few p [] = omega arith
-threads-few p (c ∷ creations) = by_thread (thread_of p c) (threads-few p creations)
-  where
-    by_thread : (o : Option ThreadGraph) → length (filter_map (thread_of p) creations) ≤ length creations → length (cons_option o (filter_map (thread_of p) creations)) ≤ length (c ∷ creations)
-    by_thread None h = omega arith
-    by_thread (Some graph) h = omega arith
-
 ends_of : (o : Option Function) (rest : List ThreadGraph) → All HasEnds rest → All HasEnds (cons_option (option_map (λ f. graph_of f.body) o) rest)
 ends_of None rest h = h
 ends_of (Some f) rest h = All-cons HasEnds (graph_of f.body) rest (graph_of-HasEnds f.body) h
@@ -123,7 +114,3 @@ pub ends_by : {words : List (List ℕ)} {before after : StoreMeaning} {old new :
     → Answers words before after status text → Wrote old text new status result → Ends words before after old new result
 ends_by status result text answers (all written) = whole status text answers written
 ends_by status result text answers (front written) = write_fault status text answers written
-
--- so there are few
-pub few_threads : (bytes : List ℕ) (p : Program) → IsAccepted bytes p → length (threads_of p) < 2 ^ 31
-few_threads bytes p a = let fewer = threads-few p p.creations in let two = a.few_creations in grind (arith, nat_tests)

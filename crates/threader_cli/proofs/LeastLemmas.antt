@@ -1,5 +1,5 @@
 -- What the least set holds: the locations that each thread alone can come to, and its edges from these.
-use Rattle.std.proofs.Common.{◌≡◌, ◌<◌, ◌↔◌, ℕ, zero, suc, List, [], ◌∷◌, length, Contains, Option, Some, None, slice_get, option_and_then, refl, sym, ap, subst, ◌∙◌, arith, get_or}
+use Rattle.std.proofs.Common.{◌≡◌, ◌↔◌, ℕ, zero, suc, List, [], ◌∷◌, Contains, Some, option_and_then, refl, sym, ap, subst, ◌∙◌, arith}
 use Rattle.thr_base.specs.declared.names.Home.{Home}
 use Rattle.thr_base.specs.declared.names.Home.TheVariants.{State, Env}
 use Rattle.threader_cli.specs.Graph.{Edge, ThreadGraph}
@@ -54,13 +54,15 @@ state-Least threads i graph found l (step k e at from) =
     (state i e.to ∷ derivation, (own i (suc k) e (edge_in threads i (suc k) graph found ∙ at) has, is), newest (state i e.to) derivation)
 
 pub least-state : (threads : List ThreadGraph) (i l : ℕ) → Least threads (state i l) ↔ ReachesState threads i l
-least-state threads i l =
-    (λ (derivation, is, has). derivation-IsReachable threads derivation is (state i l) has,
-     λ (graph, found, reaches). state-Least threads i graph found l reaches)
+least-state threads i l = (
+  λ (derivation, is, has). derivation-IsReachable threads derivation is (state i l) has,
+  λ (graph, found, reaches). state-Least threads i graph found l reaches,
+)
 
 pub least-environment : (threads : List ThreadGraph) (i k : ℕ) → Least threads (environment i k) ↔ ReachesEdge threads i k
-least-environment threads i k =
-    (λ (derivation, is, has). derivation-IsReachable threads derivation is (environment i k) has,
-     λ (e, found, (graph, thread, reaches)).
-       let (derivation, is, has) = state-Least threads i graph thread e.from reaches in
-       (environment i k ∷ derivation, (guar i k e found has, is), newest (environment i k) derivation))
+least-environment threads i k = (
+  λ (derivation, is, has). derivation-IsReachable threads derivation is (environment i k) has,
+  λ (e, found, (graph, thread, reaches)).
+      let (derivation, is, has) = state-Least threads i graph thread e.from reaches in
+      (environment i k ∷ derivation, (guar i k e found has, is), newest (environment i k) derivation),
+)

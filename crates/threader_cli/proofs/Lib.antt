@@ -14,6 +14,7 @@ pub mod ReadingSteps
 pub mod SeenLemmas
 pub mod StatementComplete
 pub mod StatementSound
+pub mod TableLemmas
 pub mod TokenLemmas
 pub mod WordLemmas
 pub mod WordsLemmas

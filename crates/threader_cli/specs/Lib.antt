@@ -2,6 +2,7 @@ pub mod Accepted
 pub mod Answer
 pub mod Graph
 pub mod Least
+pub mod Lines
 pub mod Reach
 pub mod Reading
 pub mod Refusals

@@ -3,7 +3,7 @@ use Rattle.std.proofs.lemmas.List.{length-map}
 use Rattle.std.proofs.lemmas.Result.{IfOk-weaker}
 use Rattle.std.proofs.lemmas.Bool.Decides.{nat_tests}
 use Rattle.thr_base.specs.declared.stops.Stop.{Stop}
-use Rattle.threader_cli.proofs.AnswerLemmas.{texts-tokens_of, texts_of, unread, unallowed, accepted, main_there, few_threads, threads-end}
+use Rattle.threader_cli.proofs.AnswerLemmas.{texts-tokens_of, texts_of, unread, unallowed, accepted, main_there, threads-end}
 use Rattle.threader_cli.specs.Accepted.{IsAccepted, is_allowed}
 use Rattle.threader_cli.specs.Answer.{AnswersBytes, not_built, no_thread, table, threads_of}
 use Rattle.threader_cli.specs.Graph.{ThreadGraph}
@@ -61,16 +61,8 @@ returns-then-is_empty c =
     IfOk-weaker c.refusal-then-is_empty.result _ _
       (λ answer is. rw (is.0, is.1) (no_thread (program_of c.in-Ok.program) c.main_place.result program (ap (map creation_of) (no_items c.in-Ok.program.creations.items empty)) place)) c.refusal-then-is_empty.ensures
 
-pub table-requires-clause-few : goal.table-requires-clause-few
-table-requires-clause-few c =
-    let program = read_accepted c.args.bytes.now c.in_ok-tokens.tokens.items c.deref.result.now (program_of c.in-Ok.program) c.in_ok-is_accepted.field-0 c.deref.ensures.value c.in_ok-tokens.ensures
-        c.in-Ok.ensures c.in_ok-is_accepted.ensures c.if-not-branch.false in
-    let few = few_threads c.args.bytes.now (program_of c.in-Ok.program) program in
-    let same = sym (length-map c.deref-2.result.now graph_of) ∙ ap (λ graphs. length (map graph_of graphs)) c.deref-2.ensures.value ∙ ap length c.in_ok-threads.ensures in
-    omega (arith, few, same)
-
-pub table-requires-clause-ends : goal.table-requires-clause-ends
-table-requires-clause-ends c =
+pub table-requires : goal.table-requires
+table-requires c =
     let threads = ap (map graph_of) c.deref-2.ensures.value ∙ c.in_ok-threads.ensures in
     subst (All HasEnds) (sym threads) (threads-end (program_of c.in-Ok.program) (program_of c.in-Ok.program).creations)
 
