@@ -1,0 +1,181 @@
+-- The elimination: it takes the columns of a system one after another out of its rows, until a row without a variable is false or
+-- no row is left. It computes over unbounded numbers, and looks at whether they fit only to leave.
+use Rattle.std.specs.Prelude.{◌≡◌, ℕ, zero, suc, ◌+◌, ◌*◌, ℤ, pos, neg_ℤ, ◌*ℤ◌, unsigned_abs, Bool, false, cond, not, nat_lt, int_lt, List, [], ◌∷◌, ◌++◌, map, length, filter, flat_map, find, replicate, if◌then◌else◌, Option, Some, None}
+use Rattle.std.specs.Int.{int_signum}
+use Rattle.std.specs.List.{AllByRecursion}
+use Rattle.std.specs.Option.{option_map}
+use Rattle.lin_rows.specs.System.{System}
+use Rattle.farkas_cert.specs.Cert.{Pairs}
+use Rattle.farkas_cert.specs.Divisor.{gcd, over}
+use Rattle.farkas_cert.specs.Line.{Line, given_lines, coefficient_at, lowest_column, lowest_of, has_variable, is_false, refuting, listed, is_nonzero, made}
+use Rattle.farkas_cert.specs.Overflow.{check_fits}
+use Rattle.farkas_cert.specs.BackSubstitution.{RationalPoint, Kept, Solved, Bounded, set_column}
+
+-- Each row has one coefficient per column.
+abbrev pub IsRectangular : System → Type 0
+IsRectangular system = AllByRecursion (λ row. length row.coefficients ≡ system.columns) system.rows
+
+-- why the elimination leaves: a number does not fit, or there are too many rows
+pub data LeaveKind : Type 0 where
+  Overflow : LeaveKind
+  Rows : LeaveKind
+
+pub data Outcome : Type 0 where
+  -- a certificate
+  Refuted : Pairs → Outcome
+  -- numerators over a denominator
+  Point : List ℤ → ℤ → Outcome
+  -- the stage, from 1, or 0 where no stage began
+  Leaves : ℕ → LeaveKind → Outcome
+
+-- what a stage starts from
+pub record Work : Type 0 where
+  pub lines : List Line
+  -- what the stages so far kept, latest first
+  pub kept : List Kept
+  -- how many lines pair stages made so far
+  pub made : ℕ
+
+-- what a stage comes to
+pub data Next : Type 0 where
+  Goes : Work → Next
+  Ends : Outcome → Next
+
+-- so many rows may be given and made by pairs
+abbrev pub row_limit : ℕ
+row_limit = 8192
+
+-- the values, where each is there
+unfoldable pub every : {X : Type 0} → List (Option X) → Option (List X)
+every [] = Some []
+every (None ∷ xs) = None
+every (Some x ∷ xs) = option_map (λ ys. x ∷ ys) (every xs)
+
+-- ---- the constant test
+
+-- Multipliers refute, where the check of the certificate keeps to numbers that fit.
+abbrev pub refuted : System → ℕ → List ℤ → Outcome
+refuted system stage ms = let pairs = listed 1 ms in cond (check_fits system.rows pairs) (Refuted pairs) (Leaves stage Overflow)
+
+-- The first false line without a variable ends the work as refuted; the other lines without a variable are removed.
+unfoldable pub tested : System → ℕ → Work → Next
+tested system stage work =
+    elim (find (is_false system.columns) work.lines) [
+      | Some line ↦ Ends (refuted system stage (refuting system.columns line))
+      | None ↦ Goes (record work { lines = filter (has_variable system.columns) work.lines })
+    ]
+
+-- ---- a stage with an equality
+
+-- the lines without their first equality
+unfoldable pub without_equality : List Line → List Line
+without_equality [] = []
+without_equality (line ∷ lines) = cond line.equal lines (line ∷ without_equality lines)
+
+-- The equality with p at c takes the column out of a line with q there: |p| / g times the line less sign(p) q / g times the
+-- equality, where g is the greatest common divisor of |p| and |q|. A line without the column stays.
+unfoldable pub substituted : ℕ → Line → Line → Option Line
+substituted c equality line =
+    let p = coefficient_at c equality in
+    let q = coefficient_at c line in
+    let g = gcd (unsigned_abs p) (unsigned_abs q) in
+    cond (is_nonzero q)
+    (made line.equal (over g (pos (unsigned_abs p))) line.numbers (neg_ℤ (over g (int_signum p *ℤ q))) equality.numbers)
+    (Some line)
+
+-- The equality leaves the list and is kept for its lowest column; each other line is replaced in its place.
+unfoldable pub equality_stage : System → Work → Line → Next
+equality_stage system work equality =
+    let c = lowest_column system.columns equality in
+    elim (every (map (substituted c equality) (without_equality work.lines))) [
+      | None ↦ Ends (Leaves (suc (length work.kept)) Overflow)
+      | Some lines ↦ Goes (record work { lines = lines; kept = Solved c equality ∷ work.kept })
+    ]
+
+-- ---- a stage without one
+
+-- The inequalities with p and -q at c, added so that the column falls out: q / g times the one and p / g times the other, where g
+-- is the greatest common divisor of p and q.
+unfoldable pub paired : ℕ → Line → Line → Option Line
+paired c positive negative =
+    let p = coefficient_at c positive in
+    let q = neg_ℤ (coefficient_at c negative) in
+    let g = gcd (unsigned_abs p) (unsigned_abs q) in
+    made false (over g q) positive.numbers (over g p) negative.numbers
+
+-- the lines with a positive coefficient at c, with a negative one, and with one
+abbrev pub positives : ℕ → List Line → List Line
+positives c lines = filter (λ line. int_lt (pos 0) (coefficient_at c line)) lines
+
+abbrev pub negatives : ℕ → List Line → List Line
+negatives c lines = filter (λ line. int_lt (coefficient_at c line) (pos 0)) lines
+
+abbrev pub with_column : ℕ → List Line → List Line
+with_column c lines = filter (λ line. is_nonzero (coefficient_at c line)) lines
+
+abbrev pub without_column : ℕ → List Line → List Line
+without_column c lines = filter (λ line. not (is_nonzero (coefficient_at c line))) lines
+
+-- each positive line with each negative one, both in order
+unfoldable pub pairs_at : ℕ → List Line → Option (List Line)
+pairs_at c lines = every (flat_map (λ positive. map (paired c positive) (negatives c lines)) (positives c lines))
+
+-- The given rows, and those that pairs made so far and in this stage, are too many.
+abbrev pub are_too_many : System → ℕ → Bool
+are_too_many system made = nat_lt row_limit (length system.rows + made)
+
+-- The lines with the lowest column of all leave the list and are kept for it; the pairs come after the others. Whether there are
+-- too many is looked at before any pair is made.
+unfoldable pub pair_stage : System → Work → Next
+pair_stage system work =
+    let c = lowest_of system.columns work.lines in
+    let made = work.made + length (positives c work.lines) * length (negatives c work.lines) in
+    let stage = suc (length work.kept) in
+    if are_too_many system made then Ends (Leaves stage Rows) else
+    (elim (pairs_at c work.lines) [
+      | None ↦ Ends (Leaves stage Overflow)
+      | Some pairs ↦ Goes (record {
+        lines = without_column c work.lines ++ pairs;
+        kept = Bounded c (with_column c work.lines) ∷ work.kept;
+        made = made;
+      })
+    ])
+
+-- ---- the whole
+
+-- A stage takes a column out, by the first equality where there is one,
+unfoldable pub taken_out : System → Work → Next
+taken_out system work =
+    elim (find (λ line. line.equal) work.lines) [ Some equality ↦ equality_stage system work equality | None ↦ pair_stage system work ]
+
+-- and ends with the constant test.
+unfoldable pub stage : System → Work → Next
+stage system work =
+    elim (taken_out system work) [ Goes next ↦ tested system (length next.kept) next | Ends outcome ↦ Ends outcome ]
+
+-- The columns that stages took are set, the latest first. A number that does not fit is one of the column's stage.
+unfoldable pub point_from : ℕ → List Kept → RationalPoint → Outcome
+point_from n [] point = Point point.numerators point.denominator
+point_from n (kept ∷ earlier) point =
+    elim (set_column n point kept) [ None ↦ Leaves (suc (length earlier)) Overflow | Some next ↦ point_from n earlier next ]
+
+-- Columns that no stage took stay 0.
+abbrev pub point_of : ℕ → List Kept → Outcome
+point_of n kept = point_from n kept (record { numerators = replicate n (pos 0); denominator = pos 1 })
+
+-- Stages follow until no line is left, which gives a point. Each takes another column, so the fuel can be the number of columns.
+unfoldable pub stages : ℕ → System → Work → Outcome
+stages zero system work = point_of system.columns work.kept
+stages (suc fuel) system work =
+    elim work.lines [
+      | [] ↦ point_of system.columns work.kept
+      | line ∷ lines ↦ elim (stage system work) [ Goes next ↦ stages fuel system next | Ends outcome ↦ outcome ]
+    ]
+
+-- what the given rows come to, after the constant test
+unfoldable pub begun : System → Next
+begun system = tested system 0 (record { lines = given_lines (length system.rows) 0 system.rows; kept = []; made = 0 })
+
+-- what the elimination of a system comes to
+unfoldable pub eliminated : System → Outcome
+eliminated system = elim (begun system) [ Goes work ↦ stages system.columns system work | Ends outcome ↦ outcome ]
