@@ -5,7 +5,7 @@ use Rattle.std.specs.Int.{IsGcd, ◌∣◌}
 use Rattle.std.specs.List.{AllByRecursion}
 use Rattle.std.proofs.lemmas.Nat.{mod_below}
 use Rattle.std.proofs.lemmas.Nat.Gcd.{IsGcd-from_zero, IsGcd-from_mod, dvd_refl, dvd_trans, dvd-zero}
-use Rattle.std.proofs.Math.Nat.{mul-div_cancel'}
+use Rattle.std.proofs.Math.Nat.{mul-div_cancel', eq-zero_of_zero-dvd}
 use Rattle.farkas_cert.specs.Divisor.{euclid, gcd, gcd_of, over, reduced}
 use Rattle.farkas_cert.proofs.Integers.{mul_neg}
 
@@ -55,3 +55,15 @@ over_all g (x ∷ xs) h = let l = over-exact g x h.0 in let r = over_all g xs h.
 pub reduced-exact : (xs : List ℤ) → map (λ x. pos (gcd_of xs) *ℤ x) (reduced xs) ≡ xs
 unfolding reduced
 reduced-exact xs = over_all (gcd_of xs) xs (gcd_of-divides xs)
+
+all_zeros : (g : ℕ) (xs : List ℤ) → g ≡ 0 → DivideAll g xs → map (over g) xs ≡ xs
+unfolding over
+all_zeros g [] e h = refl
+all_zeros g (pos zero ∷ xs) e h = let l : g ≡ 0 → pos (0 / g) ≡ pos 0 = λ z. rw z refl in let r = all_zeros g xs e h.1 in let m = l e in cc
+all_zeros g (pos (suc n) ∷ xs) e h = let z = eq-zero_of_zero-dvd (rw e at h.0) in absurd (omega arith)
+all_zeros g (negsuc n ∷ xs) e h = let z = eq-zero_of_zero-dvd (rw e at h.0) in absurd (omega arith)
+
+-- Zeros are divided by nothing.
+pub reduced-same : (xs : List ℤ) → gcd_of xs ≡ 0 → reduced xs ≡ xs
+unfolding reduced
+reduced-same xs e = all_zeros (gcd_of xs) xs e (gcd_of-divides xs)
