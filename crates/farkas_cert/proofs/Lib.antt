@@ -1,4 +1,5 @@
 pub mod Divisors
 pub mod Integers
 pub mod Linear
+pub mod Signs
 mod WorkedSystems
