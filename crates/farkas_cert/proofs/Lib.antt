@@ -2,4 +2,6 @@ pub mod Divisors
 pub mod Integers
 pub mod Linear
 pub mod Signs
+pub mod Weighted
+pub mod Derived
 mod WorkedSystems

@@ -94,7 +94,7 @@ signs_neg (row ∷ rows) (m ∷ ms) h = (row_neg row.equal m h.0, signs_neg rows
 
 -- ---- the listed multipliers
 
-split_at : (all rows : List Row) (k : ℕ) (row : Row) → drop k all ≡ row ∷ rows → (slice_get all k ≡ Some row) × (drop (suc k) all ≡ rows)
+pub split_at : (all rows : List Row) (k : ℕ) (row : Row) → drop k all ≡ row ∷ rows → (slice_get all k ≡ Some row) × (drop (suc k) all ≡ rows)
 split_at [] rows zero row e = absurd cc
 split_at [] rows (suc k) row e = absurd cc
 split_at (x ∷ all) rows zero row e = (cc, cc)
