@@ -4,4 +4,5 @@ pub mod Linear
 pub mod Signs
 pub mod Weighted
 pub mod Derived
+pub mod Refuting
 mod WorkedSystems
