@@ -3,7 +3,9 @@ use Rattle.std.proofs.Common.{◌≡◌, ℕ, zero, suc, ◌+◌, ◌*◌, ◌<�
 use Rattle.std.specs.Prelude.{ℤ, pos, negsuc, neg_ℤ, ◌+ℤ◌, ◌-ℤ◌, ◌*ℤ◌, ◌≤ℤ◌, ◌<ℤ◌, slice_get, slice_set, replicate, unsigned_abs, ◌&&◌, not, int_lt, nat_lt}
 use Rattle.std.specs.Int.{◌∣◌}
 use Rattle.std.specs.List.{AllByRecursion, position_or_len}
-use Rattle.std.proofs.lemmas.Nat.Gcd.{le_of_dvd}
+use Rattle.std.proofs.lemmas.Bool.{ltb-false}
+use Rattle.std.proofs.lemmas.Int.{ints}
+use Rattle.std.proofs.lemmas.Nat.Gcd.{le_of_dvd, dvd-zero}
 use Rattle.lin_rows.specs.Row.{Row, product_of, scaled, sum_of}
 use Rattle.lin_rows.specs.System.{System}
 use Rattle.farkas_cert.specs.Cert.{Refutes, IsContradiction, weighted_sum}
@@ -101,3 +103,104 @@ all_given_derived system k [] e w = tt
 all_given_derived system k (row ∷ rows) e w =
   let at = split_at system.rows rows k row e in
   (given_derived system k row at.0 w.0, all_given_derived system (suc k) rows at.1 w.1)
+
+-- ---- lines without a variable
+
+pub both : (a b : Bool) → (a && b) ≡ true → (a ≡ true) × (b ≡ true)
+both true b e = (refl, e)
+both false b e = absurd cc
+
+pub not_true : (a : Bool) → not a ≡ true → a ≡ false
+not_true true e = absurd cc
+not_true false e = refl
+
+pub zeros_below : (xs : List ℤ) (n : ℕ) → n ≤ position_or_len is_nonzero (take n xs) → AllZero (take n xs)
+zeros_below xs zero h = tt
+zeros_below [] (suc n) h = tt
+zeros_below (pos zero ∷ xs) (suc n) h = (refl, zeros_below xs n (omega arith))
+zeros_below (pos (suc m) ∷ xs) (suc n) h = absurd (omega arith)
+zeros_below (negsuc m ∷ xs) (suc n) h = absurd (omega arith)
+
+pub product_of_zeros : (xs ys : List ℤ) → AllZero xs → product_of xs ys ≡ pos 0
+product_of_zeros [] ys h = refl
+product_of_zeros (x ∷ xs) [] h = refl
+product_of_zeros (x ∷ xs) (y ∷ ys) h = rw h.0 (omega (arith, linear, zero_mul y, product_of_zeros xs ys h.1))
+
+pub no_variable : (n : ℕ) (line : Line) → has_variable n line ≡ false → AllZero (take n line.numbers)
+unfolding lowest_column
+no_variable n line e = zeros_below line.numbers n (ltb-false (position_or_len is_nonzero (take n line.numbers)) n e)
+
+-- ---- false lines
+
+product_neg : (ms zs : List ℤ) → product_of (map neg_ℤ ms) zs ≡ neg_ℤ (product_of ms zs)
+product_neg [] zs = refl
+product_neg (m ∷ ms) [] = refl
+product_neg (m ∷ ms) (z ∷ zs) = omega (arith, linear, neg_mul m z, product_neg ms zs)
+
+refutes_by : (system : System) (equal : Bool) (ms : List ℤ) → Signs equal system.rows ms → ((y : List ℤ) → product_of ms (values_at y system.rows) ≡ pos 0) → product_of ms (bounds_of system.rows) <ℤ pos 0 → Refutes system (listed 1 ms)
+refutes_by system equal ms s c b = record {
+    in_order = listed_in_order system.rows system.rows 0 0 equal ms (omega arith) refl s;
+    contradicts = record {
+      cancels = zeros_from_products (weighted_sum system.rows (listed 1 ms)).coefficients (λ y. weighted_coefficients system.rows system.rows 0 equal ms y refl s ∙ c y);
+      negative = rw (weighted_bound system.rows system.rows 0 equal ms refl s) b;
+    };
+  }
+
+zeros_divide : (g : ℕ) (xs : List ℤ) → AllZero xs → DivideAll g xs
+zeros_divide g [] h = tt
+zeros_divide g (x ∷ xs) h = (rw h.0 (dvd-zero g), zeros_divide g xs h.1)
+
+zero_at : (n : ℕ) (xs : List ℤ) → AllZero xs → get_or xs n (pos 0) ≡ pos 0
+zero_at n [] h = refl
+zero_at zero (x ∷ xs) h = h.0
+zero_at (suc n) (x ∷ xs) h = zero_at n xs h.1
+
+-- The multipliers of a line without a variable and with a bound other than 0 have no common divisor.
+reduced_by : (system : System) (line : Line) → IsDerived system line → AllZero (take system.columns line.numbers) → ¬ (bound_of system.columns line ≡ pos 0) → (g : ℕ) → DivideAll g (multipliers_of system.columns line) → g ≤ 1
+reduced_by system line h z b g d =
+  let bound : g ∣ unsigned_abs (bound_of system.columns line) =
+    divides_from_multiple g (bound_of system.columns line) (rw h.bound (multiple_product g (multipliers_of system.columns line) (bounds_of system.rows) d)) in
+  elim (h.primitive g (divides_parts g system.columns line.numbers (zeros_divide g (take system.columns line.numbers) z) bound d)) [
+    inl l ↦ l
+  | inr all ↦ absurd (b (zero_at system.columns line.numbers all))
+  ]
+
+is_negative : (b : ℤ) → int_lt b (pos 0) ≡ true → b <ℤ pos 0
+is_negative b e = omega (arith, ints)
+
+nonzero_negative : (b : ℤ) → is_nonzero b ≡ true → int_lt (pos 0) b ≡ false → b <ℤ pos 0
+nonzero_negative (pos zero) f p = absurd cc
+nonzero_negative (pos (suc n)) f p = omega (arith, ints)
+nonzero_negative (negsuc n) f p = omega (arith, ints)
+
+-- what has to be shown of the multipliers of a false line
+abbrev pub IsProvedBy : System → List ℤ → Type 0
+IsProvedBy system ms = Refutes system (listed 1 ms) × IsReduced (listed 1 ms)
+
+by_negative : (system : System) (line : Line) → IsDerived system line → AllZero (take system.columns line.numbers) → bound_of system.columns line <ℤ pos 0 → IsProvedBy system (multipliers_of system.columns line)
+by_negative system line h z b =
+  (refutes_by system line.equal (multipliers_of system.columns line) h.signs
+     (λ y. sym (h.coefficients y) ∙ product_of_zeros (take system.columns line.numbers) y z)
+     (rw (← h.bound) b),
+   λ g d. reduced_by system line h z (λ e. absurd (omega (arith, linear))) g (divides_listed g 1 (multipliers_of system.columns line) d))
+
+by_positive : (system : System) (line : Line) → IsDerived system line → line.equal ≡ true → AllZero (take system.columns line.numbers) → pos 0 <ℤ bound_of system.columns line → IsProvedBy system (map neg_ℤ (multipliers_of system.columns line))
+by_positive system line h e z b =
+  let ms = multipliers_of system.columns line in
+  (refutes_by system true (map neg_ℤ ms) (signs_neg system.rows ms (rw e at h.signs))
+     (λ y. product_neg ms (values_at y system.rows) ∙ ap neg_ℤ (sym (h.coefficients y) ∙ product_of_zeros (take system.columns line.numbers) y z))
+     (let n = product_neg ms (bounds_of system.rows) in omega (arith, linear, h.bound)),
+   λ g d. reduced_by system line h z (λ e. absurd (omega (arith, linear))) g (divides_neg g ms (divides_listed g 1 (map neg_ℤ ms) d)))
+
+-- by the kind of the line and the sign of its bound
+by_kind : (system : System) (line : Line) (equal positive : Bool) → line.equal ≡ equal → int_lt (pos 0) (bound_of system.columns line) ≡ positive → IsDerived system line → AllZero (take system.columns line.numbers) → fails equal (bound_of system.columns line) ≡ true
+  → IsProvedBy system (cond (equal && positive) (map neg_ℤ (multipliers_of system.columns line)) (multipliers_of system.columns line))
+by_kind system line false positive e p h z f = by_negative system line h z (is_negative (bound_of system.columns line) f)
+by_kind system line true true e p h z f = by_positive system line h e z (omega (arith, ints))
+by_kind system line true false e p h z f = by_negative system line h z (nonzero_negative (bound_of system.columns line) f p)
+
+pub false_refutes : (system : System) (line : Line) → IsDerived system line → is_false system.columns line ≡ true → IsProvedBy system (refuting system.columns line)
+unfolding is_false refuting
+false_refutes system line h f =
+  let parts = both (not (has_variable system.columns line)) (fails line.equal (bound_of system.columns line)) f in
+  by_kind system line line.equal (int_lt (pos 0) (bound_of system.columns line)) refl refl h (no_variable system.columns line (not_true (has_variable system.columns line) parts.0)) parts.1
