@@ -55,12 +55,12 @@ at_most_one g (suc (suc d)) p h = absurd (omega (arith, le_of_dvd p h, mul-le g 
 
 primitive_by : (g d : ℕ) (xs : List ℤ) → g ≡ gcd_of xs → g * d ∣ g → (d ≤ 1) ⊎ AllZero (reduced xs)
 primitive_by zero d xs e h =
-  inr (rw (reduced-same xs (sym e)) (zeros_divided xs (rw (← e) at (gcd_of-divides xs))))
+    inr (rw (reduced-same xs (sym e)) (zeros_divided xs (rw (← e) at (gcd_of-divides xs))))
 primitive_by (suc g) d xs e h = inl (at_most_one (suc g) d (omega arith) h)
 
 pub reduced_primitive : (xs : List ℤ) → IsPrimitive (reduced xs)
 reduced_primitive xs d h =
-  primitive_by (gcd_of xs) d xs refl (gcd_of-greatest (gcd_of xs * d) xs (rw (reduced-exact xs) at (multiplied (gcd_of xs) d (reduced xs) h)))
+    primitive_by (gcd_of xs) d xs refl (gcd_of-greatest (gcd_of xs * d) xs (rw (reduced-exact xs) at (multiplied (gcd_of xs) d (reduced xs) h)))
 
 -- ---- the invariant of a line
 
@@ -81,20 +81,20 @@ bound_defect system xs = get_or xs system.columns (pos 0) -ℤ product_of (drop 
 
 defect_linear : (system : System) (y : List ℤ) → IsLinear (defect system y)
 defect_linear system y =
-  difference-linear (λ xs. product_of (take system.columns xs) y) (λ xs. product_of (drop (suc system.columns) xs) (values_at y system.rows))
+    difference-linear (λ xs. product_of (take system.columns xs) y) (λ xs. product_of (drop (suc system.columns) xs) (values_at y system.rows))
     (take-linear system.columns (λ xs. product_of xs y) (product-linear y))
     (drop-linear (suc system.columns) (λ xs. product_of xs (values_at y system.rows)) (product-linear (values_at y system.rows)))
 
 bound_defect_linear : (system : System) → IsLinear (bound_defect system)
 bound_defect_linear system =
-  difference-linear (λ xs. get_or xs system.columns (pos 0)) (λ xs. product_of (drop (suc system.columns) xs) (bounds_of system.rows))
+    difference-linear (λ xs. get_or xs system.columns (pos 0)) (λ xs. product_of (drop (suc system.columns) xs) (bounds_of system.rows))
     (get-linear system.columns)
     (drop-linear (suc system.columns) (λ xs. product_of xs (bounds_of system.rows)) (product-linear (bounds_of system.rows)))
 
 -- what vanishes on two lists vanishes on what is made of them
 pub made_vanishes : (f : List ℤ → ℤ) → IsLinear f → (a : ℤ) (xs : List ℤ) (b : ℤ) (ys : List ℤ) → f xs ≡ pos 0 → f ys ≡ pos 0 → f (reduced (combination a xs b ys)) ≡ pos 0
 made_vanishes f h a xs b ys e k =
-  reduced_vanishes f h (combination a xs b ys)
+    reduced_vanishes f h (combination a xs b ys)
     (of_combination f h a xs b ys ∙ ap (λ t. a *ℤ t +ℤ b *ℤ f ys) e ∙ ap (λ t. a *ℤ pos 0 +ℤ b *ℤ t) k ∙ omega (arith, linear, mul_zero a, mul_zero b))
 
 drop-map : (n : ℕ) (f : ℤ → ℤ) (xs : List ℤ) → drop n (map f xs) ≡ map f (drop n xs)
@@ -104,7 +104,7 @@ drop-map (suc n) f (x ∷ xs) = drop-map n f xs
 
 drop-combination : (n : ℕ) (a : ℤ) (xs : List ℤ) (b : ℤ) (ys : List ℤ) → drop n (combination a xs b ys) ≡ combination a (drop n xs) b (drop n ys)
 drop-combination n a xs b ys =
-  drop-sum n (scaled a xs) (scaled b ys) ∙ ap (λ t. sum_of t (drop n (scaled b ys))) (drop-scaled n a xs) ∙ ap (λ t. sum_of (scaled a (drop n xs)) t) (drop-scaled n b ys)
+    drop-sum n (scaled a xs) (scaled b ys) ∙ ap (λ t. sum_of t (drop n (scaled b ys))) (drop-scaled n a xs) ∙ ap (λ t. sum_of (scaled a (drop n xs)) t) (drop-scaled n b ys)
 
 signs_reduced : (equal : Bool) (rows : List Row) (n : ℕ) (xs : List ℤ) → Signs equal rows (drop n xs) → Signs equal rows (drop n (reduced xs))
 unfolding reduced
@@ -112,35 +112,35 @@ signs_reduced equal rows n xs h = rw (drop-map n (over (gcd_of xs)) xs) (signs_o
 
 -- A line that is made has the invariant, where its multipliers have the signs.
 derived_made : (system : System) (equal : Bool) (a : ℤ) (left : Line) (b : ℤ) (right : Line) → IsDerived system left → IsDerived system right
-  → Signs equal system.rows (combination a (multipliers_of system.columns left) b (multipliers_of system.columns right))
-  → IsDerived system (record { equal = equal; numbers = reduced (combination a left.numbers b right.numbers) })
+    → Signs equal system.rows (combination a (multipliers_of system.columns left) b (multipliers_of system.columns right))
+    → IsDerived system (record { equal = equal; numbers = reduced (combination a left.numbers b right.numbers) })
 derived_made system equal a left b right h k s = record {
-    coefficients = λ y. let e = made_vanishes (defect system y) (defect_linear system y) a left.numbers b right.numbers
+  coefficients = λ y. let e = made_vanishes (defect system y) (defect_linear system y) a left.numbers b right.numbers
       (omega (arith, linear, h.coefficients y)) (omega (arith, linear, k.coefficients y)) in omega (arith, linear);
-    bound = let e = made_vanishes (bound_defect system) (bound_defect_linear system) a left.numbers b right.numbers
+  bound = let e = made_vanishes (bound_defect system) (bound_defect_linear system) a left.numbers b right.numbers
       (omega (arith, linear, h.bound)) (omega (arith, linear, k.bound)) in omega (arith, linear);
-    signs = signs_reduced equal system.rows (suc system.columns) (combination a left.numbers b right.numbers)
+  signs = signs_reduced equal system.rows (suc system.columns) (combination a left.numbers b right.numbers)
       (rw (drop-combination (suc system.columns) a left.numbers b right.numbers) s);
-    primitive = reduced_primitive (combination a left.numbers b right.numbers);
-  }
+  primitive = reduced_primitive (combination a left.numbers b right.numbers);
+}
 
 -- a line, of which an equality is taken away
 pub derived_by_equality : (system : System) (a : ℤ) (left : Line) (b : ℤ) (right made_line : Line) → pos 0 ≤ℤ a → right.equal ≡ true → IsDerived system left → IsDerived system right
-  → made left.equal a left.numbers b right.numbers ≡ Some made_line → IsDerived system made_line
+    → made left.equal a left.numbers b right.numbers ≡ Some made_line → IsDerived system made_line
 derived_by_equality system a left b right made_line n e h k m =
-  let signs_right : Signs true system.rows (multipliers_of system.columns right) = rw e at k.signs in
-  let signs : Signs left.equal system.rows (combination a (multipliers_of system.columns left) b (multipliers_of system.columns right)) =
+    let signs_right : Signs true system.rows (multipliers_of system.columns right) = rw e at k.signs in
+    let signs : Signs left.equal system.rows (combination a (multipliers_of system.columns left) b (multipliers_of system.columns right)) =
     signs_sum left.equal system.rows (scaled a (multipliers_of system.columns left)) (scaled b (multipliers_of system.columns right))
-      (signs_scaled left.equal a system.rows (multipliers_of system.columns left) n h.signs)
-      (signs_weaker left.equal system.rows (scaled b (multipliers_of system.columns right)) (signs_any b system.rows (multipliers_of system.columns right) signs_right)) in
-  subst (λ (l : Line). IsDerived system l) (made_is left.equal a left.numbers b right.numbers made_line m) (derived_made system left.equal a left b right h k signs)
+    (signs_scaled left.equal a system.rows (multipliers_of system.columns left) n h.signs)
+    (signs_weaker left.equal system.rows (scaled b (multipliers_of system.columns right)) (signs_any b system.rows (multipliers_of system.columns right) signs_right)) in
+    subst (λ (l : Line). IsDerived system l) (made_is left.equal a left.numbers b right.numbers made_line m) (derived_made system left.equal a left b right h k signs)
 
 -- two lines, added
 pub derived_by_pair : (system : System) (a : ℤ) (left : Line) (b : ℤ) (right made_line : Line) → pos 0 ≤ℤ a → pos 0 ≤ℤ b → IsDerived system left → IsDerived system right
-  → made false a left.numbers b right.numbers ≡ Some made_line → IsDerived system made_line
+    → made false a left.numbers b right.numbers ≡ Some made_line → IsDerived system made_line
 derived_by_pair system a left b right made_line n o h k m =
-  let signs : Signs false system.rows (combination a (multipliers_of system.columns left) b (multipliers_of system.columns right)) =
+    let signs : Signs false system.rows (combination a (multipliers_of system.columns left) b (multipliers_of system.columns right)) =
     signs_sum false system.rows (scaled a (multipliers_of system.columns left)) (scaled b (multipliers_of system.columns right))
-      (signs_scaled false a system.rows (multipliers_of system.columns left) n (signs_false left.equal system.rows (multipliers_of system.columns left) h.signs))
-      (signs_scaled false b system.rows (multipliers_of system.columns right) o (signs_false right.equal system.rows (multipliers_of system.columns right) k.signs)) in
-  subst (λ (l : Line). IsDerived system l) (made_is false a left.numbers b right.numbers made_line m) (derived_made system false a left b right h k signs)
+    (signs_scaled false a system.rows (multipliers_of system.columns left) n (signs_false left.equal system.rows (multipliers_of system.columns left) h.signs))
+    (signs_scaled false b system.rows (multipliers_of system.columns right) o (signs_false right.equal system.rows (multipliers_of system.columns right) k.signs)) in
+    subst (λ (l : Line). IsDerived system l) (made_is false a left.numbers b right.numbers made_line m) (derived_made system false a left b right h k signs)

@@ -13,8 +13,8 @@ pub euclid-IsGcd : (fuel a b : ℕ) → b < fuel → IsGcd a b (euclid fuel a b)
 euclid-IsGcd zero a b h = absurd (omega arith)
 euclid-IsGcd (suc fuel) a zero h = IsGcd-from_zero a zero refl
 euclid-IsGcd (suc fuel) a (suc b) h =
-  let falls : a % suc b < suc b = mod_below a (suc b) (omega arith) in
-  IsGcd-from_mod a (suc b) (euclid fuel (suc b) (a % suc b)) (euclid-IsGcd fuel (suc b) (a % suc b) (omega arith))
+    let falls : a % suc b < suc b = mod_below a (suc b) (omega arith) in
+    IsGcd-from_mod a (suc b) (euclid fuel (suc b) (a % suc b)) (euclid-IsGcd fuel (suc b) (a % suc b) (omega arith))
 
 pub gcd-IsGcd : (a b : ℕ) → IsGcd a b (gcd a b)
 unfolding gcd
@@ -26,10 +26,10 @@ DivideAll d xs = AllByRecursion (λ x. d ∣ unsigned_abs x) xs
 folded_divides : (g : ℕ) (xs : List ℤ) → (fold (λ g x. gcd g (unsigned_abs x)) g xs ∣ g) × DivideAll (fold (λ g x. gcd g (unsigned_abs x)) g xs) xs
 folded_divides g [] = (dvd_refl g, tt)
 folded_divides g (x ∷ xs) =
-  let r = fold (λ g x. gcd g (unsigned_abs x)) (gcd g (unsigned_abs x)) xs in
-  let rest = folded_divides (gcd g (unsigned_abs x)) xs in
-  let here = gcd-IsGcd g (unsigned_abs x) in
-  (dvd_trans r rest.0 here.0, (dvd_trans r rest.0 here.1, rest.1))
+    let r = fold (λ g x. gcd g (unsigned_abs x)) (gcd g (unsigned_abs x)) xs in
+    let rest = folded_divides (gcd g (unsigned_abs x)) xs in
+    let here = gcd-IsGcd g (unsigned_abs x) in
+    (dvd_trans r rest.0 here.0, (dvd_trans r rest.0 here.1, rest.1))
 
 folded_greatest : (d g : ℕ) (xs : List ℤ) → d ∣ g → DivideAll d xs → d ∣ fold (λ g x. gcd g (unsigned_abs x)) g xs
 folded_greatest d g [] h k = h

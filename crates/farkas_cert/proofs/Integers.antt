@@ -12,21 +12,32 @@ pub ruleset linear = (same_out, Apart-out, same_in, lt_out, le_out, below_in, at
 
 pub mul_add : (a b c : ℤ) → a *ℤ (b +ℤ c) ≡ a *ℤ b +ℤ a *ℤ c
 mul_add a b c =
-  let l = sum_is_lem b c in
-  omega (arith, linear, product_is a (b +ℤ c), product_is a b, product_is a c, ap (λ t. up a * t) l, ap (λ t. down a * t) l)
+    let l = sum_is_lem b c in
+    omega (arith, linear, product_is a (b +ℤ c), product_is a b, product_is a c, ap (λ t. up a * t) l, ap (λ t. down a * t) l)
 
 pub add_mul : (a b c : ℤ) → (a +ℤ b) *ℤ c ≡ a *ℤ c +ℤ b *ℤ c
 add_mul a b c =
-  let l = sum_is_lem a b in
-  omega (arith, linear, product_is (a +ℤ b) c, product_is a c, product_is b c, ap (λ t. t * up c) l, ap (λ t. t * down c) l)
+    let l = sum_is_lem a b in
+    omega (arith, linear, product_is (a +ℤ b) c, product_is a c, product_is b c, ap (λ t. t * up c) l, ap (λ t. t * down c) l)
 
 pub mul_mul : (a b c : ℤ) → (a *ℤ b) *ℤ c ≡ a *ℤ (b *ℤ c)
 mul_mul a b c =
-  let l = product_is a b in
-  let r = product_is b c in
-  omega (arith, linear, product_is (a *ℤ b) c, product_is a (b *ℤ c),
-    ap (λ t. t * up c) l.0, ap (λ t. t * down c) l.0, ap (λ t. t * up c) l.1, ap (λ t. t * down c) l.1,
-    ap (λ t. up a * t) r.0, ap (λ t. down a * t) r.0, ap (λ t. up a * t) r.1, ap (λ t. down a * t) r.1)
+    let l = product_is a b in
+    let r = product_is b c in
+    omega (
+      arith,
+      linear,
+      product_is (a *ℤ b) c,
+      product_is a (b *ℤ c),
+      ap (λ t. t * up c) l.0,
+      ap (λ t. t * down c) l.0,
+      ap (λ t. t * up c) l.1,
+      ap (λ t. t * down c) l.1,
+      ap (λ t. up a * t) r.0,
+      ap (λ t. down a * t) r.0,
+      ap (λ t. up a * t) r.1,
+      ap (λ t. down a * t) r.1,
+    )
 
 pub mul_swap : (a b : ℤ) → a *ℤ b ≡ b *ℤ a
 mul_swap a b = omega (arith, linear, product_is a b, product_is b a)
@@ -57,23 +68,23 @@ one_mul a = omega (arith, linear, product_is (pos 1) a)
 
 pub mul_at_most : (a b c : ℤ) → pos 0 ≤ℤ c → a ≤ℤ b → (a *ℤ c) ≤ℤ (b *ℤ c)
 mul_at_most a b (pos k) n h =
-  omega (arith, linear, product_is a (pos k), product_is b (pos k), mul-le (up a + down b) k (up b + down a) k (omega (arith, linear)) (omega arith))
+    omega (arith, linear, product_is a (pos k), product_is b (pos k), mul-le (up a + down b) k (up b + down a) k (omega (arith, linear)) (omega arith))
 mul_at_most a b (negsuc k) n h = absurd (omega (arith, linear, le_out (pos 0) (negsuc k) n))
 
 pub mul_below : (a b c : ℤ) → pos 0 <ℤ c → a <ℤ b → (a *ℤ c) <ℤ (b *ℤ c)
 mul_below a b c n h =
-  let step : (a +ℤ pos 1) ≤ℤ b = omega (arith, linear) in
-  let zero_c : pos 0 ≤ℤ c = omega (arith, linear) in
-  omega (arith, linear, mul_at_most (a +ℤ pos 1) b c zero_c step, add_mul a (pos 1) c, one_mul c)
+    let step : (a +ℤ pos 1) ≤ℤ b = omega (arith, linear) in
+    let zero_c : pos 0 ≤ℤ c = omega (arith, linear) in
+    omega (arith, linear, mul_at_most (a +ℤ pos 1) b c zero_c step, add_mul a (pos 1) c, one_mul c)
 
 pub cancel_at_most : (a b c : ℤ) → pos 0 <ℤ c → (a *ℤ c) ≤ℤ (b *ℤ c) → a ≤ℤ b
 cancel_at_most a b c n h = by_lt_z b a (λ l. absurd (omega (arith, linear, mul_below b a c n l))) (λ l. l)
 
 pub cancel_equal : (a b c : ℤ) → pos 0 <ℤ c → a *ℤ c ≡ b *ℤ c → a ≡ b
 cancel_equal a b c n h =
-  let l : a ≤ℤ b = cancel_at_most a b c n (omega (arith, linear)) in
-  let r : b ≤ℤ a = cancel_at_most b a c n (omega (arith, linear)) in
-  omega (arith, linear)
+    let l : a ≤ℤ b = cancel_at_most a b c n (omega (arith, linear)) in
+    let r : b ≤ℤ a = cancel_at_most b a c n (omega (arith, linear)) in
+    omega (arith, linear)
 
 pub mul_not_negative : (a b : ℤ) → pos 0 ≤ℤ a → pos 0 ≤ℤ b → pos 0 ≤ℤ (a *ℤ b)
 mul_not_negative a b h k = omega (arith, linear, mul_at_most (pos 0) a b k h, zero_mul b)

@@ -5,4 +5,6 @@ pub mod Signs
 pub mod Weighted
 pub mod Derived
 pub mod Refuting
+pub mod Certificates
+pub mod Lists
 mod WorkedSystems

@@ -73,21 +73,21 @@ drop-scaled (suc n) k (x ∷ xs) = drop-scaled n k xs
 
 pub take-linear : (n : ℕ) (f : List ℤ → ℤ) → IsLinear f → IsLinear (λ xs. f (take n xs))
 take-linear n f h = record {
-    of_sum = λ xs ys. ap f (take-sum n xs ys) ∙ h.of_sum (take n xs) (take n ys);
-    of_scaled = λ k xs. ap f (take-scaled n k xs) ∙ h.of_scaled k (take n xs);
-  }
+  of_sum = λ xs ys. ap f (take-sum n xs ys) ∙ h.of_sum (take n xs) (take n ys);
+  of_scaled = λ k xs. ap f (take-scaled n k xs) ∙ h.of_scaled k (take n xs);
+}
 
 pub drop-linear : (n : ℕ) (f : List ℤ → ℤ) → IsLinear f → IsLinear (λ xs. f (drop n xs))
 drop-linear n f h = record {
-    of_sum = λ xs ys. ap f (drop-sum n xs ys) ∙ h.of_sum (drop n xs) (drop n ys);
-    of_scaled = λ k xs. ap f (drop-scaled n k xs) ∙ h.of_scaled k (drop n xs);
-  }
+  of_sum = λ xs ys. ap f (drop-sum n xs ys) ∙ h.of_sum (drop n xs) (drop n ys);
+  of_scaled = λ k xs. ap f (drop-scaled n k xs) ∙ h.of_scaled k (drop n xs);
+}
 
 pub difference-linear : (f g : List ℤ → ℤ) → IsLinear f → IsLinear g → IsLinear (λ xs. f xs -ℤ g xs)
 difference-linear f g h k = record {
-    of_sum = λ xs ys. omega (arith, linear, h.of_sum xs ys, k.of_sum xs ys);
-    of_scaled = λ m xs. omega (arith, linear, h.of_scaled m xs, k.of_scaled m xs, mul_add m (f xs) (neg_ℤ (g xs)), mul_neg m (g xs));
-  }
+  of_sum = λ xs ys. omega (arith, linear, h.of_sum xs ys, k.of_sum xs ys);
+  of_scaled = λ m xs. omega (arith, linear, h.of_scaled m xs, k.of_scaled m xs, mul_add m (f xs) (neg_ℤ (g xs)), mul_neg m (g xs));
+}
 
 -- ---- combinations and what is left of them after the division
 
@@ -107,13 +107,13 @@ by_divisor xs same positive = by_size (gcd_of xs) (λ e. same (reduced-same xs e
 -- What vanishes on both vanishes on the made line; what is not negative stays so.
 pub reduced_vanishes : (f : List ℤ → ℤ) → IsLinear f → (xs : List ℤ) → f xs ≡ pos 0 → f (reduced xs) ≡ pos 0
 reduced_vanishes f h xs e = by_divisor xs
-  (λ z. ap f z ∙ e)
-  (λ p. cancel_equal (f (reduced xs)) (pos 0) (pos (gcd_of xs)) p (mul_swap (f (reduced xs)) (pos (gcd_of xs)) ∙ of_reduced f h xs ∙ e ∙ sym (zero_mul (pos (gcd_of xs)))))
+    (λ z. ap f z ∙ e)
+    (λ p. cancel_equal (f (reduced xs)) (pos 0) (pos (gcd_of xs)) p (mul_swap (f (reduced xs)) (pos (gcd_of xs)) ∙ of_reduced f h xs ∙ e ∙ sym (zero_mul (pos (gcd_of xs)))))
 
 pub reduced_not_negative : (f : List ℤ → ℤ) → IsLinear f → (xs : List ℤ) → pos 0 ≤ℤ f xs → pos 0 ≤ℤ f (reduced xs)
 reduced_not_negative f h xs e = by_divisor xs
-  (λ z. let i = ap f z in omega (arith, linear))
-  (λ p. let i = mul_swap (f (reduced xs)) (pos (gcd_of xs)) ∙ of_reduced f h xs in
+    (λ z. let i = ap f z in omega (arith, linear))
+    (λ p. let i = mul_swap (f (reduced xs)) (pos (gcd_of xs)) ∙ of_reduced f h xs in
     cancel_at_most (pos 0) (f (reduced xs)) (pos (gcd_of xs)) p (omega (arith, linear, zero_mul (pos (gcd_of xs)))))
 
 pub from_reduced_vanishes : (f : List ℤ → ℤ) → IsLinear f → (xs : List ℤ) → f (reduced xs) ≡ pos 0 → f xs ≡ pos 0
@@ -121,6 +121,6 @@ from_reduced_vanishes f h xs e = sym (of_reduced f h xs) ∙ ap (λ t. pos (gcd_
 
 pub from_reduced_at_most : (f : List ℤ → ℤ) → IsLinear f → (xs : List ℤ) → f (reduced xs) ≤ℤ pos 0 → f xs ≤ℤ pos 0
 from_reduced_at_most f h xs e =
-  let g = pos (gcd_of xs) in
-  let n : pos 0 ≤ℤ g = omega (arith, linear) in
-  omega (arith, linear, mul_at_most (f (reduced xs)) (pos 0) g n e, zero_mul g, mul_swap (f (reduced xs)) g, of_reduced f h xs)
+    let g = pos (gcd_of xs) in
+    let n : pos 0 ≤ℤ g = omega (arith, linear) in
+    omega (arith, linear, mul_at_most (f (reduced xs)) (pos 0) g n e, zero_mul g, mul_swap (f (reduced xs)) g, of_reduced f h xs)

@@ -116,10 +116,14 @@ unfolding listed
 listed_in_order all rows last k equal [] l e h = tt
 listed_in_order all [] last k equal (m ∷ ms) l e h = absurd h
 listed_in_order all (row ∷ rows) last k equal (pos zero ∷ ms) l e h =
-  listed_in_order all rows last (suc k) equal ms (omega arith) (split_at all rows k row e).1 h.1
-listed_in_order all (row ∷ rows) last k equal (pos (suc m) ∷ ms) l e h =
-  (omega arith, allowed_at all rows k row equal (pos (suc m)) e h.0,
-    listed_in_order all rows (suc k) (suc k) equal ms (omega arith) (split_at all rows k row e).1 h.1)
-listed_in_order all (row ∷ rows) last k equal (negsuc m ∷ ms) l e h =
-  (omega arith, allowed_at all rows k row equal (negsuc m) e h.0,
-    listed_in_order all rows (suc k) (suc k) equal ms (omega arith) (split_at all rows k row e).1 h.1)
+    listed_in_order all rows last (suc k) equal ms (omega arith) (split_at all rows k row e).1 h.1
+listed_in_order all (row ∷ rows) last k equal (pos (suc m) ∷ ms) l e h = (
+  omega arith,
+  allowed_at all rows k row equal (pos (suc m)) e h.0,
+  listed_in_order all rows (suc k) (suc k) equal ms (omega arith) (split_at all rows k row e).1 h.1,
+)
+listed_in_order all (row ∷ rows) last k equal (negsuc m ∷ ms) l e h = (
+  omega arith,
+  allowed_at all rows k row equal (negsuc m) e h.0,
+  listed_in_order all rows (suc k) (suc k) equal ms (omega arith) (split_at all rows k row e).1 h.1,
+)

@@ -26,8 +26,8 @@ bounds_of rows = map (λ row. row.bound) rows
 added : (o : Option Row) (row : Row) (m : ℤ) (total : Row) (y : List ℤ) → o ≡ Some row → product_of (add_weighted o m total).coefficients y ≡ m *ℤ product_of row.coefficients y +ℤ product_of total.coefficients y
 added None row m total y e = absurd cc
 added (Some other) row m total y e =
-  let same : other ≡ row = cc in
-  product-sum (scaled m other.coefficients) total.coefficients y
+    let same : other ≡ row = cc in
+    product-sum (scaled m other.coefficients) total.coefficients y
     ∙ ap (λ t. t +ℤ product_of total.coefficients y) (product-scaled m other.coefficients y)
     ∙ ap (λ (r : Row). m *ℤ product_of r.coefficients y +ℤ product_of total.coefficients y) same
 
@@ -40,14 +40,14 @@ unfolding listed
 weighted_coefficients all rows k equal [] y e h = refl
 weighted_coefficients all [] k equal (m ∷ ms) y e h = absurd h
 weighted_coefficients all (row ∷ rows) k equal (pos zero ∷ ms) y e h =
-  omega (arith, linear, weighted_coefficients all rows (suc k) equal ms y (split_at all rows k row e).1 h.1, zero_mul (product_of row.coefficients y))
+    omega (arith, linear, weighted_coefficients all rows (suc k) equal ms y (split_at all rows k row e).1 h.1, zero_mul (product_of row.coefficients y))
 weighted_coefficients all (row ∷ rows) k equal (pos (suc m) ∷ ms) y e h =
-  let at = split_at all rows k row e in
-  added (row_numbered all (suc k)) row (pos (suc m)) (weighted_sum all (listed (suc (suc k)) ms)) y at.0
+    let at = split_at all rows k row e in
+    added (row_numbered all (suc k)) row (pos (suc m)) (weighted_sum all (listed (suc (suc k)) ms)) y at.0
     ∙ ap (λ t. pos (suc m) *ℤ product_of row.coefficients y +ℤ t) (weighted_coefficients all rows (suc k) equal ms y at.1 h.1)
 weighted_coefficients all (row ∷ rows) k equal (negsuc m ∷ ms) y e h =
-  let at = split_at all rows k row e in
-  added (row_numbered all (suc k)) row (negsuc m) (weighted_sum all (listed (suc (suc k)) ms)) y at.0
+    let at = split_at all rows k row e in
+    added (row_numbered all (suc k)) row (negsuc m) (weighted_sum all (listed (suc (suc k)) ms)) y at.0
     ∙ ap (λ t. negsuc m *ℤ product_of row.coefficients y +ℤ t) (weighted_coefficients all rows (suc k) equal ms y at.1 h.1)
 
 pub weighted_bound : (all rows : List Row) (k : ℕ) (equal : Bool) (ms : List ℤ) → drop k all ≡ rows → Signs equal rows ms → (weighted_sum all (listed (suc k) ms)).bound ≡ product_of ms (bounds_of rows)
@@ -55,14 +55,14 @@ unfolding listed
 weighted_bound all rows k equal [] e h = refl
 weighted_bound all [] k equal (m ∷ ms) e h = absurd h
 weighted_bound all (row ∷ rows) k equal (pos zero ∷ ms) e h =
-  omega (arith, linear, weighted_bound all rows (suc k) equal ms (split_at all rows k row e).1 h.1, zero_mul row.bound)
+    omega (arith, linear, weighted_bound all rows (suc k) equal ms (split_at all rows k row e).1 h.1, zero_mul row.bound)
 weighted_bound all (row ∷ rows) k equal (pos (suc m) ∷ ms) e h =
-  let at = split_at all rows k row e in
-  added_bound (row_numbered all (suc k)) row (pos (suc m)) (weighted_sum all (listed (suc (suc k)) ms)) at.0
+    let at = split_at all rows k row e in
+    added_bound (row_numbered all (suc k)) row (pos (suc m)) (weighted_sum all (listed (suc (suc k)) ms)) at.0
     ∙ ap (λ t. pos (suc m) *ℤ row.bound +ℤ t) (weighted_bound all rows (suc k) equal ms at.1 h.1)
 weighted_bound all (row ∷ rows) k equal (negsuc m ∷ ms) e h =
-  let at = split_at all rows k row e in
-  added_bound (row_numbered all (suc k)) row (negsuc m) (weighted_sum all (listed (suc (suc k)) ms)) at.0
+    let at = split_at all rows k row e in
+    added_bound (row_numbered all (suc k)) row (negsuc m) (weighted_sum all (listed (suc (suc k)) ms)) at.0
     ∙ ap (λ t. negsuc m *ℤ row.bound +ℤ t) (weighted_bound all rows (suc k) equal ms at.1 h.1)
 
 product_none : (xs : List ℤ) → product_of xs [] ≡ pos 0
@@ -72,9 +72,10 @@ product_none (x ∷ xs) = refl
 -- A list whose products all vanish is zeros.
 pub zeros_from_products : (xs : List ℤ) → ((y : List ℤ) → product_of xs y ≡ pos 0) → AllByRecursion (λ a. a ≡ pos 0) xs
 zeros_from_products [] h = tt
-zeros_from_products (x ∷ xs) h =
-  (omega (arith, linear, h (pos 1 ∷ []), mul_one x, product_none xs),
-   zeros_from_products xs (λ y. omega (arith, linear, h (pos 0 ∷ y), mul_zero x)))
+zeros_from_products (x ∷ xs) h = (
+  omega (arith, linear, h (pos 1 ∷ []), mul_one x, product_none xs),
+  zeros_from_products xs (λ y. omega (arith, linear, h (pos 0 ∷ y), mul_zero x)),
+)
 
 -- ---- divisors
 
@@ -92,11 +93,12 @@ pub multiple_product : (g : ℕ) (ms ys : List ℤ) → DivideAll g ms → IsMul
 multiple_product g [] ys h = (pos 0, sym (mul_zero (pos g)))
 multiple_product g (m ∷ ms) [] h = (pos 0, sym (mul_zero (pos g)))
 multiple_product g (m ∷ ms) (y ∷ ys) h =
-  let here = multiple_from_divides g m h.0 in
-  let rest = multiple_product g ms ys h.1 in
-  (here.0 *ℤ y +ℤ rest.0,
-   ap (λ t. t *ℤ y +ℤ product_of ms ys) here.1 ∙ ap (λ t. (pos g *ℤ here.0) *ℤ y +ℤ t) rest.1
-     ∙ ap (λ t. t +ℤ pos g *ℤ rest.0) (mul_mul (pos g) here.0 y) ∙ sym (mul_add (pos g) (here.0 *ℤ y) rest.0))
+    let here = multiple_from_divides g m h.0 in
+    let rest = multiple_product g ms ys h.1 in (
+      here.0 *ℤ y +ℤ rest.0,
+      ap (λ t. t *ℤ y +ℤ product_of ms ys) here.1 ∙ ap (λ t. (pos g *ℤ here.0) *ℤ y +ℤ t) rest.1
+          ∙ ap (λ t. t +ℤ pos g *ℤ rest.0) (mul_mul (pos g) here.0 y) ∙ sym (mul_add (pos g) (here.0 *ℤ y) rest.0),
+    )
 
 -- What divides the listed multipliers divides them all.
 pub divides_listed : (g k : ℕ) (ms : List ℤ) → AllByRecursion (λ pair. g ∣ unsigned_abs pair.1) (listed k ms) → DivideAll g ms

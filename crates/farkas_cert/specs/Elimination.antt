@@ -58,12 +58,19 @@ abbrev pub refuted : System → ℕ → List ℤ → Outcome
 refuted system stage ms = let pairs = listed 1 ms in cond (check_fits system.rows pairs) (Refuted pairs) (Leaves stage Overflow)
 
 -- The first false line without a variable ends the work as refuted; the other lines without a variable are removed.
+abbrev pub tested_by : System → ℕ → Work → Option Line → Next
+tested_by system stage work (Some line) = Ends (refuted system stage (refuting system.columns line))
+tested_by system stage work None = Goes (record work { lines = filter (has_variable system.columns) work.lines })
+
 unfoldable pub tested : System → ℕ → Work → Next
-tested system stage work =
-    elim (find (is_false system.columns) work.lines) [
-      | Some line ↦ Ends (refuted system stage (refuting system.columns line))
-      | None ↦ Goes (record work { lines = filter (has_variable system.columns) work.lines })
-    ]
+tested system stage work = tested_by system stage work (find (is_false system.columns) work.lines)
+
+-- ---- a stage
+
+-- A stage keeps lines for its column and goes on with others; it leaves where one of those could not be made.
+abbrev pub follows : Work → Kept → ℕ → Option (List Line) → Next
+follows work kept made None = Ends (Leaves (suc (length work.kept)) Overflow)
+follows work kept made (Some lines) = Goes (record { lines = lines; kept = kept ∷ work.kept; made = made })
 
 -- ---- a stage with an equality
 
@@ -87,10 +94,7 @@ substituted c equality line =
 unfoldable pub equality_stage : System → Work → Line → Next
 equality_stage system work equality =
     let c = lowest_column system.columns equality in
-    elim (every (map (substituted c equality) (without_equality work.lines))) [
-      | None ↦ Ends (Leaves (suc (length work.kept)) Overflow)
-      | Some lines ↦ Goes (record work { lines = lines; kept = Solved c equality ∷ work.kept })
-    ]
+    follows work (Solved c equality) work.made (every (map (substituted c equality) (without_equality work.lines)))
 
 -- ---- a stage without one
 
@@ -130,52 +134,60 @@ unfoldable pub pair_stage : System → Work → Next
 pair_stage system work =
     let c = lowest_of system.columns work.lines in
     let made = work.made + length (positives c work.lines) * length (negatives c work.lines) in
-    let stage = suc (length work.kept) in
-    if are_too_many system made then Ends (Leaves stage Rows) else
-    (elim (pairs_at c work.lines) [
-      | None ↦ Ends (Leaves stage Overflow)
-      | Some pairs ↦ Goes (record {
-        lines = without_column c work.lines ++ pairs;
-        kept = Bounded c (with_column c work.lines) ∷ work.kept;
-        made = made;
-      })
-    ])
+    if are_too_many system made then Ends (Leaves (suc (length work.kept)) Rows) else
+    (follows work (Bounded c (with_column c work.lines)) made (option_map (λ pairs. without_column c work.lines ++ pairs) (pairs_at c work.lines)))
 
 -- ---- the whole
 
 -- A stage takes a column out, by the first equality where there is one,
+abbrev pub taken_out_by : System → Work → Option Line → Next
+taken_out_by system work (Some equality) = equality_stage system work equality
+taken_out_by system work None = pair_stage system work
+
 unfoldable pub taken_out : System → Work → Next
-taken_out system work =
-    elim (find (λ line. line.equal) work.lines) [ Some equality ↦ equality_stage system work equality | None ↦ pair_stage system work ]
+taken_out system work = taken_out_by system work (find (λ line. line.equal) work.lines)
 
 -- and ends with the constant test.
+abbrev pub then_tested : System → Next → Next
+then_tested system (Goes work) = tested system (length work.kept) work
+then_tested system (Ends outcome) = Ends outcome
+
 unfoldable pub stage : System → Work → Next
-stage system work =
-    elim (taken_out system work) [ Goes next ↦ tested system (length next.kept) next | Ends outcome ↦ Ends outcome ]
+stage system work = then_tested system (taken_out system work)
 
 -- The columns that stages took are set, the latest first. A number that does not fit is one of the column's stage.
+abbrev pub or_leaves : ℕ → (RationalPoint → Outcome) → Option RationalPoint → Outcome
+or_leaves stage more None = Leaves stage Overflow
+or_leaves stage more (Some point) = more point
+
 unfoldable pub point_from : ℕ → List Kept → RationalPoint → Outcome
 point_from n [] point = Point point.numerators point.denominator
-point_from n (kept ∷ earlier) point =
-    elim (set_column n point kept) [ None ↦ Leaves (suc (length earlier)) Overflow | Some next ↦ point_from n earlier next ]
+point_from n (kept ∷ earlier) point = or_leaves (suc (length earlier)) (point_from n earlier) (set_column n point kept)
 
 -- Columns that no stage took stay 0.
 abbrev pub point_of : ℕ → List Kept → Outcome
 point_of n kept = point_from n kept (record { numerators = replicate n (pos 0); denominator = pos 1 })
 
+abbrev pub or_ends : (Work → Outcome) → Next → Outcome
+or_ends more (Goes work) = more work
+or_ends more (Ends outcome) = outcome
+
 -- Stages follow until no line is left, which gives a point. Each takes another column, so the fuel can be the number of columns.
+abbrev pub goes_on : System → Work → (Work → Outcome) → List Line → Outcome
+goes_on system work more [] = point_of system.columns work.kept
+goes_on system work more (line ∷ lines) = or_ends more (stage system work)
+
 unfoldable pub stages : ℕ → System → Work → Outcome
 stages zero system work = point_of system.columns work.kept
-stages (suc fuel) system work =
-    elim work.lines [
-      | [] ↦ point_of system.columns work.kept
-      | line ∷ lines ↦ elim (stage system work) [ Goes next ↦ stages fuel system next | Ends outcome ↦ outcome ]
-    ]
+stages (suc fuel) system work = goes_on system work (stages fuel system) work.lines
 
 -- what the given rows come to, after the constant test
 unfoldable pub begun : System → Next
 begun system = tested system 0 (record { lines = given_lines (length system.rows) 0 system.rows; kept = []; made = 0 })
 
--- what the elimination of a system comes to
-unfoldable pub eliminated : System → Outcome
-eliminated system = elim (begun system) [ Goes work ↦ stages system.columns system work | Ends outcome ↦ outcome ]
+-- what the elimination of a system comes to, where so many stages may follow one another
+unfoldable pub eliminated_within : ℕ → System → Outcome
+eliminated_within fuel system = or_ends (stages fuel system) (begun system)
+
+abbrev pub eliminated : System → Outcome
+eliminated system = eliminated_within system.columns system

@@ -1,0 +1,67 @@
+-- What holds of each element of a list, through the list operations of the elimination.
+use Rattle.std.proofs.Common.{◌≡◌, ℕ, refl, sym, ap, subst, List, [], ◌∷◌, ◌++◌, map, Bool, true, false, cond, Some, None, Option}
+use Rattle.std.specs.Prelude.{filter, flat_map, find}
+use Rattle.std.specs.Option.{option_map}
+use Rattle.std.specs.List.{AllByRecursion}
+use Rattle.farkas_cert.specs.Elimination.{every}
+
+pub all_filter : {X : Type 0} (P : X → Type 0) (p : X → Bool) (xs : List X) → AllByRecursion P xs → AllByRecursion P (filter p xs)
+all_filter P p [] h = tt
+all_filter P p (x ∷ xs) h = keep (all_filter P p xs h.1) (p x) where
+  keep : AllByRecursion P (filter p xs) → (b : Bool) → AllByRecursion P (cond b (x ∷ filter p xs) (filter p xs))
+  keep rest true = (h.0, rest)
+  keep rest false = rest
+
+-- the elements of a filter pass its test
+pub filter_all : {X : Type 0} (p : X → Bool) (xs : List X) → AllByRecursion (λ x. p x ≡ true) (filter p xs)
+filter_all p [] = tt
+filter_all p (x ∷ xs) = keep (filter_all p xs) (p x) refl where
+  keep : AllByRecursion (λ x. p x ≡ true) (filter p xs) → (b : Bool) → p x ≡ b → AllByRecursion (λ x. p x ≡ true) (cond b (x ∷ filter p xs) (filter p xs))
+  keep rest true e = (e, rest)
+  keep rest false e = rest
+
+pub all_both : {X : Type 0} (P Q : X → Type 0) (xs : List X) → AllByRecursion P xs → AllByRecursion Q xs → AllByRecursion (λ x. P x × Q x) xs
+all_both P Q [] h k = tt
+all_both P Q (x ∷ xs) h k = ((h.0, k.0), all_both P Q xs h.1 k.1)
+
+pub all_append : {X : Type 0} (P : X → Type 0) (xs ys : List X) → AllByRecursion P xs → AllByRecursion P ys → AllByRecursion P (xs ++ ys)
+all_append P [] ys h k = k
+all_append P (x ∷ xs) ys h k = (h.0, all_append P xs ys h.1 k)
+
+-- what holds of each element and follows for another predicate
+pub all_from : {X : Type 0} (P Q : X → Type 0) (xs : List X) → ((x : X) → P x → Q x) → AllByRecursion P xs → AllByRecursion Q xs
+all_from P Q [] f h = tt
+all_from P Q (x ∷ xs) f h = (f x h.0, all_from P Q xs f h.1)
+
+pub all_map : {X Y : Type 0} (P : X → Type 0) (Q : Y → Type 0) (f : X → Y) (xs : List X) → ((x : X) → P x → Q (f x)) → AllByRecursion P xs → AllByRecursion Q (map f xs)
+all_map P Q f [] g h = tt
+all_map P Q f (x ∷ xs) g h = (g x h.0, all_map P Q f xs g h.1)
+
+pub all_flat_map : {X Y : Type 0} (P : X → Type 0) (Q : Y → Type 0) (f : X → List Y) (xs : List X) → ((x : X) → P x → AllByRecursion Q (f x)) → AllByRecursion P xs → AllByRecursion Q (flat_map f xs)
+all_flat_map P Q f [] g h = tt
+all_flat_map P Q f (x ∷ xs) g h = all_append Q (f x) (flat_map f xs) (g x h.0) (all_flat_map P Q f xs g h.1)
+
+-- the first element that passes
+pub found : {X : Type 0} (P : X → Type 0) (p : X → Bool) (xs : List X) (y : X) → AllByRecursion P xs → find p xs ≡ Some y → P y × (p y ≡ true)
+found P p [] y h e = absurd cc
+found {X} P p (x ∷ xs) y h e = at (found P p xs y h.1) (p x) refl e where
+  at : (find p xs ≡ Some y → P y × (p y ≡ true)) → (b : Bool) → p x ≡ b → cond b (Some x) (find p xs) ≡ Some y → P y × (p y ≡ true)
+  at rest true t e = let same : x ≡ y = cc in subst (λ (z : X). P z × (p z ≡ true)) same (h.0, t)
+  at rest false t e = rest e
+
+pub none_found : {X : Type 0} (p : X → Bool) (xs : List X) → find p xs ≡ None → AllByRecursion (λ x. p x ≡ false) xs
+none_found p [] e = tt
+none_found p (x ∷ xs) e = at (none_found p xs) (p x) refl e where
+  at : (find p xs ≡ None → AllByRecursion (λ x. p x ≡ false) xs) → (b : Bool) → p x ≡ b → cond b (Some x) (find p xs) ≡ None → (p x ≡ false) × AllByRecursion (λ x. p x ≡ false) xs
+  at rest true t e = absurd cc
+  at rest false t e = (t, rest e)
+
+-- where each value is there, what holds of what is there holds of the values
+pub all_every : {X : Type 0} (P : X → Type 0) (os : List (Option X)) (xs : List X) → AllByRecursion (λ o. (x : X) → o ≡ Some x → P x) os → every os ≡ Some xs → AllByRecursion P xs
+unfolding every
+all_every P [] xs h e = let same : [] ≡ xs = cc in rw (← same) tt
+all_every P (None ∷ os) xs h e = absurd cc
+all_every {X} P (Some x ∷ os) xs h e = at (λ ys. all_every P os ys h.1) (every os) refl e where
+  at : ((ys : List X) → every os ≡ Some ys → AllByRecursion P ys) → (o : Option (List X)) → every os ≡ o → option_map (λ ys. x ∷ ys) o ≡ Some xs → AllByRecursion P xs
+  at rest None t e = absurd cc
+  at rest (Some ys) t e = let same : x ∷ ys ≡ xs = cc in rw (← same) (h.0 x refl, rest ys t)
