@@ -2,7 +2,7 @@
 use Rattle.std.proofs.Common.{◌≡◌, ℕ, zero, suc, ◌+◌, ◌*◌, ◌<◌, ◌≤◌, refl, sym, ap, ◌∙◌, arith, subst, List, [], ◌∷◌, ◌++◌, map, take, drop, length, get_or, Bool, true, false, cond, Some, None, Option, ◌⊎◌, inl, inr}
 use Rattle.std.specs.Prelude.{ℤ, pos, negsuc, neg_ℤ, ◌+ℤ◌, ◌-ℤ◌, ◌*ℤ◌, ◌≤ℤ◌, ◌<ℤ◌, slice_get, slice_set, replicate, unsigned_abs, ◌&&◌, not, int_lt, nat_lt}
 use Rattle.std.specs.Int.{◌∣◌}
-use Rattle.std.specs.List.{AllByRecursion, position_or_len}
+use Rattle.std.specs.List.{AllByRecursion, list_any}
 use Rattle.std.proofs.lemmas.Bool.{ltb-false}
 use Rattle.std.proofs.lemmas.Int.{ints}
 use Rattle.std.proofs.lemmas.Nat.Gcd.{le_of_dvd, dvd-zero}
@@ -114,12 +114,11 @@ pub not_true : (a : Bool) → not a ≡ true → a ≡ false
 not_true true e = absurd cc
 not_true false e = refl
 
-pub zeros_below : (xs : List ℤ) (n : ℕ) → n ≤ position_or_len is_nonzero (take n xs) → AllZero (take n xs)
-zeros_below xs zero h = tt
-zeros_below [] (suc n) h = tt
-zeros_below (pos zero ∷ xs) (suc n) h = (refl, zeros_below xs n (omega arith))
-zeros_below (pos (suc m) ∷ xs) (suc n) h = absurd (omega arith)
-zeros_below (negsuc m ∷ xs) (suc n) h = absurd (omega arith)
+pub zeros_below : (xs : List ℤ) → list_any is_nonzero xs ≡ false → AllZero xs
+zeros_below [] e = tt
+zeros_below (pos zero ∷ xs) e = (refl, zeros_below xs e)
+zeros_below (pos (suc m) ∷ xs) e = absurd cc
+zeros_below (negsuc m ∷ xs) e = absurd cc
 
 pub product_of_zeros : (xs ys : List ℤ) → AllZero xs → product_of xs ys ≡ pos 0
 product_of_zeros [] ys h = refl
@@ -127,8 +126,8 @@ product_of_zeros (x ∷ xs) [] h = refl
 product_of_zeros (x ∷ xs) (y ∷ ys) h = rw h.0 (omega (arith, linear, zero_mul y, product_of_zeros xs ys h.1))
 
 pub no_variable : (n : ℕ) (line : Line) → has_variable n line ≡ false → AllZero (take n line.numbers)
-unfolding lowest_column
-no_variable n line e = zeros_below line.numbers n (ltb-false (position_or_len is_nonzero (take n line.numbers)) n e)
+unfolding has_variable
+no_variable n line e = zeros_below (take n line.numbers) e
 
 -- ---- false lines
 

@@ -4,7 +4,7 @@ use Rattle.std.specs.Prelude.{ℤ, pos, neg_ℤ}
 use Rattle.lin_rows.specs.Row.{Row}
 use Rattle.lin_rows.specs.System.{System}
 use Rattle.farkas_cert.specs.Divisor.{gcd, gcd_of, over, reduced}
-use Rattle.farkas_cert.specs.Line.{given_lines, lowest_column, lowest_of, is_false, refuting, listed, made}
+use Rattle.farkas_cert.specs.Line.{given_lines, has_variable, lowest_column, lowest_of, is_false, refuting, listed, made}
 use Rattle.farkas_cert.specs.Overflow.{check_fits}
 use Rattle.farkas_cert.specs.BackSubstitution.{fraction, bound_on, bounds_from, assigned, set_column}
 use Rattle.farkas_cert.specs.Elimination.{Refuted, Point, Leaves, Overflow, eliminated, eliminated_within, begun, stages, stage, taken_out, point_from, tested, equality_stage, pair_stage, pairs_at, paired, substituted, without_equality, every}
@@ -45,5 +45,5 @@ worked :
     × (eliminated (over_columns 1 (at_most (pos 2 ∷ []) (pos 5) ∷ [])) ≡ Point (pos 2 ∷ []) (pos 1))
     -- 0 <= -1
     × (eliminated (over_columns 1 (at_most (pos 0 ∷ []) (neg_ℤ (pos 1)) ∷ [])) ≡ Refuted ((1, pos 1) ∷ []))
-unfolding eliminated_within begun stages stage taken_out point_from tested equality_stage pair_stage pairs_at paired substituted without_equality every fraction bound_on bounds_from assigned set_column check_fits given_lines lowest_column lowest_of is_false refuting listed made gcd gcd_of over reduced
+unfolding eliminated_within begun stages stage taken_out point_from tested equality_stage pair_stage pairs_at paired substituted without_equality every fraction bound_on bounds_from assigned set_column check_fits given_lines has_variable lowest_column lowest_of is_false refuting listed made gcd gcd_of over reduced
 worked = (refl, refl, refl, refl, refl, refl, refl, refl, refl)

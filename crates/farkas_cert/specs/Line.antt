@@ -1,6 +1,6 @@
 -- The lines that the elimination works on: rows, each with a multiplier of every given row.
-use Rattle.std.specs.Prelude.{ℕ, zero, suc, min, ℤ, pos, negsuc, neg_ℤ, Bool, true, false, cond, not, ◌&&◌, nat_lt, int_lt, List, [], ◌∷◌, ◌++◌, map, fold, take, drop, get_or, replicate, slice_set, Option, Some, None}
-use Rattle.std.specs.List.{list_all, position_or_len}
+use Rattle.std.specs.Prelude.{ℕ, zero, suc, min, ℤ, pos, negsuc, neg_ℤ, Bool, true, false, cond, not, ◌&&◌, int_lt, List, [], ◌∷◌, ◌++◌, map, fold, take, drop, get_or, replicate, slice_set, Option, Some, None}
+use Rattle.std.specs.List.{list_all, list_any, position_or_len}
 use Rattle.thr_base.specs.Number.{fits}
 use Rattle.lin_rows.specs.Row.{Row, scaled, sum_of}
 use Rattle.farkas_cert.specs.Divisor.{reduced}
@@ -38,12 +38,13 @@ is_nonzero (pos zero) = false
 is_nonzero (pos (suc k)) = true
 is_nonzero (negsuc k) = true
 
--- the lowest column with a coefficient, or n where no column has one
+-- A coefficient is not 0.
+unfoldable pub has_variable : ℕ → Line → Bool
+has_variable n line = list_any is_nonzero (take n line.numbers)
+
+-- the first column with a coefficient
 unfoldable pub lowest_column : ℕ → Line → ℕ
 lowest_column n line = position_or_len is_nonzero (take n line.numbers)
-
-abbrev pub has_variable : ℕ → Line → Bool
-has_variable n line = nat_lt (lowest_column n line) n
 
 -- the lowest column of all lines
 unfoldable pub lowest_of : ℕ → List Line → ℕ
