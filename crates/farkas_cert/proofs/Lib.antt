@@ -7,4 +7,6 @@ pub mod Derived
 pub mod Refuting
 pub mod Certificates
 pub mod Lists
+pub mod Eliminates
+pub mod Columns
 mod WorkedSystems
