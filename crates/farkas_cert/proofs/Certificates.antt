@@ -101,7 +101,7 @@ IsPositive system c line = IsDerived system line × (int_lt (pos 0) (coefficient
 abbrev IsNegative : System → ℕ → Line → Type 0
 IsNegative system c line = IsDerived system line × (int_lt (coefficient_at c line) (pos 0) ≡ true)
 
-all_kept : {X : Type 0} (P : X → Type 0) (p : X → Bool) (xs : List X) → AllByRecursion P xs → AllByRecursion (λ x. P x × (p x ≡ true)) (filter p xs)
+pub all_kept : {X : Type 0} (P : X → Type 0) (p : X → Bool) (xs : List X) → AllByRecursion P xs → AllByRecursion (λ x. P x × (p x ≡ true)) (filter p xs)
 all_kept P p xs h = all_both P (λ x. p x ≡ true) (filter p xs) (all_filter P p xs h) (filter_all p xs)
 
 paired_derived : (system : System) (c : ℕ) (positive negative next : Line) → IsPositive system c positive → IsNegative system c negative → paired c positive negative ≡ Some next → IsDerived system next
@@ -126,7 +126,7 @@ pairs_derived system c lines pairs h e =
     (all_kept (IsDerived system) (λ line. int_lt (pos 0) (coefficient_at c line)) lines h))
     e
 
-appended : (front : List Line) (o : Option (List Line)) (lines : List Line) → option_map (λ pairs. front ++ pairs) o ≡ Some lines → (pairs : List Line) × (o ≡ Some pairs) × (front ++ pairs ≡ lines)
+pub appended : (front : List Line) (o : Option (List Line)) (lines : List Line) → option_map (λ pairs. front ++ pairs) o ≡ Some lines → (pairs : List Line) × (o ≡ Some pairs) × (front ++ pairs ≡ lines)
 appended front None lines e = absurd cc
 appended front (Some pairs) lines e = (pairs, refl, cc)
 
