@@ -21,7 +21,7 @@ use Rattle.farkas_cert.proofs.Certificates.{appended, all_kept}
 
 -- ---- how many columns are open
 
-pub count_open : ℕ → (ℕ → Bool) → ℕ
+unfoldable pub count_open : ℕ → (ℕ → Bool) → ℕ
 count_open zero f = 0
 count_open (suc n) f = cond (f n) (suc (count_open n f)) (count_open n f)
 
@@ -205,7 +205,7 @@ without_equality_within n f (line ∷ lines) h = at (without_equality_within n f
   at rest true = h.1
   at rest false = (h.0, rest)
 
-equality_stage_closes : (system : System) (f : ℕ → Bool) (work : Work) (equality : Line) → IsWithin system.columns f equality → has_variable system.columns equality ≡ true → AllWithin system.columns f work.lines → Closes system.columns f (equality_stage system work equality)
+pub equality_stage_closes : (system : System) (f : ℕ → Bool) (work : Work) (equality : Line) → IsWithin system.columns f equality → has_variable system.columns equality ≡ true → AllWithin system.columns f work.lines → Closes system.columns f (equality_stage system work equality)
 unfolding equality_stage
 equality_stage_closes system f work equality e v h =
   let n = system.columns in
@@ -235,7 +235,7 @@ without_column_within n c f lines h =
     (λ line k. within_closed n c f line k.0 (zero_by_test (coefficient_at c line) (not_false (is_nonzero (coefficient_at c line)) k.1)))
     (all_kept (IsWithin n f) (λ line. not (is_nonzero (coefficient_at c line))) lines h)
 
-pair_stage_closes : (system : System) (f : ℕ → Bool) (work : Work) → IsOpen system.columns f (lowest_of system.columns work.lines) → AllWithin system.columns f work.lines → Closes system.columns f (pair_stage system work)
+pub pair_stage_closes : (system : System) (f : ℕ → Bool) (work : Work) → IsOpen system.columns f (lowest_of system.columns work.lines) → AllWithin system.columns f work.lines → Closes system.columns f (pair_stage system work)
 unfolding pair_stage
 pair_stage_closes system f work i h = by_limit (are_too_many system made) where
   c : ℕ

@@ -9,4 +9,5 @@ pub mod Certificates
 pub mod Lists
 pub mod Eliminates
 pub mod Columns
+pub mod Fuel
 mod WorkedSystems
