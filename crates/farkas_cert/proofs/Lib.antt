@@ -10,4 +10,5 @@ pub mod Lists
 pub mod Eliminates
 pub mod Columns
 pub mod Fuel
+pub mod Fractions
 mod WorkedSystems
