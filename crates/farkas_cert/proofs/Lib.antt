@@ -11,4 +11,5 @@ pub mod Eliminates
 pub mod Columns
 pub mod Fuel
 pub mod Fractions
+pub mod Slack
 mod WorkedSystems
