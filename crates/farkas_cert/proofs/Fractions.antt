@@ -21,7 +21,7 @@ pub record IsAtMost (f g : Fraction) : Type 0 where
 pub at_most_self : (f : Fraction) → pos 0 <ℤ f.denominator → IsAtMost f f
 at_most_self f h = record { left = h; right = h; le = omega (arith, linear) }
 
-not_negative : (a : ℤ) → pos 0 <ℤ a → pos 0 ≤ℤ a
+pub not_negative : (a : ℤ) → pos 0 <ℤ a → pos 0 ≤ℤ a
 not_negative a h = omega (arith, linear)
 
 trans_by : (a b c d e f : ℤ) → pos 0 <ℤ b → pos 0 <ℤ d → pos 0 <ℤ f → (a *ℤ d) ≤ℤ (c *ℤ b) → (c *ℤ f) ≤ℤ (e *ℤ d) → (a *ℤ f) ≤ℤ (e *ℤ b)
@@ -116,7 +116,7 @@ pub record IsFractionOf (t s : ℤ) (f : Fraction) : Type 0 where
   pub positive : pos 0 <ℤ f.denominator
   pub same : f.numerator *ℤ s ≡ t *ℤ f.denominator
 
-positive_over : (g x s : ℤ) → pos 0 <ℤ g → g *ℤ x ≡ s → pos 0 <ℤ s → pos 0 <ℤ x
+pub positive_over : (g x s : ℤ) → pos 0 <ℤ g → g *ℤ x ≡ s → pos 0 <ℤ s → pos 0 <ℤ x
 positive_over g x s h e k = by_lt_z (pos 0) x (λ l. l) (λ l. absurd (omega (arith, linear, mul_at_most x (pos 0) g (not_negative g h) l, zero_mul g, mul_swap x g)))
 
 reduced_is : (t : ℤ) (s : ℕ) → 0 < s → IsFractionOf t (pos s) (reduced_fraction t s)

@@ -12,4 +12,5 @@ pub mod Columns
 pub mod Fuel
 pub mod Fractions
 pub mod Slack
+pub mod Moves
 mod WorkedSystems
