@@ -13,4 +13,5 @@ pub mod Fuel
 pub mod Fractions
 pub mod Slack
 pub mod Moves
+pub mod Sides
 mod WorkedSystems

@@ -1,0 +1,106 @@
+-- A kept line holds where the value is on the right side of its bound, and a pair that holds puts a lower bound below an upper one.
+use Rattle.std.proofs.Common.{◌≡◌, ℕ, zero, suc, ◌+◌, ◌*◌, ◌<◌, ◌≤◌, refl, sym, ap, ◌∙◌, arith, subst, List, [], ◌∷◌, take, length, get_or, Bool, true, false, cond, Some, None, Option, ◌⊎◌, inl, inr}
+use Rattle.std.specs.Prelude.{ℤ, pos, negsuc, neg_ℤ, ◌+ℤ◌, ◌-ℤ◌, ◌*ℤ◌, ◌≤ℤ◌, ◌<ℤ◌, unsigned_abs, slice_set, int_lt}
+use Rattle.std.proofs.lemmas.Int.{ints}
+use Rattle.std.proofs.lemmas.List.{get_or-take}
+use Rattle.lin_rows.specs.Row.{product_of, scaled}
+use Rattle.farkas_cert.specs.Divisor.{gcd, over, reduced}
+use Rattle.farkas_cert.specs.Line.{Line, coefficient_at, bound_of, is_nonzero, combination, made}
+use Rattle.farkas_cert.specs.BackSubstitution.{RationalPoint, Fraction, fraction, bound_on}
+use Rattle.farkas_cert.specs.Elimination.{paired, substituted}
+use Rattle.farkas_cert.proofs.Divisors.{gcd-IsGcd, over-exact}
+use Rattle.farkas_cert.proofs.Eliminates.{gcd_positive, gcd_positive_left, positive_abs, nonzero_abs}
+use Rattle.farkas_cert.proofs.Fractions.{factors, IsAtMost, IsFractionOf, fraction_is, positive_over, not_negative}
+use Rattle.farkas_cert.proofs.Integers.{linear, mul_add, add_mul, mul_mul, mul_swap, mul_swap_left, mul_neg, neg_mul, mul_zero, zero_mul, mul_one, one_mul, mul_at_most, cancel_at_most, cancel_equal, mul_positive, mul_not_negative}
+use Rattle.farkas_cert.proofs.Linear.{IsLinear, of_combination, from_reduced_vanishes, from_reduced_at_most}
+use Rattle.farkas_cert.proofs.Derived.{made_is}
+use Rattle.farkas_cert.proofs.Slack.{slack, slack_linear, Holds, MeetsLine, without_product, rest_of, bound_on_is}
+use Rattle.farkas_cert.proofs.Moves.{Moved, slack_at, holds_cancel}
+
+-- ---- the two sides of a bound
+
+upper_side : (s t : ℤ) (f w : Fraction) → pos 0 <ℤ s → IsFractionOf t s f → IsAtMost w f → (s *ℤ w.numerator -ℤ t *ℤ w.denominator) ≤ℤ pos 0
+upper_side s t f w h i k =
+  let wide = mul_at_most (w.numerator *ℤ f.denominator) (f.numerator *ℤ w.denominator) s (not_negative s h) k.le in
+  let left : (w.numerator *ℤ f.denominator) *ℤ s ≡ (s *ℤ w.numerator) *ℤ f.denominator = simp factors in
+  let turn : (f.numerator *ℤ w.denominator) *ℤ s ≡ (f.numerator *ℤ s) *ℤ w.denominator = simp factors in
+  let back : (t *ℤ f.denominator) *ℤ w.denominator ≡ (t *ℤ w.denominator) *ℤ f.denominator = simp factors in
+  let right = turn ∙ ap (λ x. x *ℤ w.denominator) i.same ∙ back in
+  let l : (s *ℤ w.numerator) ≤ℤ (t *ℤ w.denominator) = cancel_at_most (s *ℤ w.numerator) (t *ℤ w.denominator) f.denominator i.positive (omega (arith, linear)) in
+  omega (arith, linear)
+
+lower_side : (s t : ℤ) (f w : Fraction) → s <ℤ pos 0 → IsFractionOf t s f → IsAtMost f w → (s *ℤ w.numerator -ℤ t *ℤ w.denominator) ≤ℤ pos 0
+lower_side s t f w h i k =
+  let wide = mul_at_most (f.numerator *ℤ w.denominator) (w.numerator *ℤ f.denominator) (neg_ℤ s) (omega (arith, linear)) k.le in
+  let right : (w.numerator *ℤ f.denominator) *ℤ s ≡ (s *ℤ w.numerator) *ℤ f.denominator = simp factors in
+  let turn : (f.numerator *ℤ w.denominator) *ℤ s ≡ (f.numerator *ℤ s) *ℤ w.denominator = simp factors in
+  let back : (t *ℤ f.denominator) *ℤ w.denominator ≡ (t *ℤ w.denominator) *ℤ f.denominator = simp factors in
+  let left = turn ∙ ap (λ x. x *ℤ w.denominator) i.same ∙ back in
+  let l : (s *ℤ w.numerator) ≤ℤ (t *ℤ w.denominator) = cancel_at_most (s *ℤ w.numerator) (t *ℤ w.denominator) f.denominator i.positive
+    (omega (arith, linear, mul_neg (f.numerator *ℤ w.denominator) s, mul_neg (w.numerator *ℤ f.denominator) s)) in
+  omega (arith, linear)
+
+same_side : (s t : ℤ) (f : Fraction) → IsFractionOf t s f → s *ℤ f.numerator -ℤ t *ℤ f.denominator ≡ pos 0
+same_side s t f i = omega (arith, linear, i.same, mul_swap s f.numerator)
+
+negative_product : (a d : ℤ) → a <ℤ pos 0 → pos 0 <ℤ d → (a *ℤ d) <ℤ pos 0
+negative_product a d h k = omega (arith, linear, mul_positive (neg_ℤ a) d (omega (arith, linear)) k, neg_mul a d)
+
+nonzero_product : (a d : ℤ) → is_nonzero a ≡ true → pos 0 <ℤ d → ¬ (a *ℤ d ≡ pos 0)
+nonzero_product (pos zero) d e h = absurd cc
+nonzero_product (pos (suc a)) d e h = let p = mul_positive (pos (suc a)) d (omega (arith, linear)) h in λ z. absurd (omega (arith, linear))
+nonzero_product (negsuc a) d e h = let p = negative_product (negsuc a) d (omega (arith, linear)) h in λ z. absurd (omega (arith, linear))
+
+-- the bound of a line with the column, as a fraction
+pub bound_is : (n c : ℕ) (point : RationalPoint) (line : Line) (f : Fraction) → is_nonzero (coefficient_at c line) ≡ true → pos 0 <ℤ point.denominator → bound_on n c point line ≡ Some f
+  → IsFractionOf (rest_of n c point line) (coefficient_at c line *ℤ point.denominator) f
+bound_is n c point line f z h e =
+  subst (λ (g : Fraction). IsFractionOf (rest_of n c point line) (coefficient_at c line *ℤ point.denominator) g) (sym (bound_on_is n c point line f e))
+    (fraction_is (rest_of n c point line) (coefficient_at c line *ℤ point.denominator) (nonzero_product (coefficient_at c line) point.denominator z h))
+
+-- ---- a kept line holds
+
+holds_by : (equal : Bool) (k s : ℤ) → pos 0 <ℤ k → equal ≡ true → k *ℤ s ≡ pos 0 → Holds equal s
+holds_by true k s h t e = holds_cancel true k s h e
+holds_by false k s h t e = absurd cc
+
+holds_below : (equal : Bool) (k s : ℤ) → pos 0 <ℤ k → equal ≡ false → (k *ℤ s) ≤ℤ pos 0 → Holds equal s
+holds_below true k s h t e = absurd cc
+holds_below false k s h t e = holds_cancel false k s h e
+
+pub solved_meets : (n c : ℕ) (point : RationalPoint) (f : Fraction) (next : RationalPoint) (line : Line) → Moved c point f next → c < n → length point.numerators ≡ n → pos 0 <ℤ point.denominator
+  → is_nonzero (coefficient_at c line) ≡ true → line.equal ≡ true → bound_on n c point line ≡ Some f → MeetsLine n next line
+solved_meets n c point f next line m l h d z t e =
+  let i = bound_is n c point line f z d e in
+  let s = coefficient_at c line *ℤ point.denominator in
+  holds_by line.equal m.divisor (slack n next line.numbers) m.divisor_positive t (slack_at n c point f next line m l h ∙ same_side s (rest_of n c point line) f i)
+
+pub upper_meets : (n c : ℕ) (point : RationalPoint) (w : Fraction) (next : RationalPoint) (line : Line) (f : Fraction) → Moved c point w next → c < n → length point.numerators ≡ n → pos 0 <ℤ point.denominator
+  → line.equal ≡ false → pos 0 <ℤ coefficient_at c line → IsFractionOf (rest_of n c point line) (coefficient_at c line *ℤ point.denominator) f → IsAtMost w f → MeetsLine n next line
+upper_meets n c point w next line f m l h d t a i k =
+  let s = coefficient_at c line *ℤ point.denominator in
+  let side = upper_side s (rest_of n c point line) f w (mul_positive (coefficient_at c line) point.denominator a d) i k in
+  holds_below line.equal m.divisor (slack n next line.numbers) m.divisor_positive t (omega (arith, linear, slack_at n c point w next line m l h))
+
+pub lower_meets : (n c : ℕ) (point : RationalPoint) (w : Fraction) (next : RationalPoint) (line : Line) (f : Fraction) → Moved c point w next → c < n → length point.numerators ≡ n → pos 0 <ℤ point.denominator
+  → line.equal ≡ false → coefficient_at c line <ℤ pos 0 → IsFractionOf (rest_of n c point line) (coefficient_at c line *ℤ point.denominator) f → IsAtMost f w → MeetsLine n next line
+lower_meets n c point w next line f m l h d t a i k =
+  let s = coefficient_at c line *ℤ point.denominator in
+  let side = lower_side s (rest_of n c point line) f w (negative_product (coefficient_at c line) point.denominator a d) i k in
+  holds_below line.equal m.divisor (slack n next line.numbers) m.divisor_positive t (omega (arith, linear, slack_at n c point w next line m l h))
+
+-- ---- a pair that holds
+
+pair_bounds : (p q d u v fn fd gn gd : ℤ) → pos 0 <ℤ p → pos 0 <ℤ q → pos 0 <ℤ d → pos 0 <ℤ fd → pos 0 <ℤ gd
+  → fn *ℤ (p *ℤ d) ≡ u *ℤ fd → gn *ℤ (neg_ℤ q *ℤ d) ≡ v *ℤ gd → pos 0 ≤ℤ (q *ℤ u +ℤ p *ℤ v) → (gn *ℤ fd) ≤ℤ (fn *ℤ gd)
+pair_bounds p q d u v fn fd gn gd hp hq hd hf hg e k s =
+  let wide = mul_at_most (neg_ℤ (p *ℤ v)) (q *ℤ u) (gd *ℤ fd) (not_negative (gd *ℤ fd) (mul_positive gd fd hg hf)) (omega (arith, linear)) in
+  let turn : (gn *ℤ fd) *ℤ (p *ℤ (q *ℤ d)) ≡ (gn *ℤ (q *ℤ d)) *ℤ (fd *ℤ p) = simp factors in
+  let back : (v *ℤ gd) *ℤ (fd *ℤ p) ≡ (p *ℤ v) *ℤ (gd *ℤ fd) = simp factors in
+  let negated : gn *ℤ (q *ℤ d) ≡ neg_ℤ (v *ℤ gd) = omega (arith, linear, ap (λ t. gn *ℤ t) (neg_mul q d), mul_neg gn (q *ℤ d)) in
+  let left = turn ∙ ap (λ t. t *ℤ (fd *ℤ p)) negated ∙ neg_mul (v *ℤ gd) (fd *ℤ p) ∙ ap neg_ℤ back in
+  let turn_f : (fn *ℤ gd) *ℤ (p *ℤ (q *ℤ d)) ≡ (fn *ℤ (p *ℤ d)) *ℤ (gd *ℤ q) = simp factors in
+  let back_f : (u *ℤ fd) *ℤ (gd *ℤ q) ≡ (q *ℤ u) *ℤ (gd *ℤ fd) = simp factors in
+  let right = turn_f ∙ ap (λ t. t *ℤ (gd *ℤ q)) e ∙ back_f in
+  cancel_at_most (gn *ℤ fd) (fn *ℤ gd) (p *ℤ (q *ℤ d)) (mul_positive p (q *ℤ d) hp (mul_positive q d hq hd))
+    (omega (arith, linear, neg_mul (p *ℤ v) (gd *ℤ fd)))
