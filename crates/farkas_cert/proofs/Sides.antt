@@ -1,6 +1,7 @@
 -- A kept line holds where the value is on the right side of its bound, and a pair that holds puts a lower bound below an upper one.
 use Rattle.std.proofs.Common.{◌≡◌, ℕ, zero, suc, ◌+◌, ◌*◌, ◌<◌, ◌≤◌, refl, sym, ap, ◌∙◌, arith, subst, List, [], ◌∷◌, take, length, get_or, Bool, true, false, cond, Some, None, Option, ◌⊎◌, inl, inr}
 use Rattle.std.specs.Prelude.{ℤ, pos, negsuc, neg_ℤ, ◌+ℤ◌, ◌-ℤ◌, ◌*ℤ◌, ◌≤ℤ◌, ◌<ℤ◌, unsigned_abs, slice_set, int_lt}
+use Rattle.std.specs.Int.{int_signum, IsGcd}
 use Rattle.std.proofs.lemmas.Int.{ints}
 use Rattle.std.proofs.lemmas.List.{get_or-take}
 use Rattle.lin_rows.specs.Row.{product_of, scaled}
@@ -104,3 +105,89 @@ pair_bounds p q d u v fn fd gn gd hp hq hd hf hg e k s =
   let right = turn_f ∙ ap (λ t. t *ℤ (gd *ℤ q)) e ∙ back_f in
   cancel_at_most (gn *ℤ fd) (fn *ℤ gd) (p *ℤ (q *ℤ d)) (mul_positive p (q *ℤ d) hp (mul_positive q d hq hd))
     (omega (arith, linear, neg_mul (p *ℤ v) (gd *ℤ fd)))
+
+-- the slack of a line by its column c
+slack_split : (n c : ℕ) (point : RationalPoint) (line : Line) → c < n → slack n point line.numbers ≡ coefficient_at c line *ℤ get_or point.numerators c (pos 0) -ℤ rest_of n c point line
+slack_split n c point line l =
+  omega (arith, linear, without_product (take n line.numbers) point.numerators c, ap (λ t. t *ℤ get_or point.numerators c (pos 0)) (get_or-take n line.numbers c (pos 0) l))
+
+holds_unreduced : (equal : Bool) (f : List ℤ → ℤ) → IsLinear f → (xs : List ℤ) → Holds equal (f (reduced xs)) → Holds equal (f xs)
+holds_unreduced true f l xs h = from_reduced_vanishes f l xs h
+holds_unreduced false f l xs h = from_reduced_at_most f l xs h
+
+-- what holds of the made line holds of the combination
+unreduced : (n : ℕ) (point : RationalPoint) (equal : Bool) (a : ℤ) (left : Line) (b : ℤ) (right next : Line) → made equal a left.numbers b right.numbers ≡ Some next → MeetsLine n point next
+  → Holds equal (a *ℤ slack n point left.numbers +ℤ b *ℤ slack n point right.numbers)
+unreduced n point equal a left b right next e h =
+  let xs = combination a left.numbers b right.numbers in
+  let here : Holds equal (slack n point (reduced xs)) = subst (λ (line : Line). MeetsLine n point line) (sym (made_is equal a left.numbers b right.numbers next e)) h in
+  subst (λ t. Holds equal t) (of_combination (slack n point) (slack_linear n point) a left.numbers b right.numbers) (holds_unreduced equal (slack n point) (slack_linear n point) xs here)
+
+pub substituted_back : (n c : ℕ) (point : RationalPoint) (equality line next : Line) → is_nonzero (coefficient_at c equality) ≡ true → equality.equal ≡ true → MeetsLine n point equality → substituted c equality line ≡ Some next → MeetsLine n point next → MeetsLine n point line
+unfolding substituted
+substituted_back n c point equality line next z t m e h = at (is_nonzero q) refl e where
+  p : ℤ
+  p = coefficient_at c equality
+  q : ℤ
+  q = coefficient_at c line
+  g : ℕ
+  g = gcd (unsigned_abs p) (unsigned_abs q)
+  a : ℤ
+  a = over g (pos (unsigned_abs p))
+  b : ℤ
+  b = neg_ℤ (over g (int_signum p *ℤ q))
+  vanishes : slack n point equality.numbers ≡ pos 0
+  vanishes = subst (λ (k : Bool). Holds k (slack n point equality.numbers)) t m
+  positive : pos 0 <ℤ a
+  positive = positive_over (pos g) a (pos (unsigned_abs p)) (gcd_positive_left (unsigned_abs p) (unsigned_abs q) (nonzero_abs p z))
+    (over-exact g (pos (unsigned_abs p)) (gcd-IsGcd (unsigned_abs p) (unsigned_abs q)).0) (omega (arith, linear, nonzero_abs p z))
+  at : (k : Bool) → is_nonzero q ≡ k → cond k (made line.equal a line.numbers b equality.numbers) (Some line) ≡ Some next → MeetsLine n point line
+  at true w e =
+    let sum = unreduced n point line.equal a line b equality next e h in
+    let only : a *ℤ slack n point line.numbers +ℤ b *ℤ slack n point equality.numbers ≡ a *ℤ slack n point line.numbers =
+      omega (arith, linear, ap (λ t. b *ℤ t) vanishes, mul_zero b) in
+    holds_cancel line.equal a (slack n point line.numbers) positive (subst (λ t. Holds line.equal t) only sum)
+  at false w e = let same : line ≡ next = cc in subst (λ (l : Line). MeetsLine n point l) (sym same) h
+
+-- q times the one slack and p times the other, where their parts by g do not rise above 0
+pair_sum : (g a b p q u v x : ℤ) → pos 0 <ℤ g → g *ℤ a ≡ q → g *ℤ b ≡ p → (a *ℤ (p *ℤ x -ℤ u) +ℤ b *ℤ (neg_ℤ q *ℤ x -ℤ v)) ≤ℤ pos 0 → pos 0 ≤ℤ (q *ℤ u +ℤ p *ℤ v)
+pair_sum g a b p q u v x hg e k h =
+  let sl = p *ℤ x -ℤ u in
+  let sr = neg_ℤ q *ℤ x -ℤ v in
+  let wide = mul_at_most (a *ℤ sl +ℤ b *ℤ sr) (pos 0) g (not_negative g hg) h in
+  let left : (a *ℤ sl) *ℤ g ≡ q *ℤ sl = mul_swap (a *ℤ sl) g ∙ sym (mul_mul g a sl) ∙ ap (λ t. t *ℤ sl) e in
+  let right : (b *ℤ sr) *ℤ g ≡ p *ℤ sr = mul_swap (b *ℤ sr) g ∙ sym (mul_mul g b sr) ∙ ap (λ t. t *ℤ sr) k in
+  let meet : p *ℤ (q *ℤ x) ≡ q *ℤ (p *ℤ x) = mul_swap_left p q x in
+  omega (arith, linear, add_mul (a *ℤ sl) (b *ℤ sr) g, zero_mul g, mul_add q (p *ℤ x) (neg_ℤ u), mul_neg q u, mul_add p (neg_ℤ q *ℤ x) (neg_ℤ v), mul_neg p v, ap (λ t. p *ℤ t) (neg_mul q x), mul_neg p (q *ℤ x))
+
+pub paired_bounds : (n c : ℕ) (point : RationalPoint) (positive negative next : Line) (f g : Fraction) → c < n → pos 0 <ℤ point.denominator
+  → pos 0 <ℤ coefficient_at c positive → coefficient_at c negative <ℤ pos 0
+  → IsFractionOf (rest_of n c point positive) (coefficient_at c positive *ℤ point.denominator) f → IsFractionOf (rest_of n c point negative) (coefficient_at c negative *ℤ point.denominator) g
+  → paired c positive negative ≡ Some next → MeetsLine n point next → IsAtMost g f
+unfolding paired
+paired_bounds n c point positive negative next f g l d hp hn i k e h = record {
+  left = k.positive;
+  right = i.positive;
+  le = pair_bounds p q point.denominator (rest_of n c point positive) (rest_of n c point negative) f.numerator f.denominator g.numerator g.denominator hp hq d i.positive k.positive i.same
+    (ap (λ t. g.numerator *ℤ (t *ℤ point.denominator)) double ∙ k.same)
+    (pair_sum (pos r) (over r q) (over r p) p q (rest_of n c point positive) (rest_of n c point negative) (get_or point.numerators c (pos 0))
+      (gcd_positive_left (unsigned_abs p) (unsigned_abs q) (positive_abs p hp)) (over-exact r q at.1) (over-exact r p at.0) sum);
+} where
+  p : ℤ
+  p = coefficient_at c positive
+  q : ℤ
+  q = neg_ℤ (coefficient_at c negative)
+  r : ℕ
+  r = gcd (unsigned_abs p) (unsigned_abs q)
+  at : IsGcd (unsigned_abs p) (unsigned_abs q) r
+  at = gcd-IsGcd (unsigned_abs p) (unsigned_abs q)
+  hq : pos 0 <ℤ q
+  hq = omega (arith, linear)
+  double : neg_ℤ q ≡ coefficient_at c negative
+  double = omega (arith, linear)
+  whole_sum : (over r q *ℤ slack n point positive.numbers +ℤ over r p *ℤ slack n point negative.numbers) ≤ℤ pos 0
+  whole_sum = unreduced n point false (over r q) positive (over r p) negative next e h
+  sum : (over r q *ℤ (p *ℤ get_or point.numerators c (pos 0) -ℤ rest_of n c point positive) +ℤ over r p *ℤ (neg_ℤ q *ℤ get_or point.numerators c (pos 0) -ℤ rest_of n c point negative)) ≤ℤ pos 0
+  sum = subst (λ t. (over r q *ℤ (p *ℤ get_or point.numerators c (pos 0) -ℤ rest_of n c point positive) +ℤ over r p *ℤ (t *ℤ get_or point.numerators c (pos 0) -ℤ rest_of n c point negative)) ≤ℤ pos 0) (sym double)
+    (subst (λ t. (over r q *ℤ (p *ℤ get_or point.numerators c (pos 0) -ℤ rest_of n c point positive) +ℤ over r p *ℤ t) ≤ℤ pos 0) (slack_split n c point negative l)
+      (subst (λ t. (over r q *ℤ t +ℤ over r p *ℤ slack n point negative.numbers) ≤ℤ pos 0) (slack_split n c point positive l) whole_sum))
