@@ -14,4 +14,5 @@ pub mod Fractions
 pub mod Slack
 pub mod Moves
 pub mod Sides
+pub mod Bounds
 mod WorkedSystems
