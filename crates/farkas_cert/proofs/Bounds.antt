@@ -5,11 +5,12 @@ use Rattle.std.specs.Option.{option_map, option_and_then}
 use Rattle.std.specs.List.{AllByRecursion}
 use Rattle.std.proofs.lemmas.Int.{ints}
 use Rattle.thr_base.specs.Number.{fits}
-use Rattle.farkas_cert.specs.Line.{Line, coefficient_at}
+use Rattle.farkas_cert.specs.Line.{Line, coefficient_at, is_nonzero}
 use Rattle.farkas_cert.specs.BackSubstitution.{RationalPoint, Fraction, Bounds, bound_on, is_below, greater_of, lesser_of, narrowed, bounds_from}
 use Rattle.farkas_cert.proofs.Integers.{linear}
 use Rattle.farkas_cert.proofs.Fractions.{IsAtMost, at_most_self, at_most_trans, IsPositive}
 use Rattle.farkas_cert.proofs.Slack.{and_then_is, map_is}
+use Rattle.farkas_cert.proofs.Sides.{bound_is}
 
 -- P holds of the fraction, where there is one.
 abbrev pub IfThere : (Fraction → Type 0) → Option Fraction → Type 0
@@ -170,3 +171,58 @@ keeps L U old new false f h k o p e =
     lower = λ v s. of_one L old.lower f at.0 v greater.one o.lower p s;
     upper = o.upper;
   })
+
+-- ---- all lines
+
+abbrev pub side_of : ℕ → Line → Bool
+side_of c line = int_lt (pos 0) (coefficient_at c line)
+
+-- a line with the column, whose bound is within the bounds
+abbrev pub IsBoundedLine : ℕ → ℕ → RationalPoint → Bounds → Line → Type 0
+IsBoundedLine n c point bounds line = (f : Fraction) × (bound_on n c point line ≡ Some f) × IsBounded bounds (side_of c line) f
+
+abbrev pub HasColumn : ℕ → Line → Type 0
+HasColumn c line = is_nonzero (coefficient_at c line) ≡ true
+
+positive_side : (side : Bool) (f : Fraction) → HasPositive f → OnSide HasPositive HasPositive side f
+positive_side true f h = h
+positive_side false f h = h
+
+pub record BoundsOver (n c : ℕ) (point : RationalPoint) (old new : Bounds) (lines : List Line) : Type 0 where
+  pub narrower : IsNarrower old new
+  pub bounded : AllByRecursion (IsBoundedLine n c point new) lines
+  pub positive : OfBounds HasPositive HasPositive new
+
+pub bounds_over : (n c : ℕ) (point : RationalPoint) (old new : Bounds) (lines : List Line) → pos 0 <ℤ point.denominator → AllByRecursion (HasColumn c) lines → OfBounds HasPositive HasPositive old → bounds_from n c point old lines ≡ Some new → BoundsOver n c point old new lines
+unfolding bounds_from
+bounds_over n c point old new [] d z o e =
+  let same : old ≡ new = cc in
+  subst (λ (b : Bounds). BoundsOver n c point old b []) same (record { narrower = narrower_self old o; bounded = tt; positive = o })
+bounds_over n c point old new (line ∷ lines) d z o e =
+  let outer = and_then_is (λ next. bounds_from n c point next lines) (option_and_then (narrowed (side_of c line) old) (bound_on n c point line)) new e in
+  let inner = and_then_is (narrowed (side_of c line) old) (bound_on n c point line) outer.0 outer.1 in
+  let positive = (bound_is n c point line inner.0 z.0 d inner.1).positive in
+  let step = narrows old outer.0 (side_of c line) inner.0 o positive inner.2 in
+  let kept = keeps HasPositive HasPositive old outer.0 (side_of c line) inner.0 o positive o (positive_side (side_of c line) inner.0 positive) inner.2 in
+  let rest = bounds_over n c point outer.0 new lines d z.1 kept outer.2 in
+  record {
+    narrower = narrower_trans old outer.0 new step.narrower rest.narrower;
+    bounded = ((inner.0, inner.1, bounded_narrower outer.0 new (side_of c line) inner.0 rest.narrower step.bounded), rest.bounded);
+    positive = rest.positive;
+  }
+
+-- what holds of each line's bound, on its side
+abbrev pub BoundHas : (Fraction → Type 0) → (Fraction → Type 0) → ℕ → ℕ → RationalPoint → Line → Type 0
+BoundHas L U n c point line = (f : Fraction) → bound_on n c point line ≡ Some f → OnSide L U (side_of c line) f
+
+pub keeps_over : (L U : Fraction → Type 0) (n c : ℕ) (point : RationalPoint) (old new : Bounds) (lines : List Line) → pos 0 <ℤ point.denominator → AllByRecursion (HasColumn c) lines → OfBounds HasPositive HasPositive old
+  → AllByRecursion (BoundHas L U n c point) lines → OfBounds L U old → bounds_from n c point old lines ≡ Some new → OfBounds L U new
+unfolding bounds_from
+keeps_over L U n c point old new [] d z o h k e = let same : old ≡ new = cc in subst (λ (b : Bounds). OfBounds L U b) same k
+keeps_over L U n c point old new (line ∷ lines) d z o h k e =
+  let outer = and_then_is (λ next. bounds_from n c point next lines) (option_and_then (narrowed (side_of c line) old) (bound_on n c point line)) new e in
+  let inner = and_then_is (narrowed (side_of c line) old) (bound_on n c point line) outer.0 outer.1 in
+  let positive = (bound_is n c point line inner.0 z.0 d inner.1).positive in
+  let kept = keeps HasPositive HasPositive old outer.0 (side_of c line) inner.0 o positive o (positive_side (side_of c line) inner.0 positive) inner.2 in
+  let step = keeps L U old outer.0 (side_of c line) inner.0 o positive k (h.0 inner.0 inner.1) inner.2 in
+  keeps_over L U n c point outer.0 new lines d z.1 kept h.1 step outer.2
