@@ -15,4 +15,5 @@ pub mod Slack
 pub mod Moves
 pub mod Sides
 pub mod Bounds
+pub mod Between
 mod WorkedSystems

@@ -65,3 +65,39 @@ all_every {X} P (Some x ∷ os) xs h e = at (λ ys. all_every P os ys h.1) (ever
   at : ((ys : List X) → every os ≡ Some ys → AllByRecursion P ys) → (o : Option (List X)) → every os ≡ o → option_map (λ ys. x ∷ ys) o ≡ Some xs → AllByRecursion P xs
   at rest None t e = absurd cc
   at rest (Some ys) t e = let same : x ∷ ys ≡ xs = cc in rw (← same) (h.0 x refl, rest ys t)
+
+pub all_there : {X : Type 0} (P : X → Type 0) (os : List (Option X)) (xs : List X) → every os ≡ Some xs → AllByRecursion P xs → AllByRecursion (λ o. (x : X) × (o ≡ Some x) × P x) os
+unfolding every
+all_there P [] xs e h = tt
+all_there P (None ∷ os) xs e h = absurd cc
+all_there {X} P (Some x ∷ os) xs e h = at (λ ys t. all_there P os ys t) (every os) refl e where
+  at : ((ys : List X) → every os ≡ Some ys → AllByRecursion P ys → AllByRecursion (λ o. (x : X) × (o ≡ Some x) × P x) os) → (o : Option (List X)) → every os ≡ o → option_map (λ ys. x ∷ ys) o ≡ Some xs
+    → ((y : X) × (Some x ≡ Some y) × P y) × AllByRecursion (λ o. (x : X) × (o ≡ Some x) × P x) os
+  at rest None t e = absurd cc
+  at rest (Some ys) t e =
+    let same : xs ≡ x ∷ ys = cc in
+    let k : AllByRecursion P (x ∷ ys) = subst (λ (zs : List X). AllByRecursion P zs) same h in
+    ((x, refl, k.0), rest ys t k.1)
+
+pub all_unmap : {X Y : Type 0} (Q : Y → Type 0) (f : X → Y) (xs : List X) → AllByRecursion Q (map f xs) → AllByRecursion (λ x. Q (f x)) xs
+all_unmap Q f [] h = tt
+all_unmap Q f (x ∷ xs) h = (h.0, all_unmap Q f xs h.1)
+
+pub all_left : {X : Type 0} (P : X → Type 0) (xs ys : List X) → AllByRecursion P (xs ++ ys) → AllByRecursion P xs
+all_left P [] ys h = tt
+all_left P (x ∷ xs) ys h = (h.0, all_left P xs ys h.1)
+
+pub all_right : {X : Type 0} (P : X → Type 0) (xs ys : List X) → AllByRecursion P (xs ++ ys) → AllByRecursion P ys
+all_right P [] ys h = h
+all_right P (x ∷ xs) ys h = all_right P xs ys h.1
+
+pub all_unflat : {X Y : Type 0} (Q : Y → Type 0) (f : X → List Y) (xs : List X) → AllByRecursion Q (flat_map f xs) → AllByRecursion (λ x. AllByRecursion Q (f x)) xs
+all_unflat Q f [] h = tt
+all_unflat Q f (x ∷ xs) h = (all_left Q (f x) (flat_map f xs) h, all_unflat Q f xs (all_right Q (f x) (flat_map f xs) h))
+
+pub all_unfilter : {X : Type 0} (P : X → Type 0) (p : X → Bool) (xs : List X) → AllByRecursion P (filter p xs) → AllByRecursion (λ x. p x ≡ true → P x) xs
+all_unfilter P p [] h = tt
+all_unfilter P p (x ∷ xs) h = at (all_unfilter P p xs) (p x) refl h where
+  at : (AllByRecursion P (filter p xs) → AllByRecursion (λ x. p x ≡ true → P x) xs) → (b : Bool) → p x ≡ b → AllByRecursion P (cond b (x ∷ filter p xs) (filter p xs)) → (p x ≡ true → P x) × AllByRecursion (λ x. p x ≡ true → P x) xs
+  at rest true t h = ((λ e. h.0), rest h.1)
+  at rest false t h = ((λ e. absurd cc), rest h)

@@ -167,7 +167,7 @@ reduced_by system line h z b g d =
 is_negative : (b : ℤ) → int_lt b (pos 0) ≡ true → b <ℤ pos 0
 is_negative b e = omega (arith, ints)
 
-nonzero_negative : (b : ℤ) → is_nonzero b ≡ true → int_lt (pos 0) b ≡ false → b <ℤ pos 0
+pub nonzero_negative : (b : ℤ) → is_nonzero b ≡ true → int_lt (pos 0) b ≡ false → b <ℤ pos 0
 nonzero_negative (pos zero) f p = absurd cc
 nonzero_negative (pos (suc n)) f p = omega (arith, ints)
 nonzero_negative (negsuc n) f p = omega (arith, ints)
