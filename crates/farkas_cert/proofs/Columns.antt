@@ -28,7 +28,7 @@ count_open (suc n) f = cond (f n) (suc (count_open n f)) (count_open n f)
 abbrev pub close : ℕ → (ℕ → Bool) → ℕ → Bool
 close c f j = cond (eqb j c) false (f j)
 
-closed_here : (c : ℕ) (f : ℕ → Bool) → close c f c ≡ false
+pub closed_here : (c : ℕ) (f : ℕ → Bool) → close c f c ≡ false
 closed_here c f = at (eqb c c) refl where
   at : (b : Bool) → eqb c c ≡ b → cond b false (f c) ≡ false
   at true e = refl
@@ -91,7 +91,7 @@ within_closed n c f line h z j l e = at (eqb j c) refl e where
   at true t e = rw (eqb-true j c t) z
   at false t e = h j l e
 
-zero_by_test : (x : ℤ) → is_nonzero x ≡ false → x ≡ pos 0
+pub zero_by_test : (x : ℤ) → is_nonzero x ≡ false → x ≡ pos 0
 zero_by_test (pos zero) e = refl
 zero_by_test (pos (suc n)) e = absurd cc
 zero_by_test (negsuc n) e = absurd cc

@@ -16,4 +16,5 @@ pub mod Moves
 pub mod Sides
 pub mod Bounds
 pub mod Between
+pub mod Points
 mod WorkedSystems

@@ -1,6 +1,6 @@
 -- What holds of each element of a list, through the list operations of the elimination.
 use Rattle.std.proofs.Common.{◌≡◌, ℕ, refl, sym, ap, subst, List, [], ◌∷◌, ◌++◌, map, Bool, true, false, cond, Some, None, Option}
-use Rattle.std.specs.Prelude.{filter, flat_map, find}
+use Rattle.std.specs.Prelude.{filter, flat_map, find, not}
 use Rattle.std.specs.Option.{option_map}
 use Rattle.std.specs.List.{AllByRecursion}
 use Rattle.farkas_cert.specs.Elimination.{every}
@@ -101,3 +101,18 @@ all_unfilter P p (x ∷ xs) h = at (all_unfilter P p xs) (p x) refl h where
   at : (AllByRecursion P (filter p xs) → AllByRecursion (λ x. p x ≡ true → P x) xs) → (b : Bool) → p x ≡ b → AllByRecursion P (cond b (x ∷ filter p xs) (filter p xs)) → (p x ≡ true → P x) × AllByRecursion (λ x. p x ≡ true → P x) xs
   at rest true t h = ((λ e. h.0), rest h.1)
   at rest false t h = ((λ e. absurd cc), rest h)
+
+-- both parts of a filter
+pub all_parts : {X : Type 0} (P : X → Type 0) (p : X → Bool) (xs : List X) → AllByRecursion P (filter p xs) → AllByRecursion P (filter (λ x. not (p x)) xs) → AllByRecursion P xs
+all_parts P p [] h k = tt
+all_parts P p (x ∷ xs) h k = at (all_parts P p xs) (p x) h k where
+  at : (AllByRecursion P (filter p xs) → AllByRecursion P (filter (λ x. not (p x)) xs) → AllByRecursion P xs) → (b : Bool)
+    → AllByRecursion P (cond b (x ∷ filter p xs) (filter p xs)) → AllByRecursion P (cond (not b) (x ∷ filter (λ x. not (p x)) xs) (filter (λ x. not (p x)) xs)) → P x × AllByRecursion P xs
+  at rest true h k = (h.0, rest h.1 k)
+  at rest false h k = (k.0, rest h k.1)
+
+-- what holds of the elements, where what they come to is there and has Q
+pub all_back : {X Y : Type 0} (P : X → Type 0) (Q : Y → Type 0) (f : X → Option Y) (xs : List X) (ys : List Y) → ((x : X) (y : Y) → f x ≡ Some y → Q y → P x) → every (map f xs) ≡ Some ys → AllByRecursion Q ys → AllByRecursion P xs
+all_back {X} {Y} P Q f xs ys g e h =
+  all_from (λ x. (y : Y) × (f x ≡ Some y) × Q y) P xs (λ x k. g x k.0 k.1 k.2)
+    (all_unmap (λ o. (y : Y) × (o ≡ Some y) × Q y) f xs (all_there Q (map f xs) ys e h))
