@@ -134,3 +134,136 @@ equality_leads system work equality lines found_it t v made h point x d over mee
             (lost_column n c other low.0 (substituted_closes n c all_open equality line other (λ j l e. absurd cc) (λ j l e. absurd cc) s)) m))
         made meets))
     step.2
+
+-- ---- a stage without one
+
+pair_leads : (system : System) (work : Work) (c : ℕ) (pairs : List Line) → c < system.columns → AllByRecursion (λ line. line.equal ≡ false) work.lines → pairs_at c work.lines ≡ Some pairs → Leads system work.lines work.kept
+  → Leads system (without_column c work.lines ++ pairs) (Bounded c (with_column c work.lines) ∷ work.kept)
+unfolding point_from set_column
+pair_leads system work c pairs l q made h point x d over meets e =
+  let n = system.columns in
+  let step = step_is (suc (length work.kept)) (point_from n work.kept) (set_column n point (Bounded c (with_column c work.lines))) x d e in
+  let next = step.0 in
+  let set = and_then_is (λ b. assigned c point (chosen b.lower b.upper)) (bounds_from n c point no_bounds (with_column c work.lines)) next step.1 in
+  let bounds = set.0 in
+  let w = chosen bounds.lower bounds.upper in
+  let moved = assigned_moved c point w next over.positive (chosen_has_positive n c point work.lines bounds over.positive set.1) set.2 in
+  let kept = all_kept_meet n c point next work.lines pairs bounds moved l over.whole over.positive q made (all_right (MeetsLine n point) (without_column c work.lines) pairs meets) set.1 in
+  let others = all_from (λ line. MeetsLine n point line × (not (is_nonzero (coefficient_at c line)) ≡ true)) (MeetsLine n next) (without_column c work.lines)
+    (λ line k. still_meets n c point w next line moved l over.whole (zero_by_test (coefficient_at c line) (not_true (is_nonzero (coefficient_at c line)) k.1)) k.0)
+    (all_both (MeetsLine n point) (λ line. not (is_nonzero (coefficient_at c line)) ≡ true) (without_column c work.lines)
+      (all_left (MeetsLine n point) (without_column c work.lines) pairs meets)
+      (filter_all (λ line. not (is_nonzero (coefficient_at c line))) work.lines)) in
+  h next x d (moved_over n c point w next moved over) (all_parts (MeetsLine n next) (λ line. is_nonzero (coefficient_at c line)) work.lines kept others) step.2
+
+-- ---- a stage
+
+follows_leads : (system : System) (work : Work) (kept : Kept) (made : ℕ) (o : Option (List Line)) → ((lines : List Line) → o ≡ Some lines → Leads system lines (kept ∷ work.kept)) → NextLeads system (follows work kept made o)
+follows_leads system work kept made None h = λ x d e. absurd cc
+follows_leads system work kept made (Some lines) h = h lines refl
+
+equality_stage_leads : (system : System) (work : Work) (equality : Line) → find (λ line. line.equal) work.lines ≡ Some equality → equality.equal ≡ true → has_variable system.columns equality ≡ true → Leads system work.lines work.kept → NextLeads system (equality_stage system work equality)
+unfolding equality_stage
+equality_stage_leads system work equality e t v h =
+  let c = lowest_column system.columns equality in
+  follows_leads system work (Solved c equality) work.made (every (map (substituted c equality) (without_equality work.lines)))
+    (λ lines m. equality_leads system work equality lines e t v m h)
+
+pair_stage_leads : (system : System) (work : Work) → lowest_of system.columns work.lines < system.columns → AllByRecursion (λ line. line.equal ≡ false) work.lines → Leads system work.lines work.kept → NextLeads system (pair_stage system work)
+unfolding pair_stage
+pair_stage_leads system work l q h = by_limit (are_too_many system made) where
+  c : ℕ
+  c = lowest_of system.columns work.lines
+  made : ℕ
+  made = work.made + length (positives c work.lines) * length (negatives c work.lines)
+  by_limit : (b : Bool) → NextLeads system (cond b (Ends (Leaves (suc (length work.kept)) Rows))
+    (follows work (Bounded c (with_column c work.lines)) made (option_map (λ pairs. without_column c work.lines ++ pairs) (pairs_at c work.lines))))
+  by_limit true = λ x d e. absurd cc
+  by_limit false = follows_leads system work (Bounded c (with_column c work.lines)) made (option_map (λ pairs. without_column c work.lines ++ pairs) (pairs_at c work.lines))
+    (λ lines e. let split = appended (without_column c work.lines) (pairs_at c work.lines) lines e in
+      subst (λ (all : List Line). Leads system all (Bounded c (with_column c work.lines) ∷ work.kept)) split.2 (pair_leads system work c split.0 l q split.1 h))
+
+taken_out_leads : (system : System) (work : Work) (line : Line) (lines : List Line) → work.lines ≡ line ∷ lines → AllVary system.columns work.lines → Leads system work.lines work.kept → NextLeads system (taken_out system work)
+unfolding taken_out
+taken_out_leads system work line lines s v h = at (find (λ line. line.equal) work.lines) refl where
+  n : ℕ
+  n = system.columns
+  at : (o : Option Line) → find (λ line. line.equal) work.lines ≡ o → NextLeads system (taken_out_by system work o)
+  at None e = pair_stage_leads system work
+    (subst (λ (all : List Line). IsOpen n all_open (lowest_of n all)) (sym s)
+      (lowest_of_open n all_open line lines (all_within n (line ∷ lines)) (subst (λ (all : List Line). AllVary n all) s v))).0
+    (none_found (λ line. line.equal) work.lines e) h
+  at (Some equality) e =
+    let k = found (λ l. has_variable n l ≡ true) (λ line. line.equal) work.lines equality v e in
+    equality_stage_leads system work equality e k.1 k.0 h
+
+then_tested_leads : (system : System) (next : Next) → NextLeads system next → NextLeads system (then_tested system next)
+then_tested_leads system (Goes work) h = tested_leads system (length work.kept) work h
+then_tested_leads system (Ends outcome) h = h
+
+stage_leads : (system : System) (work : Work) (line : Line) (lines : List Line) → work.lines ≡ line ∷ lines → AllVary system.columns work.lines → Leads system work.lines work.kept → NextLeads system (stage system work)
+unfolding stage
+stage_leads system work line lines s v h = then_tested_leads system (taken_out system work) (taken_out_leads system work line lines s v h)
+
+-- ---- the whole
+
+-- where no line is left, the point at 0 is a start
+start_leads : (system : System) (kept : List Kept) (x : List ℤ) (d : ℤ) → Leads system [] kept → point_of system.columns kept ≡ Point x d → IsRationalPoint system x d
+start_leads system kept x d h e =
+  h (record { numerators = replicate system.columns (pos 0); denominator = pos 1 }) x d (record { whole = length-replicate system.columns (pos 0); positive = omega (arith, linear) }) tt e
+
+ends_lead : (system : System) (f : ℕ → Bool) (more : Work → Outcome) (next : Next) (x : List ℤ) (d : ℤ)
+  → ((work : Work) (c : ℕ) → IsOpen system.columns f c → AllWithin system.columns (close c f) work.lines → AllVary system.columns work.lines → Leads system work.lines work.kept → more work ≡ Point x d → IsRationalPoint system x d)
+  → ClosesTested system.columns f next → NextLeads system next → or_ends more next ≡ Point x d → IsRationalPoint system x d
+ends_lead system f more (Goes work) x d rest c h e = rest work c.0 c.1 c.2 c.3 h e
+ends_lead system f more (Ends outcome) x d rest c h e = absurd (h x d e)
+
+stages_lead : (fuel : ℕ) (system : System) (f : ℕ → Bool) (work : Work) (x : List ℤ) (d : ℤ) → count_open system.columns f ≤ fuel → AllWithin system.columns f work.lines → AllVary system.columns work.lines → Leads system work.lines work.kept → stages fuel system work ≡ Point x d → IsRationalPoint system x d
+unfolding stages
+stages_lead zero system f work x d l w v h e =
+  start_leads system work.kept x d (subst (λ (lines : List Line). Leads system lines work.kept) (none_left system.columns f work.lines w v l) h) e
+stages_lead (suc fuel) system f work x d l w v h e = at (stages_lead fuel system) work.lines refl e where
+  at : ((g : ℕ → Bool) (next : Work) (x : List ℤ) (d : ℤ) → count_open system.columns g ≤ fuel → AllWithin system.columns g next.lines → AllVary system.columns next.lines → Leads system next.lines next.kept → stages fuel system next ≡ Point x d → IsRationalPoint system x d)
+    → (lines : List Line) → work.lines ≡ lines → goes_on system work (stages fuel system) lines ≡ Point x d → IsRationalPoint system x d
+  at rest [] s e = start_leads system work.kept x d (subst (λ (lines : List Line). Leads system lines work.kept) s h) e
+  at rest (line ∷ lines) s e =
+    ends_lead system f (stages fuel system) (stage system work) x d
+      (λ next c o a b m i. let less = close_falls system.columns c f o.0 o.1 in rest (close c f) next x d (omega arith) a b m i)
+      (stage_closes system f work line lines s w v) (stage_leads system work line lines s v h) e
+
+-- ---- the given rows
+
+holds_over : (equal : Bool) (a b : ℤ) → Holds equal (a -ℤ b) → MatchBool equal (a ≡ b) (a ≤ℤ b)
+holds_over true a b h = omega (arith, linear)
+holds_over false a b h = omega (arith, linear)
+
+given_meets : (system : System) (total k : ℕ) (row : Row) (point : RationalPoint) → length row.coefficients ≡ system.columns → MeetsLine system.columns point (given_line total k row) → MeetsOver row point.numerators point.denominator
+given_meets system total k row point w h =
+  let parts = given_parts system.columns total k row w in
+  let moved : Holds row.equal (product_of row.coefficients point.numerators -ℤ row.bound *ℤ point.denominator) =
+    subst (λ (xs : List ℤ). Holds row.equal (product_of xs point.numerators -ℤ row.bound *ℤ point.denominator)) parts.0
+      (subst (λ t. Holds row.equal (product_of (take system.columns (given_line total k row).numbers) point.numerators -ℤ t *ℤ point.denominator)) parts.1 h) in
+  holds_over row.equal (product_of row.coefficients point.numerators) (row.bound *ℤ point.denominator) moved
+
+given_meet : (system : System) (total k : ℕ) (rows : List Row) (point : RationalPoint) → AllByRecursion (λ row. length row.coefficients ≡ system.columns) rows → AllMeet system.columns point (given_lines total k rows) → AllByRecursion (λ row. MeetsOver row point.numerators point.denominator) rows
+unfolding given_lines
+given_meet system total k [] point w h = tt
+given_meet system total k (row ∷ rows) point w h = (given_meets system total k row point w.0 h.0, given_meet system total (suc k) rows point w.1 h.1)
+
+given_leads : (system : System) → IsRectangular system → Leads system (given_lines (length system.rows) 0 system.rows) []
+unfolding point_from
+given_leads system w point x d over meets e =
+  let same_x : point.numerators ≡ x = cc in
+  let same_d : point.denominator ≡ d = cc in
+  subst (λ (z : List ℤ). IsRationalPoint system z d) same_x (subst (λ (k : ℤ). IsRationalPoint system point.numerators k) same_d
+    (record { whole = over.whole; positive = over.positive; meets = given_meet system (length system.rows) 0 system.rows point w meets }))
+
+eliminated_by : (system : System) (next : Next) (x : List ℤ) (d : ℤ) → Varies system next → NextLeads system next → or_ends (stages system.columns system) next ≡ Point x d → IsRationalPoint system x d
+eliminated_by system (Goes work) x d v h e = stages_lead system.columns system all_open work x d (count_all system.columns) (all_within system.columns work.lines) v h e
+eliminated_by system (Ends outcome) x d v h e = absurd (h x d e)
+
+pub point_is_sound : (system : System) (x : List ℤ) (d : ℤ) → IsRectangular system → eliminated system ≡ Point x d → IsRationalPoint system x d
+unfolding eliminated_within begun
+point_is_sound system x d w e =
+  eliminated_by system (begun system) x d (begun_varies system)
+    (tested_leads system 0 (record { lines = given_lines (length system.rows) 0 system.rows; kept = []; made = 0 }) (given_leads system w)) e
