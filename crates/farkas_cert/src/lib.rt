@@ -4,4 +4,4 @@
 
 mod elimination_laws;
 
-pub use elimination_laws::certificate_refutes;
+pub use elimination_laws::{certificate_refutes, more_stages_change_nothing, point_is_a_point};
