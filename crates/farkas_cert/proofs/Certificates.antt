@@ -9,10 +9,10 @@ use Rattle.lin_rows.specs.System.{System}
 use Rattle.farkas_cert.specs.Cert.{Refutes, Pairs}
 use Rattle.farkas_cert.specs.Reduced.{IsReduced}
 use Rattle.farkas_cert.specs.Divisor.{gcd, over}
-use Rattle.farkas_cert.specs.Line.{Line, coefficient_at, given_lines, is_false, has_variable, refuting, listed, is_nonzero, made, lowest_column, lowest_of}
+use Rattle.farkas_cert.specs.Line.{Line, coefficient_at, given_lines, is_false, has_variable, refuting, listed, is_nonzero, made_line, lowest_column, lowest_of}
 use Rattle.farkas_cert.specs.Overflow.{check_fits}
 use Rattle.farkas_cert.specs.BackSubstitution.{RationalPoint, Kept, Solved, Bounded, set_column}
-use Rattle.farkas_cert.specs.Elimination.{IsRectangular, Outcome, Refuted, Point, Leaves, LeaveKind, Overflow, Rows, Work, Next, Goes, Ends, every, refuted, tested, tested_by, follows, without_equality, substituted, equality_stage, paired, positives, negatives, with_column, without_column, pairs_at, are_too_many, pair_stage, taken_out, taken_out_by, stage, then_tested, point_from, point_of, or_leaves, or_ends, goes_on, stages, begun, eliminated, eliminated_within}
+use Rattle.farkas_cert.specs.Elimination.{IsRectangular, Outcome, Refuted, Point, Leaves, LeaveKind, Overflow, Rows, Work, Next, Goes, Ends, every, refuted, tested, tested_by, follows, without_equality, substituted, equality_stage, paired, positives, negatives, with_column, without_column, pairs_at, are_too_many, pair_stage, taken_out, taken_out_by, stage, then_tested, point_from, point_of, or_leaves, or_ends, goes_on, stages, begun, outcome_of, outcome_within}
 use Rattle.farkas_cert.proofs.Integers.{linear}
 use Rattle.farkas_cert.proofs.Derived.{IsDerived, derived_by_equality, derived_by_pair}
 use Rattle.farkas_cert.proofs.Lists.{all_filter, all_append, all_from, all_map, all_flat_map, found, none_found, all_every, filter_all, all_both}
@@ -23,7 +23,7 @@ AllDerived system lines = AllByRecursion (IsDerived system) lines
 
 -- what is shown of each outcome
 abbrev pub IsSound : System → Outcome → Type 0
-IsSound system (Refuted pairs) = Refutes system pairs × IsReduced pairs
+IsSound system (Refuted pairs) = Refutes system pairs × IsReduced pairs × (check_fits system.rows pairs ≡ true)
 IsSound system (Point x d) = ⊤
 IsSound system (Leaves stage kind) = ⊤
 
@@ -33,11 +33,11 @@ IsSoundNext system (Ends outcome) = IsSound system outcome
 
 -- ---- the constant test
 
-sound_refuted : (system : System) (stage : ℕ) (ms : List ℤ) → IsProvedBy system ms → IsSound system (refuted system stage ms)
-sound_refuted system stage ms h = by_fit (check_fits system.rows (listed 1 ms)) where
-  by_fit : (b : Bool) → IsSound system (cond b (Refuted (listed 1 ms)) (Leaves stage Overflow))
-  by_fit true = h
-  by_fit false = tt
+sound_refuted : (system : System) (number : ℕ) (ms : List ℤ) → IsProvedBy system ms → IsSound system (refuted system number ms)
+sound_refuted system number ms h = by_fit (check_fits system.rows (listed 1 ms)) refl where
+  by_fit : (b : Bool) → check_fits system.rows (listed 1 ms) ≡ b → IsSound system (cond b (Refuted (listed 1 ms)) (Leaves number Overflow))
+  by_fit true e = (h.0, h.1, e)
+  by_fit false e = tt
 
 tested_sound : (system : System) (number : ℕ) (work : Work) → AllDerived system work.lines → IsSoundNext system (tested system number work)
 unfolding tested
@@ -75,7 +75,7 @@ substituted_derived system c equality line next t h k e = at (is_nonzero (coeffi
   g : ℕ
   g = gcd (unsigned_abs p) (unsigned_abs q)
 
-  at : (b : Bool) → cond b (made line.equal (over g (pos (unsigned_abs p))) line.numbers (neg_ℤ (over g (int_signum p *ℤ q))) equality.numbers) (Some line) ≡ Some next → IsDerived system next
+  at : (b : Bool) → cond b (made_line line.equal (over g (pos (unsigned_abs p))) line.numbers (neg_ℤ (over g (int_signum p *ℤ q))) equality.numbers) (Some line) ≡ Some next → IsDerived system next
   at true e = derived_by_equality system (over g (pos (unsigned_abs p))) line (neg_ℤ (over g (int_signum p *ℤ q))) equality next (over_not_negative g (pos (unsigned_abs p)) (omega (arith, linear))) t k h e
   at false e = let same : line ≡ next = cc in rw (← same) k
 
@@ -188,11 +188,11 @@ unfolding stages
 stages_sound zero system work h = point_sound system system.columns work.kept (record { numerators = replicate system.columns (pos 0); denominator = pos 1 })
 stages_sound (suc fuel) system work h = goes_on_sound system work (stages fuel system) work.lines (stages_sound fuel system) h
 
-pub eliminated_sound : (fuel : ℕ) (system : System) → IsRectangular system → IsSound system (eliminated_within fuel system)
-unfolding eliminated_within begun
-eliminated_sound fuel system w =
+pub outcome_sound : (fuel : ℕ) (system : System) → IsRectangular system → IsSound system (outcome_within fuel system)
+unfolding outcome_within begun
+outcome_sound fuel system w =
     or_ends_sound system (stages fuel system) (begun system) (stages_sound fuel system)
     (tested_sound system 0 (record { lines = given_lines (length system.rows) 0 system.rows; kept = []; made = 0 }) (all_given_derived system 0 system.rows refl w))
 
-pub certificate_is_sound : (system : System) (pairs : Pairs) → IsRectangular system → eliminated system ≡ Refuted pairs → Refutes system pairs × IsReduced pairs
-certificate_is_sound system pairs w e = subst (λ (o : Outcome). IsSound system o) e (eliminated_sound system.columns system w)
+pub certificate_is_sound : (system : System) (pairs : Pairs) → IsRectangular system → outcome_of system ≡ Refuted pairs → IsSound system (Refuted pairs)
+certificate_is_sound system pairs w e = subst (λ (o : Outcome). IsSound system o) e (outcome_sound system.columns system w)

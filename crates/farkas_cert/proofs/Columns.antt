@@ -9,7 +9,7 @@ use Rattle.std.proofs.Math.Nat.{min-eq_left, min-eq_right}
 use Rattle.std.proofs.lemmas.Int.{ints}
 use Rattle.lin_rows.specs.System.{System}
 use Rattle.farkas_cert.specs.Divisor.{gcd, over, reduced}
-use Rattle.farkas_cert.specs.Line.{Line, coefficient_at, is_false, has_variable, is_nonzero, combination, made, lowest_column, lowest_of}
+use Rattle.farkas_cert.specs.Line.{Line, coefficient_at, is_false, has_variable, is_nonzero, combination, made_line, lowest_column, lowest_of}
 use Rattle.farkas_cert.specs.BackSubstitution.{Kept, Solved, Bounded}
 use Rattle.farkas_cert.specs.Elimination.{Outcome, Leaves, Overflow, Rows, Work, Next, Goes, Ends, every, tested, tested_by, follows, without_equality, substituted, equality_stage, paired, positives, negatives, with_column, without_column, pairs_at, are_too_many, pair_stage, taken_out, taken_out_by, stage, then_tested}
 use Rattle.farkas_cert.proofs.Integers.{linear}
@@ -159,13 +159,13 @@ closes_follows : (n : ℕ) (f : ℕ → Bool) (work : Work) (kept : Kept) (made 
 closes_follows n f work kept made c None i h = tt
 closes_follows n f work kept made c (Some lines) i h = (c, i, h lines refl)
 
-made_within : (n : ℕ) (f : ℕ → Bool) (equal : Bool) (a : ℤ) (left : Line) (b : ℤ) (right line : Line) → IsWithin n f left → IsWithin n f right → made equal a left.numbers b right.numbers ≡ Some line → IsWithin n f line
+made_within : (n : ℕ) (f : ℕ → Bool) (equal : Bool) (a : ℤ) (left : Line) (b : ℤ) (right line : Line) → IsWithin n f left → IsWithin n f right → made_line equal a left.numbers b right.numbers ≡ Some line → IsWithin n f line
 made_within n f equal a left b right line h k e j l t =
   let same = made_is equal a left.numbers b right.numbers line e in
   subst (λ (next : Line). coefficient_at j next ≡ pos 0) same
     (made_vanishes (λ xs. get_or xs j (pos 0)) (get-linear j) a left.numbers b right.numbers (h j l t) (k j l t))
 
-made_loses : (c : ℕ) (equal : Bool) (a : ℤ) (left : Line) (b : ℤ) (right line : Line) → a *ℤ coefficient_at c left +ℤ b *ℤ coefficient_at c right ≡ pos 0 → made equal a left.numbers b right.numbers ≡ Some line → coefficient_at c line ≡ pos 0
+made_loses : (c : ℕ) (equal : Bool) (a : ℤ) (left : Line) (b : ℤ) (right line : Line) → a *ℤ coefficient_at c left +ℤ b *ℤ coefficient_at c right ≡ pos 0 → made_line equal a left.numbers b right.numbers ≡ Some line → coefficient_at c line ≡ pos 0
 made_loses c equal a left b right line h e =
   subst (λ (next : Line). coefficient_at c next ≡ pos 0) (made_is equal a left.numbers b right.numbers line e)
     (reduced_vanishes (λ xs. get_or xs c (pos 0)) (get-linear c) (combination a left.numbers b right.numbers)
@@ -180,7 +180,7 @@ substituted_closes n c f equality line next h k e = at (is_nonzero q) refl e whe
   q = coefficient_at c line
   g : ℕ
   g = gcd (unsigned_abs p) (unsigned_abs q)
-  at : (b : Bool) → is_nonzero q ≡ b → cond b (made line.equal (over g (pos (unsigned_abs p))) line.numbers (neg_ℤ (over g (int_signum p *ℤ q))) equality.numbers) (Some line) ≡ Some next → IsWithin n (close c f) next
+  at : (b : Bool) → is_nonzero q ≡ b → cond b (made_line line.equal (over g (pos (unsigned_abs p))) line.numbers (neg_ℤ (over g (int_signum p *ℤ q))) equality.numbers) (Some line) ≡ Some next → IsWithin n (close c f) next
   at true t e =
     within_closed n c f next
       (made_within n f line.equal (over g (pos (unsigned_abs p))) line (neg_ℤ (over g (int_signum p *ℤ q))) equality next k h e)

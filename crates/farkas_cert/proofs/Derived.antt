@@ -10,7 +10,7 @@ use Rattle.std.proofs.Math.Nat.{mul-dvd-mul_left, eq-zero_of_zero-dvd}
 use Rattle.lin_rows.specs.Row.{Row, product_of, scaled, sum_of}
 use Rattle.lin_rows.specs.System.{System}
 use Rattle.farkas_cert.specs.Divisor.{gcd_of, over, reduced}
-use Rattle.farkas_cert.specs.Line.{Line, coefficient_at, bound_of, multipliers_of, combination, combination_fits, made}
+use Rattle.farkas_cert.specs.Line.{Line, coefficient_at, bound_of, multipliers_of, combination, combination_fits, made_line}
 use Rattle.farkas_cert.proofs.Divisors.{DivideAll, gcd_of-divides, gcd_of-greatest, reduced-exact, reduced-same}
 use Rattle.farkas_cert.proofs.Integers.{linear, mul_add, mul_mul, zero_mul, mul_zero, mul_one}
 use Rattle.farkas_cert.proofs.Linear.{IsLinear, product-linear, get-linear, take-linear, drop-linear, difference-linear, of_combination, reduced_vanishes, drop-sum, drop-scaled}
@@ -23,8 +23,8 @@ some_of : {X : Type 0} (b : Bool) (x y : X) → cond b (Some x) None ≡ Some y 
 some_of true x y e = cc
 some_of false x y e = absurd cc
 
-pub made_is : (equal : Bool) (a : ℤ) (xs : List ℤ) (b : ℤ) (ys : List ℤ) (line : Line) → made equal a xs b ys ≡ Some line → record { equal = equal; numbers = reduced (combination a xs b ys) } ≡ line
-unfolding made
+pub made_is : (equal : Bool) (a : ℤ) (xs : List ℤ) (b : ℤ) (ys : List ℤ) (line : Line) → made_line equal a xs b ys ≡ Some line → record { equal = equal; numbers = reduced (combination a xs b ys) } ≡ line
+unfolding made_line
 made_is equal a xs b ys line e = some_of (combination_fits a xs b ys) (record { equal = equal; numbers = reduced (combination a xs b ys) }) line e
 
 -- ---- lists without a common divisor
@@ -125,22 +125,22 @@ derived_made system equal a left b right h k s = record {
 }
 
 -- a line, of which an equality is taken away
-pub derived_by_equality : (system : System) (a : ℤ) (left : Line) (b : ℤ) (right made_line : Line) → pos 0 ≤ℤ a → right.equal ≡ true → IsDerived system left → IsDerived system right
-    → made left.equal a left.numbers b right.numbers ≡ Some made_line → IsDerived system made_line
-derived_by_equality system a left b right made_line n e h k m =
+pub derived_by_equality : (system : System) (a : ℤ) (left : Line) (b : ℤ) (right result : Line) → pos 0 ≤ℤ a → right.equal ≡ true → IsDerived system left → IsDerived system right
+    → made_line left.equal a left.numbers b right.numbers ≡ Some result → IsDerived system result
+derived_by_equality system a left b right result n e h k m =
     let signs_right : Signs true system.rows (multipliers_of system.columns right) = rw e at k.signs in
     let signs : Signs left.equal system.rows (combination a (multipliers_of system.columns left) b (multipliers_of system.columns right)) =
     signs_sum left.equal system.rows (scaled a (multipliers_of system.columns left)) (scaled b (multipliers_of system.columns right))
     (signs_scaled left.equal a system.rows (multipliers_of system.columns left) n h.signs)
     (signs_weaker left.equal system.rows (scaled b (multipliers_of system.columns right)) (signs_any b system.rows (multipliers_of system.columns right) signs_right)) in
-    subst (λ (l : Line). IsDerived system l) (made_is left.equal a left.numbers b right.numbers made_line m) (derived_made system left.equal a left b right h k signs)
+    subst (λ (l : Line). IsDerived system l) (made_is left.equal a left.numbers b right.numbers result m) (derived_made system left.equal a left b right h k signs)
 
 -- two lines, added
-pub derived_by_pair : (system : System) (a : ℤ) (left : Line) (b : ℤ) (right made_line : Line) → pos 0 ≤ℤ a → pos 0 ≤ℤ b → IsDerived system left → IsDerived system right
-    → made false a left.numbers b right.numbers ≡ Some made_line → IsDerived system made_line
-derived_by_pair system a left b right made_line n o h k m =
+pub derived_by_pair : (system : System) (a : ℤ) (left : Line) (b : ℤ) (right result : Line) → pos 0 ≤ℤ a → pos 0 ≤ℤ b → IsDerived system left → IsDerived system right
+    → made_line false a left.numbers b right.numbers ≡ Some result → IsDerived system result
+derived_by_pair system a left b right result n o h k m =
     let signs : Signs false system.rows (combination a (multipliers_of system.columns left) b (multipliers_of system.columns right)) =
     signs_sum false system.rows (scaled a (multipliers_of system.columns left)) (scaled b (multipliers_of system.columns right))
     (signs_scaled false a system.rows (multipliers_of system.columns left) n (signs_false left.equal system.rows (multipliers_of system.columns left) h.signs))
     (signs_scaled false b system.rows (multipliers_of system.columns right) o (signs_false right.equal system.rows (multipliers_of system.columns right) k.signs)) in
-    subst (λ (l : Line). IsDerived system l) (made_is false a left.numbers b right.numbers made_line m) (derived_made system false a left b right h k signs)
+    subst (λ (l : Line). IsDerived system l) (made_is false a left.numbers b right.numbers result m) (derived_made system false a left b right h k signs)

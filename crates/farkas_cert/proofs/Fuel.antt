@@ -5,7 +5,7 @@ use Rattle.std.specs.List.{AllByRecursion}
 use Rattle.lin_rows.specs.System.{System}
 use Rattle.farkas_cert.specs.Line.{Line, given_lines, is_false, has_variable, lowest_column, lowest_of}
 use Rattle.farkas_cert.specs.BackSubstitution.{RationalPoint, Kept}
-use Rattle.farkas_cert.specs.Elimination.{Outcome, Work, Next, Goes, Ends, tested, tested_by, equality_stage, pair_stage, taken_out, taken_out_by, stage, then_tested, point_of, or_ends, goes_on, stages, begun, eliminated, eliminated_within}
+use Rattle.farkas_cert.specs.Elimination.{Outcome, Work, Next, Goes, Ends, tested, tested_by, equality_stage, pair_stage, taken_out, taken_out_by, stage, then_tested, point_of, or_ends, goes_on, stages, begun, outcome_of, outcome_within}
 use Rattle.farkas_cert.proofs.Columns.{count_open, close, close_falls, IsWithin, AllWithin, AllVary, IsOpen, lowest_open, lowest_of_open, Closes, ClosesTested, equality_stage_closes, pair_stage_closes}
 use Rattle.farkas_cert.proofs.Lists.{all_filter, filter_all, all_both, found}
 
@@ -96,6 +96,6 @@ same_begun fuel system (Goes work) l v =
   same_stages fuel system.columns system all_open work (omega arith) c (all_within system.columns work.lines) v
 same_begun fuel system (Ends outcome) l v = refl
 
-pub same_eliminated : (fuel : ℕ) (system : System) → system.columns ≤ fuel → eliminated_within fuel system ≡ eliminated system
-unfolding eliminated_within
-same_eliminated fuel system l = same_begun fuel system (begun system) l (begun_varies system)
+pub same_outcome : (fuel : ℕ) (system : System) → system.columns ≤ fuel → outcome_within fuel system ≡ outcome_of system
+unfolding outcome_within
+same_outcome fuel system l = same_begun fuel system (begun system) l (begun_varies system)

@@ -10,7 +10,7 @@ use Rattle.lin_rows.specs.System.{System, IsRationalPoint}
 use Rattle.farkas_cert.specs.Line.{Line, given_line, given_lines, coefficient_at, bound_of, is_nonzero, is_false, fails, has_variable, lowest_column, lowest_of, refuting, listed}
 use Rattle.farkas_cert.specs.Overflow.{check_fits}
 use Rattle.farkas_cert.specs.BackSubstitution.{RationalPoint, Fraction, Bounds, Kept, Solved, Bounded, bound_on, bounds_from, chosen, assigned, set_column}
-use Rattle.farkas_cert.specs.Elimination.{IsRectangular, Outcome, Refuted, Point, Leaves, Overflow, Rows, Work, Next, Goes, Ends, every, refuted, tested, tested_by, follows, without_equality, substituted, equality_stage, with_column, without_column, positives, negatives, pairs_at, are_too_many, pair_stage, taken_out, taken_out_by, stage, then_tested, or_leaves, point_from, point_of, or_ends, goes_on, stages, begun, eliminated, eliminated_within}
+use Rattle.farkas_cert.specs.Elimination.{IsRectangular, Outcome, Refuted, Point, Leaves, Overflow, Rows, Work, Next, Goes, Ends, every, refuted, tested, tested_by, follows, without_equality, substituted, equality_stage, with_column, without_column, positives, negatives, pairs_at, are_too_many, pair_stage, taken_out, taken_out_by, stage, then_tested, or_leaves, point_from, point_of, or_ends, goes_on, stages, begun, outcome_of, outcome_within}
 use Rattle.farkas_cert.proofs.Integers.{linear, mul_zero, zero_mul, mul_at_most}
 use Rattle.farkas_cert.proofs.Fractions.{not_negative}
 use Rattle.farkas_cert.proofs.Refuting.{both, not_true, no_variable, product_of_zeros, given_parts}
@@ -258,12 +258,12 @@ given_leads system w point x d over meets e =
   subst (λ (z : List ℤ). IsRationalPoint system z d) same_x (subst (λ (k : ℤ). IsRationalPoint system point.numerators k) same_d
     (record { whole = over.whole; positive = over.positive; meets = given_meet system (length system.rows) 0 system.rows point w meets }))
 
-eliminated_by : (system : System) (next : Next) (x : List ℤ) (d : ℤ) → Varies system next → NextLeads system next → or_ends (stages system.columns system) next ≡ Point x d → IsRationalPoint system x d
-eliminated_by system (Goes work) x d v h e = stages_lead system.columns system all_open work x d (count_all system.columns) (all_within system.columns work.lines) v h e
-eliminated_by system (Ends outcome) x d v h e = absurd (h x d e)
+outcome_by : (system : System) (next : Next) (x : List ℤ) (d : ℤ) → Varies system next → NextLeads system next → or_ends (stages system.columns system) next ≡ Point x d → IsRationalPoint system x d
+outcome_by system (Goes work) x d v h e = stages_lead system.columns system all_open work x d (count_all system.columns) (all_within system.columns work.lines) v h e
+outcome_by system (Ends outcome) x d v h e = absurd (h x d e)
 
-pub point_is_sound : (system : System) (x : List ℤ) (d : ℤ) → IsRectangular system → eliminated system ≡ Point x d → IsRationalPoint system x d
-unfolding eliminated_within begun
+pub point_is_sound : (system : System) (x : List ℤ) (d : ℤ) → IsRectangular system → outcome_of system ≡ Point x d → IsRationalPoint system x d
+unfolding outcome_within begun
 point_is_sound system x d w e =
-  eliminated_by system (begun system) x d (begun_varies system)
+  outcome_by system (begun system) x d (begun_varies system)
     (tested_leads system 0 (record { lines = given_lines (length system.rows) 0 system.rows; kept = []; made = 0 }) (given_leads system w)) e

@@ -6,7 +6,7 @@ use Rattle.std.proofs.lemmas.Int.{ints}
 use Rattle.std.proofs.lemmas.List.{get_or-take}
 use Rattle.lin_rows.specs.Row.{product_of, scaled}
 use Rattle.farkas_cert.specs.Divisor.{gcd, over, reduced}
-use Rattle.farkas_cert.specs.Line.{Line, coefficient_at, bound_of, is_nonzero, combination, made}
+use Rattle.farkas_cert.specs.Line.{Line, coefficient_at, bound_of, is_nonzero, combination, made_line}
 use Rattle.farkas_cert.specs.BackSubstitution.{RationalPoint, Fraction, fraction, bound_on}
 use Rattle.farkas_cert.specs.Elimination.{paired, substituted}
 use Rattle.farkas_cert.proofs.Divisors.{gcd-IsGcd, over-exact}
@@ -116,7 +116,7 @@ holds_unreduced true f l xs h = from_reduced_vanishes f l xs h
 holds_unreduced false f l xs h = from_reduced_at_most f l xs h
 
 -- what holds of the made line holds of the combination
-unreduced : (n : ℕ) (point : RationalPoint) (equal : Bool) (a : ℤ) (left : Line) (b : ℤ) (right next : Line) → made equal a left.numbers b right.numbers ≡ Some next → MeetsLine n point next
+unreduced : (n : ℕ) (point : RationalPoint) (equal : Bool) (a : ℤ) (left : Line) (b : ℤ) (right next : Line) → made_line equal a left.numbers b right.numbers ≡ Some next → MeetsLine n point next
   → Holds equal (a *ℤ slack n point left.numbers +ℤ b *ℤ slack n point right.numbers)
 unreduced n point equal a left b right next e h =
   let xs = combination a left.numbers b right.numbers in
@@ -141,7 +141,7 @@ substituted_back n c point equality line next z t m e h = at (is_nonzero q) refl
   positive : pos 0 <ℤ a
   positive = positive_over (pos g) a (pos (unsigned_abs p)) (gcd_positive_left (unsigned_abs p) (unsigned_abs q) (nonzero_abs p z))
     (over-exact g (pos (unsigned_abs p)) (gcd-IsGcd (unsigned_abs p) (unsigned_abs q)).0) (omega (arith, linear, nonzero_abs p z))
-  at : (k : Bool) → is_nonzero q ≡ k → cond k (made line.equal a line.numbers b equality.numbers) (Some line) ≡ Some next → MeetsLine n point line
+  at : (k : Bool) → is_nonzero q ≡ k → cond k (made_line line.equal a line.numbers b equality.numbers) (Some line) ≡ Some next → MeetsLine n point line
   at true w e =
     let sum = unreduced n point line.equal a line b equality next e h in
     let only : a *ℤ slack n point line.numbers +ℤ b *ℤ slack n point equality.numbers ≡ a *ℤ slack n point line.numbers =

@@ -6,7 +6,7 @@ use Rattle.std.proofs.lemmas.List.{length-set, length-map, get_or-take}
 use Rattle.thr_base.specs.Number.{fits}
 use Rattle.lin_rows.specs.Row.{product_of, scaled, sum_of}
 use Rattle.farkas_cert.specs.Divisor.{gcd, gcd_of, over, reduced}
-use Rattle.farkas_cert.specs.Line.{Line, coefficient_at, bound_of, combination, all_fit, made}
+use Rattle.farkas_cert.specs.Line.{Line, coefficient_at, bound_of, combination, all_fit, made_line}
 use Rattle.farkas_cert.specs.BackSubstitution.{RationalPoint, Fraction, fraction, fitting, minus_products, bound_on, assigned, assigned_by}
 use Rattle.farkas_cert.proofs.Divisors.{gcd-IsGcd, over-exact}
 use Rattle.farkas_cert.proofs.Eliminates.{gcd_positive, positive_abs}

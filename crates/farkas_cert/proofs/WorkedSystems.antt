@@ -4,10 +4,10 @@ use Rattle.std.specs.Prelude.{ℤ, pos, neg_ℤ}
 use Rattle.lin_rows.specs.Row.{Row}
 use Rattle.lin_rows.specs.System.{System}
 use Rattle.farkas_cert.specs.Divisor.{gcd, gcd_of, over, reduced}
-use Rattle.farkas_cert.specs.Line.{given_lines, has_variable, lowest_column, lowest_of, is_false, refuting, listed, made}
+use Rattle.farkas_cert.specs.Line.{given_lines, has_variable, lowest_column, lowest_of, is_false, refuting, listed, made_line}
 use Rattle.farkas_cert.specs.Overflow.{check_fits}
 use Rattle.farkas_cert.specs.BackSubstitution.{fraction, bound_on, bounds_from, assigned, set_column}
-use Rattle.farkas_cert.specs.Elimination.{Refuted, Point, Leaves, Overflow, eliminated, eliminated_within, begun, stages, stage, taken_out, point_from, tested, equality_stage, pair_stage, pairs_at, paired, substituted, without_equality, every}
+use Rattle.farkas_cert.specs.Elimination.{Refuted, Point, Leaves, Overflow, outcome_of, outcome_within, begun, stages, stage, taken_out, point_from, tested, equality_stage, pair_stage, pairs_at, paired, substituted, without_equality, every}
 
 abbrev at_most : List ℤ → ℤ → Row
 at_most coefficients bound = record { equal = false; coefficients = coefficients; bound = bound }
@@ -23,27 +23,27 @@ large = 85070591730234615865843651857942052864
 
 worked :
     -- large x + y <= 0 with -(large + 1) x + y <= 0
-    (eliminated (over_columns 2 (at_most (pos large ∷ pos 1 ∷ []) (pos 0) ∷ at_most (neg_ℤ (pos (large + 1)) ∷ pos 1 ∷ []) (pos 0) ∷ []))
+    (outcome_of (over_columns 2 (at_most (pos large ∷ pos 1 ∷ []) (pos 0) ∷ at_most (neg_ℤ (pos (large + 1)) ∷ pos 1 ∷ []) (pos 0) ∷ []))
     ≡ Leaves 1 Overflow)
     -- x <= 0 with -x <= -1
-    × (eliminated (over_columns 1 (at_most (pos 1 ∷ []) (pos 0) ∷ at_most (neg_ℤ (pos 1) ∷ []) (neg_ℤ (pos 1)) ∷ []))
+    × (outcome_of (over_columns 1 (at_most (pos 1 ∷ []) (pos 0) ∷ at_most (neg_ℤ (pos 1) ∷ []) (neg_ℤ (pos 1)) ∷ []))
     ≡ Refuted ((1, pos 1) ∷ (2, pos 1) ∷ []))
     -- 2x = 1
-    × (eliminated (over_columns 1 (equals (pos 2 ∷ []) (pos 1) ∷ [])) ≡ Point (pos 1 ∷ []) (pos 2))
+    × (outcome_of (over_columns 1 (equals (pos 2 ∷ []) (pos 1) ∷ [])) ≡ Point (pos 1 ∷ []) (pos 2))
     -- no rows
-    × (eliminated (over_columns 1 []) ≡ Point (pos 0 ∷ []) (pos 1))
+    × (outcome_of (over_columns 1 []) ≡ Point (pos 0 ∷ []) (pos 1))
     -- -2x <= -3 with 2^126 x <= 2^126 + 2^125 + 1: no whole number lies between, and no product of the bounds is looked at
-    × (eliminated (over_columns 1 (at_most (neg_ℤ (pos 2) ∷ []) (neg_ℤ (pos 3)) ∷ at_most (pos (2 ^ 126) ∷ []) (pos (2 ^ 126 + 2 ^ 125 + 1)) ∷ []))
+    × (outcome_of (over_columns 1 (at_most (neg_ℤ (pos 2) ∷ []) (neg_ℤ (pos 3)) ∷ at_most (pos (2 ^ 126) ∷ []) (pos (2 ^ 126 + 2 ^ 125 + 1)) ∷ []))
     ≡ Point (pos 3 ∷ []) (pos 2))
     -- x = 1 with x = 2: the multipliers are negated
-    × (eliminated (over_columns 1 (equals (pos 1 ∷ []) (pos 1) ∷ equals (pos 1 ∷ []) (pos 2) ∷ []))
+    × (outcome_of (over_columns 1 (equals (pos 1 ∷ []) (pos 1) ∷ equals (pos 1 ∷ []) (pos 2) ∷ []))
     ≡ Refuted ((1, pos 1) ∷ (2, neg_ℤ (pos 1)) ∷ []))
     -- 2x + 3y = 7 with x - y = 1
-    × (eliminated (over_columns 2 (equals (pos 2 ∷ pos 3 ∷ []) (pos 7) ∷ equals (pos 1 ∷ neg_ℤ (pos 1) ∷ []) (pos 1) ∷ []))
+    × (outcome_of (over_columns 2 (equals (pos 2 ∷ pos 3 ∷ []) (pos 7) ∷ equals (pos 1 ∷ neg_ℤ (pos 1) ∷ []) (pos 1) ∷ []))
     ≡ Point (pos 2 ∷ pos 1 ∷ []) (pos 1))
     -- 2x <= 5
-    × (eliminated (over_columns 1 (at_most (pos 2 ∷ []) (pos 5) ∷ [])) ≡ Point (pos 2 ∷ []) (pos 1))
+    × (outcome_of (over_columns 1 (at_most (pos 2 ∷ []) (pos 5) ∷ [])) ≡ Point (pos 2 ∷ []) (pos 1))
     -- 0 <= -1
-    × (eliminated (over_columns 1 (at_most (pos 0 ∷ []) (neg_ℤ (pos 1)) ∷ [])) ≡ Refuted ((1, pos 1) ∷ []))
-unfolding eliminated_within begun stages stage taken_out point_from tested equality_stage pair_stage pairs_at paired substituted without_equality every fraction bound_on bounds_from assigned set_column check_fits given_lines has_variable lowest_column lowest_of is_false refuting listed made gcd gcd_of over reduced
+    × (outcome_of (over_columns 1 (at_most (pos 0 ∷ []) (neg_ℤ (pos 1)) ∷ [])) ≡ Refuted ((1, pos 1) ∷ []))
+unfolding outcome_within begun stages stage taken_out point_from tested equality_stage pair_stage pairs_at paired substituted without_equality every fraction bound_on bounds_from assigned set_column check_fits given_lines has_variable lowest_column lowest_of is_false refuting listed made_line gcd gcd_of over reduced
 worked = (refl, refl, refl, refl, refl, refl, refl, refl, refl)

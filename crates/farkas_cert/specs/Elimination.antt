@@ -7,7 +7,7 @@ use Rattle.std.specs.Option.{option_map}
 use Rattle.lin_rows.specs.System.{System}
 use Rattle.farkas_cert.specs.Cert.{Pairs}
 use Rattle.farkas_cert.specs.Divisor.{gcd, over}
-use Rattle.farkas_cert.specs.Line.{Line, given_lines, coefficient_at, lowest_column, lowest_of, has_variable, is_false, refuting, listed, is_nonzero, made}
+use Rattle.farkas_cert.specs.Line.{Line, given_lines, coefficient_at, lowest_column, lowest_of, has_variable, is_false, refuting, listed, is_nonzero, made_line}
 use Rattle.farkas_cert.specs.Overflow.{check_fits}
 use Rattle.farkas_cert.specs.BackSubstitution.{RationalPoint, Kept, Solved, Bounded, set_column}
 
@@ -87,7 +87,7 @@ substituted c equality line =
     let q = coefficient_at c line in
     let g = gcd (unsigned_abs p) (unsigned_abs q) in
     cond (is_nonzero q)
-    (made line.equal (over g (pos (unsigned_abs p))) line.numbers (neg_ℤ (over g (int_signum p *ℤ q))) equality.numbers)
+    (made_line line.equal (over g (pos (unsigned_abs p))) line.numbers (neg_ℤ (over g (int_signum p *ℤ q))) equality.numbers)
     (Some line)
 
 -- The equality leaves the list and is kept for its lowest column; each other line is replaced in its place.
@@ -105,7 +105,7 @@ paired c positive negative =
     let p = coefficient_at c positive in
     let q = neg_ℤ (coefficient_at c negative) in
     let g = gcd (unsigned_abs p) (unsigned_abs q) in
-    made false (over g q) positive.numbers (over g p) negative.numbers
+    made_line false (over g q) positive.numbers (over g p) negative.numbers
 
 -- the lines with a positive coefficient at c, with a negative one, and with one
 abbrev pub positives : ℕ → List Line → List Line
@@ -186,8 +186,8 @@ unfoldable pub begun : System → Next
 begun system = tested system 0 (record { lines = given_lines (length system.rows) 0 system.rows; kept = []; made = 0 })
 
 -- what the elimination of a system comes to, where so many stages may follow one another
-unfoldable pub eliminated_within : ℕ → System → Outcome
-eliminated_within fuel system = or_ends (stages fuel system) (begun system)
+unfoldable pub outcome_within : ℕ → System → Outcome
+outcome_within fuel system = or_ends (stages fuel system) (begun system)
 
-abbrev pub eliminated : System → Outcome
-eliminated system = eliminated_within system.columns system
+abbrev pub outcome_of : System → Outcome
+outcome_of system = outcome_within system.columns system

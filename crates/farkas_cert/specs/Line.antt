@@ -79,5 +79,5 @@ abbrev pub combination_fits : ℤ → List ℤ → ℤ → List ℤ → Bool
 combination_fits a xs b ys = all_fit (scaled a xs) && (all_fit (scaled b ys) && all_fit (combination a xs b ys))
 
 -- A made line is divided by the greatest common divisor of its numbers. None is made where a product or a sum does not fit.
-unfoldable pub made : Bool → ℤ → List ℤ → ℤ → List ℤ → Option Line
-made equal a xs b ys = cond (combination_fits a xs b ys) (Some (record { equal = equal; numbers = reduced (combination a xs b ys) })) None
+unfoldable pub made_line : Bool → ℤ → List ℤ → ℤ → List ℤ → Option Line
+made_line equal a xs b ys = cond (combination_fits a xs b ys) (Some (record { equal = equal; numbers = reduced (combination a xs b ys) })) None

@@ -6,3 +6,6 @@ returns-clause-refutes c = λ system pairs w e. (certificate_is_sound system pai
 
 pub returns-clause-reduced : goal.returns-clause-reduced
 returns-clause-reduced c = λ system pairs w e. (certificate_is_sound system pairs w e).1
+
+pub returns-clause-fits : goal.returns-clause-fits
+returns-clause-fits c = λ system pairs w e. (certificate_is_sound system pairs w e).2
