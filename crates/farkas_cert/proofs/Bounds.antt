@@ -1,13 +1,12 @@
 -- The bounds of a column: each line's bound is within them, and what holds of each line's bound holds of them.
-use Rattle.std.proofs.Common.{◌≡◌, ℕ, refl, sym, ap, ◌∙◌, arith, subst, List, [], ◌∷◌, Bool, true, false, cond, Some, None, Option, ◌⊎◌, inl, inr}
-use Rattle.std.specs.Prelude.{ℤ, pos, ◌*ℤ◌, ◌≤ℤ◌, ◌<ℤ◌, int_lt, ◌&&◌}
-use Rattle.std.specs.Option.{option_map, option_and_then}
+use Rattle.std.proofs.Common.{◌≡◌, ℕ, refl, sym, ap, arith, subst, List, [], ◌∷◌, Bool, true, false, cond, Some, None, Option, ◌⊎◌, inl, inr}
+use Rattle.std.specs.Prelude.{pos, ◌*ℤ◌, ◌<ℤ◌, int_lt, ◌&&◌}
+use Rattle.std.specs.Option.{option_and_then}
 use Rattle.std.specs.List.{AllByRecursion}
 use Rattle.std.proofs.lemmas.Int.{ints}
 use Rattle.thr_base.specs.Number.{fits}
 use Rattle.farkas_cert.specs.Line.{Line, coefficient_at, is_nonzero}
 use Rattle.farkas_cert.specs.BackSubstitution.{RationalPoint, Fraction, Bounds, bound_on, is_below, greater_of, lesser_of, narrowed, bounds_from}
-use Rattle.farkas_cert.proofs.Integers.{linear}
 use Rattle.farkas_cert.proofs.Fractions.{IsAtMost, at_most_self, at_most_trans, IsPositive}
 use Rattle.farkas_cert.proofs.Slack.{and_then_is, map_is}
 use Rattle.farkas_cert.proofs.Sides.{bound_is}
@@ -46,45 +45,45 @@ pub record IsGreater (old : Option Fraction) (f l : Fraction) : Type 0 where
 
 lesser_is : (old : Option Fraction) (f u : Fraction) → IsPositive old → pos 0 <ℤ f.denominator → lesser_of old f ≡ Some u → IsLesser old f u
 lesser_is None f u h k e =
-  let same : f ≡ u = cc in
-  record { new = subst (λ (v : Fraction). IsAtMost v f) same (at_most_self f k); kept = λ v e. absurd cc; one = inl (sym same) }
+    let same : f ≡ u = cc in
+    record { new = subst (λ (v : Fraction). IsAtMost v f) same (at_most_self f k); kept = λ v e. absurd cc; one = inl (sym same) }
 lesser_is (Some best) f u h k e = by_test (map_is (λ less. cond less f best) (is_below f best) u e) where
   by_test : (less : Bool) × (is_below f best ≡ Some less) × (cond less f best ≡ u) → IsLesser (Some best) f u
   by_test (true, e, s) =
-    let below : IsAtMost f best = compared f best true k (h best refl) e in
-    record {
-      new = subst (λ (v : Fraction). IsAtMost v f) s (at_most_self f k);
-      kept = λ v t. let same : best ≡ v = cc in subst (λ (w : Fraction). IsAtMost w v) s (subst (λ (w : Fraction). IsAtMost f w) same below);
-      one = inl (sym s);
-    }
+      let below : IsAtMost f best = compared f best true k (h best refl) e in
+      record {
+        new = subst (λ (v : Fraction). IsAtMost v f) s (at_most_self f k);
+        kept = λ v t. let same : best ≡ v = cc in subst (λ (w : Fraction). IsAtMost w v) s (subst (λ (w : Fraction). IsAtMost f w) same below);
+        one = inl (sym s);
+      }
   by_test (false, e, s) =
-    let above : IsAtMost best f = compared f best false k (h best refl) e in
-    record {
-      new = subst (λ (v : Fraction). IsAtMost v f) s above;
-      kept = λ v t. let same : best ≡ v = cc in subst (λ (w : Fraction). IsAtMost w v) s (subst (λ (w : Fraction). IsAtMost best w) same (at_most_self best (h best refl)));
-      one = inr (ap (λ (v : Fraction). Some v) s);
-    }
+      let above : IsAtMost best f = compared f best false k (h best refl) e in
+      record {
+        new = subst (λ (v : Fraction). IsAtMost v f) s above;
+        kept = λ v t. let same : best ≡ v = cc in subst (λ (w : Fraction). IsAtMost w v) s (subst (λ (w : Fraction). IsAtMost best w) same (at_most_self best (h best refl)));
+        one = inr (ap (λ (v : Fraction). Some v) s);
+      }
 
 greater_is : (old : Option Fraction) (f l : Fraction) → IsPositive old → pos 0 <ℤ f.denominator → greater_of old f ≡ Some l → IsGreater old f l
 greater_is None f l h k e =
-  let same : f ≡ l = cc in
-  record { new = subst (λ (v : Fraction). IsAtMost f v) same (at_most_self f k); kept = λ v e. absurd cc; one = inl (sym same) }
+    let same : f ≡ l = cc in
+    record { new = subst (λ (v : Fraction). IsAtMost f v) same (at_most_self f k); kept = λ v e. absurd cc; one = inl (sym same) }
 greater_is (Some best) f l h k e = by_test (map_is (λ less. cond less f best) (is_below best f) l e) where
   by_test : (less : Bool) × (is_below best f ≡ Some less) × (cond less f best ≡ l) → IsGreater (Some best) f l
   by_test (true, e, s) =
-    let below : IsAtMost best f = compared best f true (h best refl) k e in
-    record {
-      new = subst (λ (v : Fraction). IsAtMost f v) s (at_most_self f k);
-      kept = λ v t. let same : best ≡ v = cc in subst (λ (w : Fraction). IsAtMost v w) s (subst (λ (w : Fraction). IsAtMost w f) same below);
-      one = inl (sym s);
-    }
+      let below : IsAtMost best f = compared best f true (h best refl) k e in
+      record {
+        new = subst (λ (v : Fraction). IsAtMost f v) s (at_most_self f k);
+        kept = λ v t. let same : best ≡ v = cc in subst (λ (w : Fraction). IsAtMost v w) s (subst (λ (w : Fraction). IsAtMost w f) same below);
+        one = inl (sym s);
+      }
   by_test (false, e, s) =
-    let above : IsAtMost f best = compared best f false (h best refl) k e in
-    record {
-      new = subst (λ (v : Fraction). IsAtMost f v) s above;
-      kept = λ v t. let same : best ≡ v = cc in subst (λ (w : Fraction). IsAtMost v w) s (subst (λ (w : Fraction). IsAtMost w best) same (at_most_self best (h best refl)));
-      one = inr (ap (λ (v : Fraction). Some v) s);
-    }
+      let above : IsAtMost f best = compared best f false (h best refl) k e in
+      record {
+        new = subst (λ (v : Fraction). IsAtMost f v) s above;
+        kept = λ v t. let same : best ≡ v = cc in subst (λ (w : Fraction). IsAtMost v w) s (subst (λ (w : Fraction). IsAtMost w best) same (at_most_self best (h best refl)));
+        one = inr (ap (λ (v : Fraction). Some v) s);
+      }
 
 -- ---- one line
 
@@ -136,41 +135,41 @@ pub record Narrows (old new : Bounds) (side : Bool) (f : Fraction) : Type 0 wher
 
 narrows : (old new : Bounds) (side : Bool) (f : Fraction) → OfBounds HasPositive HasPositive old → HasPositive f → narrowed side old f ≡ Some new → Narrows old new side f
 narrows old new true f h k e =
-  let at = map_is (λ u. record old { upper = Some u }) (lesser_of old.upper f) new e in
-  let lesser = lesser_is old.upper f at.0 h.upper k at.1 in
-  subst (λ (b : Bounds). Narrows old b true f) at.2 (record {
-    narrower = record {
-      upper = λ v s. (at.0, refl, lesser.kept v s);
-      lower = λ v s. (v, s, at_most_self v (h.lower v s));
-    };
-    bounded = (at.0, refl, lesser.new);
-  })
+    let at = map_is (λ u. record old { upper = Some u }) (lesser_of old.upper f) new e in
+    let lesser = lesser_is old.upper f at.0 h.upper k at.1 in
+    subst (λ (b : Bounds). Narrows old b true f) at.2 (record {
+      narrower = record {
+        upper = λ v s. (at.0, refl, lesser.kept v s);
+        lower = λ v s. (v, s, at_most_self v (h.lower v s));
+      };
+      bounded = (at.0, refl, lesser.new);
+    })
 narrows old new false f h k e =
-  let at = map_is (λ l. record old { lower = Some l }) (greater_of old.lower f) new e in
-  let greater = greater_is old.lower f at.0 h.lower k at.1 in
-  subst (λ (b : Bounds). Narrows old b false f) at.2 (record {
-    narrower = record {
-      upper = λ v s. (v, s, at_most_self v (h.upper v s));
-      lower = λ v s. (at.0, refl, greater.kept v s);
-    };
-    bounded = (at.0, refl, greater.new);
-  })
+    let at = map_is (λ l. record old { lower = Some l }) (greater_of old.lower f) new e in
+    let greater = greater_is old.lower f at.0 h.lower k at.1 in
+    subst (λ (b : Bounds). Narrows old b false f) at.2 (record {
+      narrower = record {
+        upper = λ v s. (v, s, at_most_self v (h.upper v s));
+        lower = λ v s. (at.0, refl, greater.kept v s);
+      };
+      bounded = (at.0, refl, greater.new);
+    })
 
 keeps : (L U : Fraction → Type 0) (old new : Bounds) (side : Bool) (f : Fraction) → OfBounds HasPositive HasPositive old → HasPositive f → OfBounds L U old → OnSide L U side f → narrowed side old f ≡ Some new → OfBounds L U new
 keeps L U old new true f h k o p e =
-  let at = map_is (λ u. record old { upper = Some u }) (lesser_of old.upper f) new e in
-  let lesser = lesser_is old.upper f at.0 h.upper k at.1 in
-  subst (λ (b : Bounds). OfBounds L U b) at.2 (record {
-    lower = o.lower;
-    upper = λ v s. of_one U old.upper f at.0 v lesser.one o.upper p s;
-  })
+    let at = map_is (λ u. record old { upper = Some u }) (lesser_of old.upper f) new e in
+    let lesser = lesser_is old.upper f at.0 h.upper k at.1 in
+    subst (λ (b : Bounds). OfBounds L U b) at.2 (record {
+      lower = o.lower;
+      upper = λ v s. of_one U old.upper f at.0 v lesser.one o.upper p s;
+    })
 keeps L U old new false f h k o p e =
-  let at = map_is (λ l. record old { lower = Some l }) (greater_of old.lower f) new e in
-  let greater = greater_is old.lower f at.0 h.lower k at.1 in
-  subst (λ (b : Bounds). OfBounds L U b) at.2 (record {
-    lower = λ v s. of_one L old.lower f at.0 v greater.one o.lower p s;
-    upper = o.upper;
-  })
+    let at = map_is (λ l. record old { lower = Some l }) (greater_of old.lower f) new e in
+    let greater = greater_is old.lower f at.0 h.lower k at.1 in
+    subst (λ (b : Bounds). OfBounds L U b) at.2 (record {
+      lower = λ v s. of_one L old.lower f at.0 v greater.one o.lower p s;
+      upper = o.upper;
+    })
 
 -- ---- all lines
 
@@ -196,33 +195,33 @@ pub record BoundsOver (n c : ℕ) (point : RationalPoint) (old new : Bounds) (li
 pub bounds_over : (n c : ℕ) (point : RationalPoint) (old new : Bounds) (lines : List Line) → pos 0 <ℤ point.denominator → AllByRecursion (HasColumn c) lines → OfBounds HasPositive HasPositive old → bounds_from n c point old lines ≡ Some new → BoundsOver n c point old new lines
 unfolding bounds_from
 bounds_over n c point old new [] d z o e =
-  let same : old ≡ new = cc in
-  subst (λ (b : Bounds). BoundsOver n c point old b []) same (record { narrower = narrower_self old o; bounded = tt; positive = o })
+    let same : old ≡ new = cc in
+    subst (λ (b : Bounds). BoundsOver n c point old b []) same (record { narrower = narrower_self old o; bounded = tt; positive = o })
 bounds_over n c point old new (line ∷ lines) d z o e =
-  let outer = and_then_is (λ next. bounds_from n c point next lines) (option_and_then (narrowed (side_of c line) old) (bound_on n c point line)) new e in
-  let inner = and_then_is (narrowed (side_of c line) old) (bound_on n c point line) outer.0 outer.1 in
-  let positive = (bound_is n c point line inner.0 z.0 d inner.1).positive in
-  let step = narrows old outer.0 (side_of c line) inner.0 o positive inner.2 in
-  let kept = keeps HasPositive HasPositive old outer.0 (side_of c line) inner.0 o positive o (positive_side (side_of c line) inner.0 positive) inner.2 in
-  let rest = bounds_over n c point outer.0 new lines d z.1 kept outer.2 in
-  record {
-    narrower = narrower_trans old outer.0 new step.narrower rest.narrower;
-    bounded = ((inner.0, inner.1, bounded_narrower outer.0 new (side_of c line) inner.0 rest.narrower step.bounded), rest.bounded);
-    positive = rest.positive;
-  }
+    let outer = and_then_is (λ next. bounds_from n c point next lines) (option_and_then (narrowed (side_of c line) old) (bound_on n c point line)) new e in
+    let inner = and_then_is (narrowed (side_of c line) old) (bound_on n c point line) outer.0 outer.1 in
+    let positive = (bound_is n c point line inner.0 z.0 d inner.1).positive in
+    let step = narrows old outer.0 (side_of c line) inner.0 o positive inner.2 in
+    let kept = keeps HasPositive HasPositive old outer.0 (side_of c line) inner.0 o positive o (positive_side (side_of c line) inner.0 positive) inner.2 in
+    let rest = bounds_over n c point outer.0 new lines d z.1 kept outer.2 in
+    record {
+      narrower = narrower_trans old outer.0 new step.narrower rest.narrower;
+      bounded = ((inner.0, inner.1, bounded_narrower outer.0 new (side_of c line) inner.0 rest.narrower step.bounded), rest.bounded);
+      positive = rest.positive;
+    }
 
 -- what holds of each line's bound, on its side
 abbrev pub BoundHas : (Fraction → Type 0) → (Fraction → Type 0) → ℕ → ℕ → RationalPoint → Line → Type 0
 BoundHas L U n c point line = (f : Fraction) → bound_on n c point line ≡ Some f → OnSide L U (side_of c line) f
 
 pub keeps_over : (L U : Fraction → Type 0) (n c : ℕ) (point : RationalPoint) (old new : Bounds) (lines : List Line) → pos 0 <ℤ point.denominator → AllByRecursion (HasColumn c) lines → OfBounds HasPositive HasPositive old
-  → AllByRecursion (BoundHas L U n c point) lines → OfBounds L U old → bounds_from n c point old lines ≡ Some new → OfBounds L U new
+    → AllByRecursion (BoundHas L U n c point) lines → OfBounds L U old → bounds_from n c point old lines ≡ Some new → OfBounds L U new
 unfolding bounds_from
 keeps_over L U n c point old new [] d z o h k e = let same : old ≡ new = cc in subst (λ (b : Bounds). OfBounds L U b) same k
 keeps_over L U n c point old new (line ∷ lines) d z o h k e =
-  let outer = and_then_is (λ next. bounds_from n c point next lines) (option_and_then (narrowed (side_of c line) old) (bound_on n c point line)) new e in
-  let inner = and_then_is (narrowed (side_of c line) old) (bound_on n c point line) outer.0 outer.1 in
-  let positive = (bound_is n c point line inner.0 z.0 d inner.1).positive in
-  let kept = keeps HasPositive HasPositive old outer.0 (side_of c line) inner.0 o positive o (positive_side (side_of c line) inner.0 positive) inner.2 in
-  let step = keeps L U old outer.0 (side_of c line) inner.0 o positive k (h.0 inner.0 inner.1) inner.2 in
-  keeps_over L U n c point outer.0 new lines d z.1 kept h.1 step outer.2
+    let outer = and_then_is (λ next. bounds_from n c point next lines) (option_and_then (narrowed (side_of c line) old) (bound_on n c point line)) new e in
+    let inner = and_then_is (narrowed (side_of c line) old) (bound_on n c point line) outer.0 outer.1 in
+    let positive = (bound_is n c point line inner.0 z.0 d inner.1).positive in
+    let kept = keeps HasPositive HasPositive old outer.0 (side_of c line) inner.0 o positive o (positive_side (side_of c line) inner.0 positive) inner.2 in
+    let step = keeps L U old outer.0 (side_of c line) inner.0 o positive k (h.0 inner.0 inner.1) inner.2 in
+    keeps_over L U n c point outer.0 new lines d z.1 kept h.1 step outer.2

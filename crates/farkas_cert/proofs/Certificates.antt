@@ -1,6 +1,6 @@
 -- The certificate with which the elimination ends refutes the system, and is reduced.
-use Rattle.std.proofs.Common.{◌≡◌, ℕ, zero, suc, ◌+◌, ◌*◌, ◌≤◌, ◌<◌, refl, sym, ap, ◌∙◌, arith, subst, List, [], ◌∷◌, ◌++◌, map, length, take, drop, Bool, true, false, cond, Some, None, Option}
-use Rattle.std.specs.Prelude.{ℤ, pos, negsuc, neg_ℤ, ◌≤ℤ◌, ◌<ℤ◌, ◌*ℤ◌, ⊤, unsigned_abs, find, filter, int_lt, not, flat_map, replicate}
+use Rattle.std.proofs.Common.{◌≡◌, ℕ, zero, suc, ◌+◌, ◌*◌, refl, arith, subst, List, [], ◌∷◌, ◌++◌, map, length, Bool, true, false, cond, Some, None, Option}
+use Rattle.std.specs.Prelude.{ℤ, pos, negsuc, neg_ℤ, ◌≤ℤ◌, ◌*ℤ◌, ⊤, unsigned_abs, find, filter, int_lt, not, flat_map, replicate}
 use Rattle.std.specs.Option.{option_map}
 use Rattle.std.proofs.lemmas.Int.{ints}
 use Rattle.std.specs.Int.{int_signum}
@@ -12,10 +12,10 @@ use Rattle.farkas_cert.specs.Divisor.{gcd, over}
 use Rattle.farkas_cert.specs.Line.{Line, coefficient_at, given_lines, is_false, has_variable, refuting, listed, is_nonzero, made_line, lowest_column, lowest_of}
 use Rattle.farkas_cert.specs.Overflow.{check_fits}
 use Rattle.farkas_cert.specs.BackSubstitution.{RationalPoint, Kept, Solved, Bounded, set_column}
-use Rattle.farkas_cert.specs.Elimination.{IsRectangular, Outcome, Refuted, Point, Leaves, LeaveKind, Overflow, Rows, Work, Next, Goes, Ends, every, refuted, tested, tested_by, follows, without_equality, substituted, equality_stage, paired, positives, negatives, with_column, without_column, pairs_at, are_too_many, pair_stage, taken_out, taken_out_by, stage, then_tested, point_from, point_of, or_leaves, or_ends, goes_on, stages, begun, outcome_of, outcome_within}
+use Rattle.farkas_cert.specs.Elimination.{IsRectangular, Outcome, Refuted, Point, Leaves, Overflow, Rows, Work, Next, Goes, Ends, every, refuted, tested, tested_by, follows, without_equality, substituted, equality_stage, paired, positives, negatives, with_column, without_column, pairs_at, are_too_many, pair_stage, taken_out, taken_out_by, stage, then_tested, point_from, or_leaves, or_ends, goes_on, stages, begun, outcome_of, outcome_within}
 use Rattle.farkas_cert.proofs.Integers.{linear}
 use Rattle.farkas_cert.proofs.Derived.{IsDerived, derived_by_equality, derived_by_pair}
-use Rattle.farkas_cert.proofs.Lists.{all_filter, all_append, all_from, all_map, all_flat_map, found, none_found, all_every, filter_all, all_both}
+use Rattle.farkas_cert.proofs.Lists.{all_filter, all_append, all_map, all_flat_map, found, all_every, filter_all, all_both}
 use Rattle.farkas_cert.proofs.Refuting.{IsProvedBy, false_refutes, all_given_derived}
 
 abbrev pub AllDerived : System → List Line → Type 0

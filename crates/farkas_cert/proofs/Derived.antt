@@ -1,6 +1,6 @@
 -- Each line of the elimination is the sum of the given rows by its multipliers, and refutes where it is false.
-use Rattle.std.proofs.Common.{◌≡◌, ℕ, zero, suc, ◌+◌, ◌*◌, ◌<◌, ◌≤◌, refl, sym, ap, ◌∙◌, arith, subst, List, [], ◌∷◌, ◌++◌, map, take, drop, length, get_or, Bool, true, false, cond, Some, None, Option, ◌⊎◌, inl, inr}
-use Rattle.std.specs.Prelude.{ℤ, pos, negsuc, neg_ℤ, ◌+ℤ◌, ◌-ℤ◌, ◌*ℤ◌, ◌≤ℤ◌, ◌<ℤ◌, slice_get, unsigned_abs, ◌&&◌, not, int_lt}
+use Rattle.std.proofs.Common.{◌≡◌, ℕ, zero, suc, ◌*◌, ◌<◌, ◌≤◌, refl, sym, ap, ◌∙◌, arith, subst, List, [], ◌∷◌, map, take, drop, get_or, Bool, true, false, cond, Some, None, ◌⊎◌, inl, inr}
+use Rattle.std.specs.Prelude.{ℤ, pos, negsuc, ◌+ℤ◌, ◌-ℤ◌, ◌*ℤ◌, ◌≤ℤ◌, unsigned_abs}
 use Rattle.std.specs.Int.{◌∣◌}
 use Rattle.std.specs.List.{AllByRecursion}
 use Rattle.std.proofs.lemmas.Int.{unsigned_abs-mul}
@@ -10,9 +10,9 @@ use Rattle.std.proofs.Math.Nat.{mul-dvd-mul_left, eq-zero_of_zero-dvd}
 use Rattle.lin_rows.specs.Row.{Row, product_of, scaled, sum_of}
 use Rattle.lin_rows.specs.System.{System}
 use Rattle.farkas_cert.specs.Divisor.{gcd_of, over, reduced}
-use Rattle.farkas_cert.specs.Line.{Line, coefficient_at, bound_of, multipliers_of, combination, combination_fits, made_line}
+use Rattle.farkas_cert.specs.Line.{Line, bound_of, multipliers_of, combination, combination_fits, made_line}
 use Rattle.farkas_cert.proofs.Divisors.{DivideAll, gcd_of-divides, gcd_of-greatest, reduced-exact, reduced-same}
-use Rattle.farkas_cert.proofs.Integers.{linear, mul_add, mul_mul, zero_mul, mul_zero, mul_one}
+use Rattle.farkas_cert.proofs.Integers.{linear, mul_zero}
 use Rattle.farkas_cert.proofs.Linear.{IsLinear, product-linear, get-linear, take-linear, drop-linear, difference-linear, of_combination, reduced_vanishes, drop-sum, drop-scaled}
 use Rattle.farkas_cert.proofs.Signs.{Signs, signs_scaled, signs_any, signs_weaker, signs_false, signs_sum, signs_over}
 use Rattle.farkas_cert.proofs.Weighted.{values_at, bounds_of}

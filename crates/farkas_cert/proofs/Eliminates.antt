@@ -1,13 +1,13 @@
 -- The made lines have no coefficient at the column of their stage.
-use Rattle.std.proofs.Common.{◌≡◌, ℕ, zero, suc, ◌+◌, ◌*◌, ◌<◌, ◌≤◌, refl, sym, ap, ◌∙◌, arith, subst, List, [], ◌∷◌, get_or, min, Bool, true, false, cond, Some, None, Option}
-use Rattle.std.specs.Prelude.{ℤ, pos, negsuc, neg_ℤ, ◌+ℤ◌, ◌*ℤ◌, ◌≤ℤ◌, ◌<ℤ◌, unsigned_abs}
+use Rattle.std.proofs.Common.{◌≡◌, ℕ, zero, suc, ◌<◌, refl, sym, ap, ◌∙◌, arith, min, true}
+use Rattle.std.specs.Prelude.{ℤ, pos, negsuc, neg_ℤ, ◌+ℤ◌, ◌*ℤ◌, ◌<ℤ◌, unsigned_abs}
 use Rattle.std.specs.Int.{int_signum, ◌∣◌}
 use Rattle.std.proofs.lemmas.Int.{unsigned_abs-mul, ints}
 use Rattle.std.proofs.Math.Nat.{dvd-mul_left_of_dvd, eq-zero_of_zero-dvd}
-use Rattle.farkas_cert.specs.Divisor.{gcd, over, reduced}
-use Rattle.farkas_cert.specs.Line.{Line, coefficient_at, is_nonzero, combination}
+use Rattle.farkas_cert.specs.Divisor.{gcd, over}
+use Rattle.farkas_cert.specs.Line.{is_nonzero}
 use Rattle.farkas_cert.proofs.Divisors.{gcd-IsGcd, over-exact}
-use Rattle.farkas_cert.proofs.Integers.{linear, mul_add, add_mul, mul_mul, mul_swap, mul_neg, neg_mul, mul_zero, zero_mul, cancel_equal}
+use Rattle.farkas_cert.proofs.Integers.{linear, mul_add, mul_mul, mul_swap, mul_neg, neg_mul, zero_mul, cancel_equal}
 
 -- ---- signs
 
@@ -44,30 +44,30 @@ positive_abs (negsuc n) h = omega arith
 
 cancels_by : (g a q b p u v : ℤ) → pos 0 <ℤ g → g *ℤ a ≡ u → g *ℤ b ≡ v → u *ℤ q +ℤ v *ℤ p ≡ pos 0 → a *ℤ q +ℤ b *ℤ p ≡ pos 0
 cancels_by g a q b p u v n e k h =
-  let first = sym (mul_mul g a q) ∙ ap (λ t. t *ℤ q) e in
-  let second = sym (mul_mul g b p) ∙ ap (λ t. t *ℤ p) k in
-  cancel_equal (a *ℤ q +ℤ b *ℤ p) (pos 0) g n
+    let first = sym (mul_mul g a q) ∙ ap (λ t. t *ℤ q) e in
+    let second = sym (mul_mul g b p) ∙ ap (λ t. t *ℤ p) k in
+    cancel_equal (a *ℤ q +ℤ b *ℤ p) (pos 0) g n
     (omega (arith, linear, mul_swap (a *ℤ q +ℤ b *ℤ p) g, mul_add g (a *ℤ q) (b *ℤ p), zero_mul g))
 
 pub substitution_cancels : (p q : ℤ) → is_nonzero q ≡ true →
-  let g = gcd (unsigned_abs p) (unsigned_abs q) in over g (pos (unsigned_abs p)) *ℤ q +ℤ neg_ℤ (over g (int_signum p *ℤ q)) *ℤ p ≡ pos 0
+    let g = gcd (unsigned_abs p) (unsigned_abs q) in over g (pos (unsigned_abs p)) *ℤ q +ℤ neg_ℤ (over g (int_signum p *ℤ q)) *ℤ p ≡ pos 0
 substitution_cancels p q e =
-  let g = gcd (unsigned_abs p) (unsigned_abs q) in
-  let d = gcd-IsGcd (unsigned_abs p) (unsigned_abs q) in
-  let divides : g ∣ unsigned_abs (int_signum p *ℤ q) = rw (unsigned_abs-mul (int_signum p) q) (dvd-mul_left_of_dvd g d.1 (unsigned_abs (int_signum p))) in
-  cancels_by (pos g) (over g (pos (unsigned_abs p))) q (neg_ℤ (over g (int_signum p *ℤ q))) p (pos (unsigned_abs p)) (neg_ℤ (int_signum p *ℤ q))
+    let g = gcd (unsigned_abs p) (unsigned_abs q) in
+    let d = gcd-IsGcd (unsigned_abs p) (unsigned_abs q) in
+    let divides : g ∣ unsigned_abs (int_signum p *ℤ q) = rw (unsigned_abs-mul (int_signum p) q) (dvd-mul_left_of_dvd g d.1 (unsigned_abs (int_signum p))) in
+    cancels_by (pos g) (over g (pos (unsigned_abs p))) q (neg_ℤ (over g (int_signum p *ℤ q))) p (pos (unsigned_abs p)) (neg_ℤ (int_signum p *ℤ q))
     (gcd_positive (unsigned_abs p) (unsigned_abs q) (nonzero_abs q e))
     (over-exact g (pos (unsigned_abs p)) d.0)
     (mul_neg (pos g) (over g (int_signum p *ℤ q)) ∙ ap neg_ℤ (over-exact g (int_signum p *ℤ q) divides))
     (omega (arith, linear, neg_mul (int_signum p *ℤ q) p, mul_mul (int_signum p) q p, ap (λ t. int_signum p *ℤ t) (mul_swap q p), mul_mul (int_signum p) p q, ap (λ t. t *ℤ q) (sign_self p)))
 
 pub pairing_cancels : (p r : ℤ) → pos 0 <ℤ p →
-  let q = neg_ℤ r in let g = gcd (unsigned_abs p) (unsigned_abs q) in over g q *ℤ p +ℤ over g p *ℤ r ≡ pos 0
+    let q = neg_ℤ r in let g = gcd (unsigned_abs p) (unsigned_abs q) in over g q *ℤ p +ℤ over g p *ℤ r ≡ pos 0
 pairing_cancels p r h =
-  let q = neg_ℤ r in
-  let g = gcd (unsigned_abs p) (unsigned_abs q) in
-  let d = gcd-IsGcd (unsigned_abs p) (unsigned_abs q) in
-  cancels_by (pos g) (over g q) p (over g p) r q p
+    let q = neg_ℤ r in
+    let g = gcd (unsigned_abs p) (unsigned_abs q) in
+    let d = gcd-IsGcd (unsigned_abs p) (unsigned_abs q) in
+    cancels_by (pos g) (over g q) p (over g p) r q p
     (gcd_positive_left (unsigned_abs p) (unsigned_abs q) (positive_abs p h))
     (over-exact g q d.1) (over-exact g p d.0)
     (omega (arith, linear, neg_mul r p, mul_swap r p))

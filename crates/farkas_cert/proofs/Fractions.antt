@@ -1,6 +1,6 @@
 -- Fractions in order, and the value that is chosen between two of them.
-use Rattle.std.proofs.Common.{◌≡◌, ℕ, zero, suc, ◌+◌, ◌*◌, ◌/◌, ◌<◌, ◌≤◌, refl, sym, ap, ◌∙◌, arith, subst, Bool, true, false, cond, Some, None, Option}
-use Rattle.std.specs.Prelude.{ℤ, pos, negsuc, neg_ℤ, ◌+ℤ◌, ◌-ℤ◌, ◌*ℤ◌, ◌≤ℤ◌, ◌<ℤ◌, unsigned_abs, int_lt, int_le}
+use Rattle.std.proofs.Common.{◌≡◌, ℕ, zero, suc, ◌+◌, ◌*◌, ◌/◌, ◌<◌, refl, sym, ap, ◌∙◌, arith, Bool, true, false, cond, Some, None, Option}
+use Rattle.std.specs.Prelude.{ℤ, pos, negsuc, neg_ℤ, ◌*ℤ◌, ◌≤ℤ◌, ◌<ℤ◌, unsigned_abs, int_le}
 use Rattle.std.specs.Int.{int_div_euclid}
 use Rattle.std.proofs.lemmas.Int.{ints, by_lt_z}
 use Rattle.std.proofs.Math.Nat.{div-mul-le_self, lt-div-mul-add}
@@ -26,12 +26,12 @@ not_negative a h = omega (arith, linear)
 
 trans_by : (a b c d e f : ℤ) → pos 0 <ℤ b → pos 0 <ℤ d → pos 0 <ℤ f → (a *ℤ d) ≤ℤ (c *ℤ b) → (c *ℤ f) ≤ℤ (e *ℤ d) → (a *ℤ f) ≤ℤ (e *ℤ b)
 trans_by a b c d e f hb hd hf h k =
-  let first = mul_at_most (a *ℤ d) (c *ℤ b) f (not_negative f hf) h in
-  let second = mul_at_most (c *ℤ f) (e *ℤ d) b (not_negative b hb) k in
-  let left : (a *ℤ d) *ℤ f ≡ (a *ℤ f) *ℤ d = simp factors in
-  let middle : (c *ℤ b) *ℤ f ≡ (c *ℤ f) *ℤ b = simp factors in
-  let right : (e *ℤ d) *ℤ b ≡ (e *ℤ b) *ℤ d = simp factors in
-  cancel_at_most (a *ℤ f) (e *ℤ b) d hd (omega (arith, linear))
+    let first = mul_at_most (a *ℤ d) (c *ℤ b) f (not_negative f hf) h in
+    let second = mul_at_most (c *ℤ f) (e *ℤ d) b (not_negative b hb) k in
+    let left : (a *ℤ d) *ℤ f ≡ (a *ℤ f) *ℤ d = simp factors in
+    let middle : (c *ℤ b) *ℤ f ≡ (c *ℤ f) *ℤ b = simp factors in
+    let right : (e *ℤ d) *ℤ b ≡ (e *ℤ b) *ℤ d = simp factors in
+    cancel_at_most (a *ℤ f) (e *ℤ b) d hd (omega (arith, linear))
 
 pub at_most_trans : (f g h : Fraction) → IsAtMost f g → IsAtMost g h → IsAtMost f h
 at_most_trans f g h i k = record {
@@ -70,14 +70,16 @@ at_most_itself k = omega (arith, linear)
 pub chosen_upper : (low high : Option Fraction) (u g : Fraction) → high ≡ Some u → IsAtMost u g → ((l : Fraction) → low ≡ Some l → IsAtMost l g) → IsAtMost (chosen low high) g
 chosen_upper low None u g e h k = absurd cc
 chosen_upper None (Some v) u g e h k =
-  let same : v ≡ u = cc in
-  let top : IsAtMost v g = rw same h in
-  at_most_trans (whole (floor_of v)) v g (below_floor (floor_of v) v top.left (at_most_itself (floor_of v))) top
+    let same : v ≡ u = cc in
+    let top : IsAtMost v g = rw same h in
+    at_most_trans (whole (floor_of v)) v g (below_floor (floor_of v) v top.left (at_most_itself (floor_of v))) top
 chosen_upper (Some l) (Some v) u g e h k = by_test (int_le (ceiling_of l) (floor_of v)) refl where
   same : v ≡ u
   same = cc
+
   top : IsAtMost v g
   top = rw same h
+
   by_test : (b : Bool) → int_le (ceiling_of l) (floor_of v) ≡ b → IsAtMost (cond b (whole (ceiling_of l)) l) g
   by_test true t = at_most_trans (whole (ceiling_of l)) v g (below_floor (ceiling_of l) v top.left (omega (arith, ints))) top
   by_test false t = k l refl
@@ -85,14 +87,16 @@ chosen_upper (Some l) (Some v) u g e h k = by_test (int_le (ceiling_of l) (floor
 pub chosen_lower : (low high : Option Fraction) (l f : Fraction) → low ≡ Some l → IsAtMost f l → IsAtMost f (chosen low high)
 chosen_lower None high l f e h = absurd cc
 chosen_lower (Some m) None l f e h =
-  let same : m ≡ l = cc in
-  let top : IsAtMost f m = rw same h in
-  at_most_trans f m (whole (ceiling_of m)) top (below_ceiling m top.right)
+    let same : m ≡ l = cc in
+    let top : IsAtMost f m = rw same h in
+    at_most_trans f m (whole (ceiling_of m)) top (below_ceiling m top.right)
 chosen_lower (Some m) (Some v) l f e h = by_test (int_le (ceiling_of m) (floor_of v)) where
   same : m ≡ l
   same = cc
+
   top : IsAtMost f m
   top = rw same h
+
   by_test : (b : Bool) → IsAtMost f (cond b (whole (ceiling_of m)) m)
   by_test true = at_most_trans f m (whole (ceiling_of m)) top (below_ceiling m top.right)
   by_test false = top
@@ -121,24 +125,24 @@ positive_over g x s h e k = by_lt_z (pos 0) x (λ l. l) (λ l. absurd (omega (ar
 
 reduced_is : (t : ℤ) (s : ℕ) → 0 < s → IsFractionOf t (pos s) (reduced_fraction t s)
 reduced_is t s h =
-  let g = gcd (unsigned_abs t) s in
-  let d = gcd-IsGcd (unsigned_abs t) s in
-  let left = over-exact g t d.0 in
-  let right = over-exact g (pos s) d.1 in
-  let swapped : over g t *ℤ (pos g *ℤ over g (pos s)) ≡ (pos g *ℤ over g t) *ℤ over g (pos s) = simp factors in
-  record {
-    positive = positive_over (pos g) (over g (pos s)) (pos s) (gcd_positive (unsigned_abs t) s h) right (omega (arith, linear));
-    same = ap (λ x. over g t *ℤ x) (sym right) ∙ swapped ∙ ap (λ x. x *ℤ over g (pos s)) left;
-  }
+    let g = gcd (unsigned_abs t) s in
+    let d = gcd-IsGcd (unsigned_abs t) s in
+    let left = over-exact g t d.0 in
+    let right = over-exact g (pos s) d.1 in
+    let swapped : over g t *ℤ (pos g *ℤ over g (pos s)) ≡ (pos g *ℤ over g t) *ℤ over g (pos s) = simp factors in
+    record {
+      positive = positive_over (pos g) (over g (pos s)) (pos s) (gcd_positive (unsigned_abs t) s h) right (omega (arith, linear));
+      same = ap (λ x. over g t *ℤ x) (sym right) ∙ swapped ∙ ap (λ x. x *ℤ over g (pos s)) left;
+    }
 
 pub fraction_is : (t s : ℤ) → ¬ (s ≡ pos 0) → IsFractionOf t s (fraction t s)
 unfolding fraction
 fraction_is t (pos zero) n = absurd (n refl)
 fraction_is t (pos (suc s)) n = reduced_is t (suc s) (omega arith)
 fraction_is t (negsuc s) n =
-  let r = reduced_is (neg_ℤ t) (suc s) (omega arith) in
-  let f = reduced_fraction (neg_ℤ t) (suc s) in
-  record {
-    positive = r.positive;
-    same = let e = r.same in omega (arith, linear, mul_neg f.numerator (pos (suc s)), neg_mul t f.denominator);
-  }
+    let r = reduced_is (neg_ℤ t) (suc s) (omega arith) in
+    let f = reduced_fraction (neg_ℤ t) (suc s) in
+    record {
+      positive = r.positive;
+      same = let e = r.same in omega (arith, linear, mul_neg f.numerator (pos (suc s)), neg_mul t f.denominator);
+    }

@@ -1,11 +1,11 @@
 -- Linear functions of lists: each number, each product with a list, of the whole list or of a part. What they give of a combination.
-use Rattle.std.proofs.Common.{◌≡◌, ℕ, zero, suc, ◌+◌, ◌*◌, ◌<◌, ◌≤◌, refl, sym, ap, ◌∙◌, arith, subst, List, [], ◌∷◌, map, take, drop, length, get_or, inl, inr, ◌⊎◌, max}
-use Rattle.std.specs.Prelude.{ℤ, pos, negsuc, neg_ℤ, ◌+ℤ◌, ◌-ℤ◌, ◌*ℤ◌, ◌≤ℤ◌, ◌<ℤ◌}
+use Rattle.std.proofs.Common.{◌≡◌, ℕ, zero, suc, refl, sym, ap, ◌∙◌, arith, List, [], ◌∷◌, take, drop, get_or}
+use Rattle.std.specs.Prelude.{ℤ, pos, neg_ℤ, ◌+ℤ◌, ◌-ℤ◌, ◌*ℤ◌, ◌≤ℤ◌, ◌<ℤ◌}
 use Rattle.lin_rows.specs.Row.{product_of, scaled, sum_of}
-use Rattle.farkas_cert.specs.Divisor.{gcd_of, over, reduced}
+use Rattle.farkas_cert.specs.Divisor.{gcd_of, reduced}
 use Rattle.farkas_cert.specs.Line.{combination}
 use Rattle.farkas_cert.proofs.Divisors.{reduced-exact, reduced-same}
-use Rattle.farkas_cert.proofs.Integers.{linear, mul_add, add_mul, mul_mul, mul_swap_left, mul_zero, zero_mul, cancel_equal, cancel_at_most, mul_at_most, mul_not_negative, mul_swap, mul_neg}
+use Rattle.farkas_cert.proofs.Integers.{linear, mul_add, add_mul, mul_mul, mul_zero, zero_mul, cancel_equal, cancel_at_most, mul_at_most, mul_swap, mul_neg}
 
 pub record IsLinear (f : List ℤ → ℤ) : Type 0 where
   pub of_sum : (xs ys : List ℤ) → f (sum_of xs ys) ≡ f xs +ℤ f ys

@@ -1,5 +1,5 @@
 -- What holds of each element of a list, through the list operations of the elimination.
-use Rattle.std.proofs.Common.{◌≡◌, ℕ, refl, sym, ap, subst, List, [], ◌∷◌, ◌++◌, map, Bool, true, false, cond, Some, None, Option}
+use Rattle.std.proofs.Common.{◌≡◌, refl, subst, List, [], ◌∷◌, ◌++◌, map, Bool, true, false, cond, Some, None, Option}
 use Rattle.std.specs.Prelude.{filter, flat_map, find, not}
 use Rattle.std.specs.Option.{option_map}
 use Rattle.std.specs.List.{AllByRecursion}
@@ -72,12 +72,12 @@ all_there P [] xs e h = tt
 all_there P (None ∷ os) xs e h = absurd cc
 all_there {X} P (Some x ∷ os) xs e h = at (λ ys t. all_there P os ys t) (every os) refl e where
   at : ((ys : List X) → every os ≡ Some ys → AllByRecursion P ys → AllByRecursion (λ o. (x : X) × (o ≡ Some x) × P x) os) → (o : Option (List X)) → every os ≡ o → option_map (λ ys. x ∷ ys) o ≡ Some xs
-    → ((y : X) × (Some x ≡ Some y) × P y) × AllByRecursion (λ o. (x : X) × (o ≡ Some x) × P x) os
+      → ((y : X) × (Some x ≡ Some y) × P y) × AllByRecursion (λ o. (x : X) × (o ≡ Some x) × P x) os
   at rest None t e = absurd cc
   at rest (Some ys) t e =
-    let same : xs ≡ x ∷ ys = cc in
-    let k : AllByRecursion P (x ∷ ys) = subst (λ (zs : List X). AllByRecursion P zs) same h in
-    ((x, refl, k.0), rest ys t k.1)
+      let same : xs ≡ x ∷ ys = cc in
+      let k : AllByRecursion P (x ∷ ys) = subst (λ (zs : List X). AllByRecursion P zs) same h in
+      ((x, refl, k.0), rest ys t k.1)
 
 pub all_unmap : {X Y : Type 0} (Q : Y → Type 0) (f : X → Y) (xs : List X) → AllByRecursion Q (map f xs) → AllByRecursion (λ x. Q (f x)) xs
 all_unmap Q f [] h = tt
@@ -107,12 +107,12 @@ pub all_parts : {X : Type 0} (P : X → Type 0) (p : X → Bool) (xs : List X) �
 all_parts P p [] h k = tt
 all_parts P p (x ∷ xs) h k = at (all_parts P p xs) (p x) h k where
   at : (AllByRecursion P (filter p xs) → AllByRecursion P (filter (λ x. not (p x)) xs) → AllByRecursion P xs) → (b : Bool)
-    → AllByRecursion P (cond b (x ∷ filter p xs) (filter p xs)) → AllByRecursion P (cond (not b) (x ∷ filter (λ x. not (p x)) xs) (filter (λ x. not (p x)) xs)) → P x × AllByRecursion P xs
+      → AllByRecursion P (cond b (x ∷ filter p xs) (filter p xs)) → AllByRecursion P (cond (not b) (x ∷ filter (λ x. not (p x)) xs) (filter (λ x. not (p x)) xs)) → P x × AllByRecursion P xs
   at rest true h k = (h.0, rest h.1 k)
   at rest false h k = (k.0, rest h k.1)
 
 -- what holds of the elements, where what they come to is there and has Q
 pub all_back : {X Y : Type 0} (P : X → Type 0) (Q : Y → Type 0) (f : X → Option Y) (xs : List X) (ys : List Y) → ((x : X) (y : Y) → f x ≡ Some y → Q y → P x) → every (map f xs) ≡ Some ys → AllByRecursion Q ys → AllByRecursion P xs
 all_back {X} {Y} P Q f xs ys g e h =
-  all_from (λ x. (y : Y) × (f x ≡ Some y) × Q y) P xs (λ x k. g x k.0 k.1 k.2)
+    all_from (λ x. (y : Y) × (f x ≡ Some y) × Q y) P xs (λ x k. g x k.0 k.1 k.2)
     (all_unmap (λ o. (y : Y) × (o ≡ Some y) × Q y) f xs (all_there Q (map f xs) ys e h))

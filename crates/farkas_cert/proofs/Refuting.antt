@@ -1,22 +1,20 @@
 -- The given rows are derived, and a derived line that is false refutes the system.
-use Rattle.std.proofs.Common.{◌≡◌, ℕ, zero, suc, ◌+◌, ◌*◌, ◌<◌, ◌≤◌, refl, sym, ap, ◌∙◌, arith, subst, List, [], ◌∷◌, ◌++◌, map, take, drop, length, get_or, Bool, true, false, cond, Some, None, Option, ◌⊎◌, inl, inr}
-use Rattle.std.specs.Prelude.{ℤ, pos, negsuc, neg_ℤ, ◌+ℤ◌, ◌-ℤ◌, ◌*ℤ◌, ◌≤ℤ◌, ◌<ℤ◌, slice_get, slice_set, replicate, unsigned_abs, ◌&&◌, not, int_lt, nat_lt}
+use Rattle.std.proofs.Common.{◌≡◌, ℕ, zero, suc, ◌≤◌, refl, sym, ap, ◌∙◌, arith, subst, List, [], ◌∷◌, ◌++◌, map, take, drop, length, get_or, Bool, true, false, cond, Some, inl, inr}
+use Rattle.std.specs.Prelude.{ℤ, pos, negsuc, neg_ℤ, ◌<ℤ◌, slice_get, slice_set, replicate, unsigned_abs, ◌&&◌, not, int_lt}
 use Rattle.std.specs.Int.{◌∣◌}
 use Rattle.std.specs.List.{AllByRecursion, list_any}
-use Rattle.std.proofs.lemmas.Bool.{ltb-false}
 use Rattle.std.proofs.lemmas.Int.{ints}
 use Rattle.std.proofs.lemmas.Nat.Gcd.{le_of_dvd, dvd-zero}
-use Rattle.lin_rows.specs.Row.{Row, product_of, scaled, sum_of}
+use Rattle.lin_rows.specs.Row.{Row, product_of}
 use Rattle.lin_rows.specs.System.{System}
-use Rattle.farkas_cert.specs.Cert.{Refutes, IsContradiction, weighted_sum}
+use Rattle.farkas_cert.specs.Cert.{Refutes, weighted_sum}
 use Rattle.farkas_cert.specs.Reduced.{IsReduced}
-use Rattle.farkas_cert.specs.Elimination.{IsRectangular}
-use Rattle.farkas_cert.specs.Line.{Line, given_line, given_lines, bound_of, multipliers_of, is_nonzero, lowest_column, has_variable, fails, is_false, refuting, listed}
+use Rattle.farkas_cert.specs.Line.{Line, given_line, given_lines, bound_of, multipliers_of, is_nonzero, has_variable, fails, is_false, refuting, listed}
 use Rattle.farkas_cert.proofs.Divisors.{DivideAll}
-use Rattle.farkas_cert.proofs.Integers.{linear, mul_add, mul_mul, zero_mul, mul_zero, mul_one, one_mul, neg_mul}
+use Rattle.farkas_cert.proofs.Integers.{linear, zero_mul, one_mul, neg_mul}
 use Rattle.farkas_cert.proofs.Signs.{Signs, RowSign, signs_neg, split_at, listed_in_order}
 use Rattle.farkas_cert.proofs.Weighted.{values_at, bounds_of, weighted_coefficients, weighted_bound, zeros_from_products, multiple_product, divides_from_multiple, divides_listed, divides_neg, divides_parts}
-use Rattle.farkas_cert.proofs.Derived.{AllZero, IsPrimitive, IsDerived}
+use Rattle.farkas_cert.proofs.Derived.{AllZero, IsDerived}
 
 -- ---- the given rows
 

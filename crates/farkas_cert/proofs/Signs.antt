@@ -1,12 +1,11 @@
 -- The signs of multipliers: an inequality has none that is negative, and a line that combines equalities alone has 0 there.
-use Rattle.std.proofs.Common.{◌≡◌, ℕ, zero, suc, ◌+◌, ◌<◌, ◌≤◌, refl, sym, ap, ◌∙◌, arith, subst, List, [], ◌∷◌, ◌++◌, map, take, drop, length, get_or, Bool, true, false, cond, Some, None, Option}
-use Rattle.std.specs.Prelude.{ℤ, pos, negsuc, neg_ℤ, ◌+ℤ◌, ◌*ℤ◌, ◌≤ℤ◌, ◌<ℤ◌, MatchBool, ⊤, slice_get, slice_set, replicate, ◌/◌}
-use Rattle.std.specs.List.{AllByRecursion}
+use Rattle.std.proofs.Common.{◌≡◌, ℕ, zero, suc, ◌≤◌, sym, ap, ◌∙◌, arith, subst, List, [], ◌∷◌, map, drop, Bool, true, false, Some, Option}
+use Rattle.std.specs.Prelude.{ℤ, pos, negsuc, neg_ℤ, ◌+ℤ◌, ◌*ℤ◌, ◌≤ℤ◌, MatchBool, ⊤, slice_get}
 use Rattle.std.proofs.Math.Nat.{zero-div}
-use Rattle.lin_rows.specs.Row.{Row, product_of, scaled, sum_of}
-use Rattle.farkas_cert.specs.Cert.{Pairs, InOrder, AllowsAt, Allows, row_numbered, weighted_sum}
-use Rattle.farkas_cert.specs.Divisor.{over, reduced, gcd_of}
-use Rattle.farkas_cert.specs.Line.{combination, listed, is_nonzero}
+use Rattle.lin_rows.specs.Row.{Row, scaled, sum_of}
+use Rattle.farkas_cert.specs.Cert.{InOrder, AllowsAt, Allows, row_numbered}
+use Rattle.farkas_cert.specs.Divisor.{over}
+use Rattle.farkas_cert.specs.Line.{listed}
 use Rattle.farkas_cert.proofs.Integers.{linear, mul_zero, mul_not_negative}
 
 -- what the multiplier of a row may be in a line that is an equality or not

@@ -1,17 +1,12 @@
 -- How far a point is from a line, and what setting a column does to it.
-use Rattle.std.proofs.Common.{◌≡◌, ℕ, zero, suc, ◌+◌, ◌*◌, ◌<◌, ◌≤◌, refl, sym, ap, ◌∙◌, arith, subst, List, [], ◌∷◌, map, take, drop, length, get_or, Bool, true, false, cond, Some, None, Option}
-use Rattle.std.specs.Prelude.{ℤ, pos, negsuc, neg_ℤ, ◌+ℤ◌, ◌-ℤ◌, ◌*ℤ◌, ◌≤ℤ◌, ◌<ℤ◌, unsigned_abs, slice_set, ◌&&◌, int_lt}
+use Rattle.std.proofs.Common.{◌≡◌, ℕ, zero, suc, ◌<◌, refl, sym, ap, ◌∙◌, arith, List, [], ◌∷◌, take, length, get_or, Bool, true, false, cond, Some, None, Option}
+use Rattle.std.specs.Prelude.{ℤ, pos, ◌+ℤ◌, ◌-ℤ◌, ◌*ℤ◌, ◌≤ℤ◌, slice_set, ◌&&◌}
 use Rattle.std.specs.Option.{option_map, option_and_then}
-use Rattle.std.proofs.lemmas.List.{length-set, length-map, get_or-take}
 use Rattle.thr_base.specs.Number.{fits}
-use Rattle.lin_rows.specs.Row.{product_of, scaled, sum_of}
-use Rattle.farkas_cert.specs.Divisor.{gcd, gcd_of, over, reduced}
-use Rattle.farkas_cert.specs.Line.{Line, coefficient_at, bound_of, combination, all_fit, made_line}
-use Rattle.farkas_cert.specs.BackSubstitution.{RationalPoint, Fraction, fraction, fitting, minus_products, bound_on, assigned, assigned_by}
-use Rattle.farkas_cert.proofs.Divisors.{gcd-IsGcd, over-exact}
-use Rattle.farkas_cert.proofs.Eliminates.{gcd_positive, positive_abs}
-use Rattle.farkas_cert.proofs.Fractions.{factors, IsFractionOf, fraction_is}
-use Rattle.farkas_cert.proofs.Integers.{linear, mul_add, add_mul, mul_mul, mul_swap, mul_swap_left, mul_neg, neg_mul, mul_zero, zero_mul, mul_one, one_mul, mul_at_most, cancel_at_most, cancel_equal, mul_positive, mul_not_negative}
+use Rattle.lin_rows.specs.Row.{product_of, scaled}
+use Rattle.farkas_cert.specs.Line.{Line, coefficient_at, bound_of}
+use Rattle.farkas_cert.specs.BackSubstitution.{RationalPoint, Fraction, fraction, fitting, minus_products, bound_on}
+use Rattle.farkas_cert.proofs.Integers.{linear, mul_add, add_mul, mul_mul, mul_swap_left, mul_zero, zero_mul}
 use Rattle.farkas_cert.proofs.Linear.{IsLinear, product-linear, get-linear, take-linear, difference-linear}
 
 -- ---- the distance
@@ -28,7 +23,7 @@ times_linear f d h = record {
 
 pub slack_linear : (n : ℕ) (point : RationalPoint) → IsLinear (slack n point)
 slack_linear n point =
-  difference-linear (λ xs. product_of (take n xs) point.numerators) (λ xs. get_or xs n (pos 0) *ℤ point.denominator)
+    difference-linear (λ xs. product_of (take n xs) point.numerators) (λ xs. get_or xs n (pos 0) *ℤ point.denominator)
     (take-linear n (λ xs. product_of xs point.numerators) (product-linear point.numerators))
     (times_linear (λ xs. get_or xs n (pos 0)) point.denominator (get-linear n))
 
@@ -91,12 +86,12 @@ map_is f (Some x) y e = (x, refl, cc)
 pub bound_on_is : (n c : ℕ) (point : RationalPoint) (line : Line) (f : Fraction) → bound_on n c point line ≡ Some f → f ≡ fraction (rest_of n c point line) (coefficient_at c line *ℤ point.denominator)
 unfolding bound_on
 bound_on_is n c point line f e =
-  let others = slice_set (take n line.numbers) c (pos 0) in
-  let outer = and_then_is (λ t. option_map (fraction t) (fitting (coefficient_at c line *ℤ point.denominator)))
+    let others = slice_set (take n line.numbers) c (pos 0) in
+    let outer = and_then_is (λ t. option_map (fraction t) (fitting (coefficient_at c line *ℤ point.denominator)))
     (option_and_then (λ t. minus_products t others point.numerators) (fitting (bound_of n line *ℤ point.denominator))) f e in
-  let inner = and_then_is (λ t. minus_products t others point.numerators) (fitting (bound_of n line *ℤ point.denominator)) outer.0 outer.1 in
-  let start = fitting_is (bound_of n line *ℤ point.denominator) inner.0 inner.1 in
-  let rest = minus_is inner.0 others point.numerators outer.0 inner.2 in
-  let last = map_is (fraction outer.0) (fitting (coefficient_at c line *ℤ point.denominator)) f outer.2 in
-  let divisor = fitting_is (coefficient_at c line *ℤ point.denominator) last.0 last.1 in
-  cc
+    let inner = and_then_is (λ t. minus_products t others point.numerators) (fitting (bound_of n line *ℤ point.denominator)) outer.0 outer.1 in
+    let start = fitting_is (bound_of n line *ℤ point.denominator) inner.0 inner.1 in
+    let rest = minus_is inner.0 others point.numerators outer.0 inner.2 in
+    let last = map_is (fraction outer.0) (fitting (coefficient_at c line *ℤ point.denominator)) f outer.2 in
+    let divisor = fitting_is (coefficient_at c line *ℤ point.denominator) last.0 last.1 in
+    cc

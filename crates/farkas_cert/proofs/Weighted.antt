@@ -1,15 +1,15 @@
 -- The weighted sum of listed multipliers, and what divides it.
-use Rattle.std.proofs.Common.{◌≡◌, ℕ, zero, suc, ◌+◌, ◌*◌, ◌<◌, ◌≤◌, refl, sym, ap, ◌∙◌, arith, subst, List, [], ◌∷◌, ◌++◌, map, take, drop, length, get_or, Bool, true, false, cond, Some, None, Option}
-use Rattle.std.specs.Prelude.{ℤ, pos, negsuc, neg_ℤ, ◌+ℤ◌, ◌*ℤ◌, ◌≤ℤ◌, ◌<ℤ◌, slice_get, unsigned_abs}
+use Rattle.std.proofs.Common.{◌≡◌, ℕ, zero, suc, refl, sym, ap, ◌∙◌, arith, List, [], ◌∷◌, map, take, drop, get_or, Bool, Some, None, Option}
+use Rattle.std.specs.Prelude.{ℤ, pos, negsuc, neg_ℤ, ◌+ℤ◌, ◌*ℤ◌, unsigned_abs}
 use Rattle.std.specs.Int.{◌∣◌}
 use Rattle.std.specs.List.{AllByRecursion}
 use Rattle.std.proofs.lemmas.Int.{unsigned_abs-mul}
 use Rattle.std.proofs.lemmas.Nat.Gcd.{dvd-zero}
 use Rattle.std.proofs.Math.Nat.{dvd-mul_right}
-use Rattle.lin_rows.specs.Row.{Row, product_of, scaled, sum_of}
-use Rattle.farkas_cert.specs.Cert.{Pairs, add_weighted, row_numbered, weighted_sum}
+use Rattle.lin_rows.specs.Row.{Row, product_of, scaled}
+use Rattle.farkas_cert.specs.Cert.{add_weighted, row_numbered, weighted_sum}
 use Rattle.farkas_cert.specs.Divisor.{over}
-use Rattle.farkas_cert.specs.Line.{listed, is_nonzero}
+use Rattle.farkas_cert.specs.Line.{listed}
 use Rattle.farkas_cert.proofs.Divisors.{DivideAll, over-exact}
 use Rattle.farkas_cert.proofs.Integers.{linear, mul_add, mul_mul, zero_mul, mul_zero, mul_one}
 use Rattle.farkas_cert.proofs.Linear.{product-sum, product-scaled}

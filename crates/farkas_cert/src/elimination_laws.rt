@@ -10,17 +10,14 @@ pub fn certificate_refutes()
     ensures refutes { (system : System) (pairs : Pairs) → IsRectangular system → outcome_of system ≡ Refuted pairs → Refutes system pairs }
     ensures reduced { (system : System) (pairs : Pairs) → IsRectangular system → outcome_of system ≡ Refuted pairs → IsReduced pairs }
     ensures fits { (system : System) (pairs : Pairs) → IsRectangular system → outcome_of system ≡ Refuted pairs → check_fits system.rows pairs ≡ true }
-{
-}
+{}
 
 /// What the elimination gives as a point is a rational point of the system.
 pub fn point_is_a_point()
     ensures { (system : System) (x : List ℤ) (d : ℤ) → IsRectangular system → outcome_of system ≡ Point x d → IsRationalPoint system x d }
-{
-}
+{}
 
 /// The elimination has ended after as many stages as there are columns.
 pub fn more_stages_change_nothing()
     ensures { (system : System) (fuel : ℕ) → system.columns ≤ fuel → outcome_within fuel system ≡ outcome_of system }
-{
-}
+{}
