@@ -35,7 +35,8 @@ HasPair n c point positive negative = (next : Line) × (paired c positive negati
 abbrev HasPairs : ℕ → ℕ → RationalPoint → List Line → Line → Type 0
 HasPairs n c point lines positive = AllByRecursion (HasPair n c point positive) (negatives c lines)
 
-have_pairs : (n c : ℕ) (point : RationalPoint) (lines pairs : List Line) → pairs_at c lines ≡ Some pairs → AllByRecursion (MeetsLine n point) pairs → AllByRecursion (HasPairs n c point lines) (positives c lines)
+have_pairs : (n c : ℕ) (point : RationalPoint) (lines pairs : List Line) → pairs_at c lines ≡ Some pairs → AllByRecursion (MeetsLine n point) pairs
+    → AllByRecursion (HasPairs n c point lines) (positives c lines)
 unfolding pairs_at
 have_pairs n c point lines pairs e h =
     let Made : Option Line → Type 0 = λ o. (next : Line) × (o ≡ Some next) × MeetsLine n point next in
@@ -45,8 +46,10 @@ have_pairs n c point lines pairs e h =
     (all_there (MeetsLine n point) (flat_map (λ positive. map (paired c positive) (negatives c lines)) (positives c lines)) pairs e h))
 
 -- a negative line's bound is at most a positive line's
-lower_has : (n c : ℕ) (point : RationalPoint) (positive : Line) (g : Fraction) → c < n → pos 0 <ℤ point.denominator → HasColumn c positive → side_of c positive ≡ true → bound_on n c point positive ≡ Some g
-    → (negative : Line) → HasColumn c negative → (int_lt (coefficient_at c negative) (pos 0) ≡ true → HasPair n c point positive negative) → BoundHas (λ l. IsAtMost l g) (λ u. ⊤) n c point negative
+lower_has : (n c : ℕ) (point : RationalPoint) (positive : Line) (g : Fraction) → c < n → pos 0 <ℤ point.denominator → HasColumn c positive
+    → side_of c positive ≡ true → bound_on n c point positive ≡ Some g
+    → (negative : Line) → HasColumn c negative → (int_lt (coefficient_at c negative) (pos 0) ≡ true → HasPair n c point positive negative)
+    → BoundHas (λ l. IsAtMost l g) (λ u. ⊤) n c point negative
 lower_has n c point positive g l d z t e negative y h f k = at (side_of c negative) refl where
   at : (b : Bool) → side_of c negative ≡ b → OnSide (λ l. IsAtMost l g) (λ u. ⊤) b f
   at true s = tt
@@ -62,8 +65,10 @@ pub record IsKept (n c : ℕ) (point : RationalPoint) (bounds : Bounds) (lines :
   pub bounded : IsBoundedLine n c point bounds line
   pub pairs : side_of c line ≡ true → HasPairs n c point lines line
 
-lowest_upper : (n c : ℕ) (point : RationalPoint) (lines : List Line) (bounds : Bounds) → c < n → pos 0 <ℤ point.denominator → bounds_from n c point no_bounds (with_column c lines) ≡ Some bounds
-    → (line : Line) (g : Fraction) → HasColumn c line → side_of c line ≡ true → bound_on n c point line ≡ Some g → HasPairs n c point lines line → IfThere (λ l. IsAtMost l g) bounds.lower
+lowest_upper : (n c : ℕ) (point : RationalPoint) (lines : List Line) (bounds : Bounds) → c < n → pos 0 <ℤ point.denominator
+    → bounds_from n c point no_bounds (with_column c lines) ≡ Some bounds
+    → (line : Line) (g : Fraction) → HasColumn c line → side_of c line ≡ true → bound_on n c point line ≡ Some g → HasPairs n c point lines line
+    → IfThere (λ l. IsAtMost l g) bounds.lower
 lowest_upper n c point lines bounds l d e line g z t k h =
     let Pair : Line → Type 0 = λ negative. int_lt (coefficient_at c negative) (pos 0) ≡ true → HasPair n c point line negative in
     let known : AllByRecursion (λ negative. Pair negative × HasColumn c negative) (with_column c lines) =
@@ -73,7 +78,8 @@ lowest_upper n c point lines bounds l d e line g z t k h =
     (λ negative p. lower_has n c point line g l d z t k negative p.1 p.0) known)
     (none_there (λ m. IsAtMost m g) (λ u. ⊤)) e).lower
 
-kept_meets : (n c : ℕ) (point next : RationalPoint) (lines : List Line) (bounds : Bounds) → Moved c point (chosen bounds.lower bounds.upper) next → c < n → length point.numerators ≡ n → pos 0 <ℤ point.denominator
+kept_meets : (n c : ℕ) (point next : RationalPoint) (lines : List Line) (bounds : Bounds) → Moved c point (chosen bounds.lower bounds.upper) next
+    → c < n → length point.numerators ≡ n → pos 0 <ℤ point.denominator
     → bounds_from n c point no_bounds (with_column c lines) ≡ Some bounds → (line : Line) → IsKept n c point bounds lines line → MeetsLine n next line
 kept_meets n c point next lines bounds m l h d e line k = at (side_of c line) refl (k.bounded.2) where
   f : Fraction
@@ -90,12 +96,14 @@ kept_meets n c point next lines bounds m l h d e line k = at (side_of c line) re
       lower_meets n c point (chosen bounds.lower bounds.upper) next line f m l h d k.inequality (nonzero_negative (coefficient_at c line) k.column s) (bound_is n c point line f k.column d is)
       (chosen_lower bounds.lower bounds.upper w.0 f w.1 w.2)
 
-pub chosen_has_positive : (n c : ℕ) (point : RationalPoint) (lines : List Line) (bounds : Bounds) → pos 0 <ℤ point.denominator → bounds_from n c point no_bounds (with_column c lines) ≡ Some bounds → pos 0 <ℤ (chosen bounds.lower bounds.upper).denominator
+pub chosen_has_positive : (n c : ℕ) (point : RationalPoint) (lines : List Line) (bounds : Bounds) → pos 0 <ℤ point.denominator
+    → bounds_from n c point no_bounds (with_column c lines) ≡ Some bounds → pos 0 <ℤ (chosen bounds.lower bounds.upper).denominator
 chosen_has_positive n c point lines bounds d e =
     let over = bounds_over n c point no_bounds bounds (with_column c lines) d (filter_all (λ line. is_nonzero (coefficient_at c line)) lines) (none_there HasPositive HasPositive) e in
     chosen_positive bounds.lower bounds.upper over.positive.lower over.positive.upper
 
-pub all_kept_meet : (n c : ℕ) (point next : RationalPoint) (lines pairs : List Line) (bounds : Bounds) → Moved c point (chosen bounds.lower bounds.upper) next → c < n → length point.numerators ≡ n → pos 0 <ℤ point.denominator
+pub all_kept_meet : (n c : ℕ) (point next : RationalPoint) (lines pairs : List Line) (bounds : Bounds)
+    → Moved c point (chosen bounds.lower bounds.upper) next → c < n → length point.numerators ≡ n → pos 0 <ℤ point.denominator
     → AllByRecursion (λ line. line.equal ≡ false) lines → pairs_at c lines ≡ Some pairs → AllByRecursion (MeetsLine n point) pairs
     → bounds_from n c point no_bounds (with_column c lines) ≡ Some bounds → AllByRecursion (MeetsLine n next) (with_column c lines)
 all_kept_meet n c point next lines pairs bounds m l h d q p k e =

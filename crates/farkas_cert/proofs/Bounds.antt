@@ -19,7 +19,8 @@ IfThere P o = (f : Fraction) → o ≡ Some f → P f
 
 below_is : (f g : Fraction) (less : Bool) → is_below f g ≡ Some less → int_lt (f.numerator *ℤ g.denominator) (g.numerator *ℤ f.denominator) ≡ less
 below_is f g less e = by_fit (fits (f.numerator *ℤ g.denominator) && fits (g.numerator *ℤ f.denominator)) e where
-  by_fit : (b : Bool) → cond b (Some (int_lt (f.numerator *ℤ g.denominator) (g.numerator *ℤ f.denominator))) None ≡ Some less → int_lt (f.numerator *ℤ g.denominator) (g.numerator *ℤ f.denominator) ≡ less
+  by_fit : (b : Bool) → cond b (Some (int_lt (f.numerator *ℤ g.denominator) (g.numerator *ℤ f.denominator))) None ≡ Some less
+      → int_lt (f.numerator *ℤ g.denominator) (g.numerator *ℤ f.denominator) ≡ less
   by_fit true e = cc
   by_fit false e = absurd cc
 
@@ -133,7 +134,8 @@ pub record Narrows (old new : Bounds) (side : Bool) (f : Fraction) : Type 0 wher
   pub narrower : IsNarrower old new
   pub bounded : IsBounded new side f
 
-narrows : (old new : Bounds) (side : Bool) (f : Fraction) → OfBounds HasPositive HasPositive old → HasPositive f → narrowed side old f ≡ Some new → Narrows old new side f
+narrows : (old new : Bounds) (side : Bool) (f : Fraction) → OfBounds HasPositive HasPositive old → HasPositive f → narrowed side old f ≡ Some new
+    → Narrows old new side f
 narrows old new true f h k e =
     let at = map_is (λ u. record old { upper = Some u }) (lesser_of old.upper f) new e in
     let lesser = lesser_is old.upper f at.0 h.upper k at.1 in
@@ -155,7 +157,8 @@ narrows old new false f h k e =
       bounded = (at.0, refl, greater.new);
     })
 
-keeps : (L U : Fraction → Type 0) (old new : Bounds) (side : Bool) (f : Fraction) → OfBounds HasPositive HasPositive old → HasPositive f → OfBounds L U old → OnSide L U side f → narrowed side old f ≡ Some new → OfBounds L U new
+keeps : (L U : Fraction → Type 0) (old new : Bounds) (side : Bool) (f : Fraction) → OfBounds HasPositive HasPositive old → HasPositive f
+    → OfBounds L U old → OnSide L U side f → narrowed side old f ≡ Some new → OfBounds L U new
 keeps L U old new true f h k o p e =
     let at = map_is (λ u. record old { upper = Some u }) (lesser_of old.upper f) new e in
     let lesser = lesser_is old.upper f at.0 h.upper k at.1 in
@@ -192,7 +195,9 @@ pub record BoundsOver (n c : ℕ) (point : RationalPoint) (old new : Bounds) (li
   pub bounded : AllByRecursion (IsBoundedLine n c point new) lines
   pub positive : OfBounds HasPositive HasPositive new
 
-pub bounds_over : (n c : ℕ) (point : RationalPoint) (old new : Bounds) (lines : List Line) → pos 0 <ℤ point.denominator → AllByRecursion (HasColumn c) lines → OfBounds HasPositive HasPositive old → bounds_from n c point old lines ≡ Some new → BoundsOver n c point old new lines
+pub bounds_over : (n c : ℕ) (point : RationalPoint) (old new : Bounds) (lines : List Line) → pos 0 <ℤ point.denominator
+    → AllByRecursion (HasColumn c) lines → OfBounds HasPositive HasPositive old → bounds_from n c point old lines ≡ Some new
+    → BoundsOver n c point old new lines
 unfolding bounds_from
 bounds_over n c point old new [] d z o e =
     let same : old ≡ new = cc in
@@ -214,7 +219,8 @@ bounds_over n c point old new (line ∷ lines) d z o e =
 abbrev pub BoundHas : (Fraction → Type 0) → (Fraction → Type 0) → ℕ → ℕ → RationalPoint → Line → Type 0
 BoundHas L U n c point line = (f : Fraction) → bound_on n c point line ≡ Some f → OnSide L U (side_of c line) f
 
-pub keeps_over : (L U : Fraction → Type 0) (n c : ℕ) (point : RationalPoint) (old new : Bounds) (lines : List Line) → pos 0 <ℤ point.denominator → AllByRecursion (HasColumn c) lines → OfBounds HasPositive HasPositive old
+pub keeps_over : (L U : Fraction → Type 0) (n c : ℕ) (point : RationalPoint) (old new : Bounds) (lines : List Line) → pos 0 <ℤ point.denominator
+    → AllByRecursion (HasColumn c) lines → OfBounds HasPositive HasPositive old
     → AllByRecursion (BoundHas L U n c point) lines → OfBounds L U old → bounds_from n c point old lines ≡ Some new → OfBounds L U new
 unfolding bounds_from
 keeps_over L U n c point old new [] d z o h k e = let same : old ≡ new = cc in subst (λ (b : Bounds). OfBounds L U b) same k

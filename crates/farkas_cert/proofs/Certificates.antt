@@ -63,7 +63,8 @@ without_equality_derived system (line ∷ lines) h = at (without_equality_derive
   at rest true = h.1
   at rest false = (h.0, rest)
 
-substituted_derived : (system : System) (c : ℕ) (equality line next : Line) → equality.equal ≡ true → IsDerived system equality → IsDerived system line → substituted c equality line ≡ Some next → IsDerived system next
+substituted_derived : (system : System) (c : ℕ) (equality line next : Line) → equality.equal ≡ true → IsDerived system equality
+    → IsDerived system line → substituted c equality line ≡ Some next → IsDerived system next
 unfolding substituted
 substituted_derived system c equality line next t h k e = at (is_nonzero (coefficient_at c line)) e where
   p : ℤ
@@ -75,15 +76,19 @@ substituted_derived system c equality line next t h k e = at (is_nonzero (coeffi
   g : ℕ
   g = gcd (unsigned_abs p) (unsigned_abs q)
 
-  at : (b : Bool) → cond b (made_line line.equal (over g (pos (unsigned_abs p))) line.numbers (neg_ℤ (over g (int_signum p *ℤ q))) equality.numbers) (Some line) ≡ Some next → IsDerived system next
+  at : (b : Bool)
+      → cond b (made_line line.equal (over g (pos (unsigned_abs p))) line.numbers (neg_ℤ (over g (int_signum p *ℤ q))) equality.numbers) (Some line) ≡ Some next
+      → IsDerived system next
   at true e = derived_by_equality system (over g (pos (unsigned_abs p))) line (neg_ℤ (over g (int_signum p *ℤ q))) equality next (over_not_negative g (pos (unsigned_abs p)) (omega (arith, linear))) t k h e
   at false e = let same : line ≡ next = cc in rw (← same) k
 
-follows_sound : (system : System) (work : Work) (kept : Kept) (made : ℕ) (o : Option (List Line)) → ((lines : List Line) → o ≡ Some lines → AllDerived system lines) → IsSoundNext system (follows work kept made o)
+follows_sound : (system : System) (work : Work) (kept : Kept) (made : ℕ) (o : Option (List Line))
+    → ((lines : List Line) → o ≡ Some lines → AllDerived system lines) → IsSoundNext system (follows work kept made o)
 follows_sound system work kept made None h = tt
 follows_sound system work kept made (Some lines) h = h lines refl
 
-equality_stage_sound : (system : System) (work : Work) (equality : Line) → equality.equal ≡ true → IsDerived system equality → AllDerived system work.lines → IsSoundNext system (equality_stage system work equality)
+equality_stage_sound : (system : System) (work : Work) (equality : Line) → equality.equal ≡ true → IsDerived system equality
+    → AllDerived system work.lines → IsSoundNext system (equality_stage system work equality)
 unfolding equality_stage
 equality_stage_sound system work equality t e h =
     let c = lowest_column system.columns equality in
@@ -101,10 +106,12 @@ IsPositive system c line = IsDerived system line × (int_lt (pos 0) (coefficient
 abbrev IsNegative : System → ℕ → Line → Type 0
 IsNegative system c line = IsDerived system line × (int_lt (coefficient_at c line) (pos 0) ≡ true)
 
-pub all_kept : {X : Type 0} (P : X → Type 0) (p : X → Bool) (xs : List X) → AllByRecursion P xs → AllByRecursion (λ x. P x × (p x ≡ true)) (filter p xs)
+pub all_kept : {X : Type 0} (P : X → Type 0) (p : X → Bool) (xs : List X) → AllByRecursion P xs
+    → AllByRecursion (λ x. P x × (p x ≡ true)) (filter p xs)
 all_kept P p xs h = all_both P (λ x. p x ≡ true) (filter p xs) (all_filter P p xs h) (filter_all p xs)
 
-paired_derived : (system : System) (c : ℕ) (positive negative next : Line) → IsPositive system c positive → IsNegative system c negative → paired c positive negative ≡ Some next → IsDerived system next
+paired_derived : (system : System) (c : ℕ) (positive negative next : Line) → IsPositive system c positive → IsNegative system c negative
+    → paired c positive negative ≡ Some next → IsDerived system next
 unfolding paired
 paired_derived system c positive negative next h k e =
     let p = coefficient_at c positive in
@@ -114,7 +121,8 @@ paired_derived system c positive negative next h k e =
     let q_positive : pos 0 ≤ℤ q = omega (arith, ints, k.1) in
     derived_by_pair system (over g q) positive (over g p) negative next (over_not_negative g q q_positive) (over_not_negative g p p_positive) h.0 k.0 e
 
-pairs_derived : (system : System) (c : ℕ) (lines pairs : List Line) → AllDerived system lines → pairs_at c lines ≡ Some pairs → AllDerived system pairs
+pairs_derived : (system : System) (c : ℕ) (lines pairs : List Line) → AllDerived system lines → pairs_at c lines ≡ Some pairs
+    → AllDerived system pairs
 unfolding pairs_at
 pairs_derived system c lines pairs h e =
     let IsMade : Option Line → Type 0 = λ o. (line : Line) → o ≡ Some line → IsDerived system line in
@@ -126,7 +134,8 @@ pairs_derived system c lines pairs h e =
     (all_kept (IsDerived system) (λ line. int_lt (pos 0) (coefficient_at c line)) lines h))
     e
 
-pub appended : (front : List Line) (o : Option (List Line)) (lines : List Line) → option_map (λ pairs. front ++ pairs) o ≡ Some lines → (pairs : List Line) × (o ≡ Some pairs) × (front ++ pairs ≡ lines)
+pub appended : (front : List Line) (o : Option (List Line)) (lines : List Line) → option_map (λ pairs. front ++ pairs) o ≡ Some lines
+    → (pairs : List Line) × (o ≡ Some pairs) × (front ++ pairs ≡ lines)
 appended front None lines e = absurd cc
 appended front (Some pairs) lines e = (pairs, refl, cc)
 
@@ -171,15 +180,19 @@ point_sound : (system : System) (n : ℕ) (kept : List Kept) (point : RationalPo
 unfolding point_from
 point_sound system n [] point = tt
 point_sound system n (kept ∷ earlier) point = at (point_sound system n earlier) (set_column n point kept) where
-  at : ((p : RationalPoint) → IsSound system (point_from n earlier p)) → (o : Option RationalPoint) → IsSound system (or_leaves (suc (length earlier)) (point_from n earlier) o)
+  at : ((p : RationalPoint) → IsSound system (point_from n earlier p)) → (o : Option RationalPoint)
+      → IsSound system (or_leaves (suc (length earlier)) (point_from n earlier) o)
   at rest None = tt
   at rest (Some p) = rest p
 
-or_ends_sound : (system : System) (more : Work → Outcome) (next : Next) → ((work : Work) → AllDerived system work.lines → IsSound system (more work)) → IsSoundNext system next → IsSound system (or_ends more next)
+or_ends_sound : (system : System) (more : Work → Outcome) (next : Next) → ((work : Work) → AllDerived system work.lines → IsSound system (more work))
+    → IsSoundNext system next → IsSound system (or_ends more next)
 or_ends_sound system more (Goes work) f h = f work h
 or_ends_sound system more (Ends outcome) f h = h
 
-goes_on_sound : (system : System) (work : Work) (more : Work → Outcome) (lines : List Line) → ((next : Work) → AllDerived system next.lines → IsSound system (more next)) → AllDerived system work.lines → IsSound system (goes_on system work more lines)
+goes_on_sound : (system : System) (work : Work) (more : Work → Outcome) (lines : List Line)
+    → ((next : Work) → AllDerived system next.lines → IsSound system (more next)) → AllDerived system work.lines
+    → IsSound system (goes_on system work more lines)
 goes_on_sound system work more [] f h = point_sound system system.columns work.kept (record { numerators = replicate system.columns (pos 0); denominator = pos 1 })
 goes_on_sound system work more (line ∷ lines) f h = or_ends_sound system more (stage system work) f (stage_sound system work h)
 
@@ -194,5 +207,6 @@ outcome_sound fuel system w =
     or_ends_sound system (stages fuel system) (begun system) (stages_sound fuel system)
     (tested_sound system 0 (record { lines = given_lines (length system.rows) 0 system.rows; kept = []; made = 0 }) (all_given_derived system 0 system.rows refl w))
 
-pub certificate_is_sound : (system : System) (pairs : Pairs) → IsRectangular system → outcome_of system ≡ Refuted pairs → IsSound system (Refuted pairs)
+pub certificate_is_sound : (system : System) (pairs : Pairs) → IsRectangular system → outcome_of system ≡ Refuted pairs
+    → IsSound system (Refuted pairs)
 certificate_is_sound system pairs w e = subst (λ (o : Outcome). IsSound system o) e (outcome_sound system.columns system w)

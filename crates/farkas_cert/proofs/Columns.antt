@@ -57,7 +57,8 @@ closed_below : (n c : ℕ) (f : ℕ → Bool) → c < n → f c ≡ true → suc
 unfolding count_open
 closed_below zero c f h t = absurd (omega arith)
 closed_below (suc n) c f h t = at (closed_below n c f) (eqb n c) refl where
-  at : (c < n → f c ≡ true → suc (count_open n (close c f)) ≡ count_open n f) → (b : Bool) → eqb n c ≡ b → suc (count_open (suc n) (close c f)) ≡ count_open (suc n) f
+  at : (c < n → f c ≡ true → suc (count_open n (close c f)) ≡ count_open n f) → (b : Bool) → eqb n c ≡ b
+      → suc (count_open (suc n) (close c f)) ≡ count_open (suc n) f
   at rest true e =
       let same = eqb-true n c e in
       let here : f n ≡ true = rw same t in
@@ -99,7 +100,8 @@ not_false : (a : Bool) → not a ≡ true → a ≡ false
 not_false true e = absurd cc
 not_false false e = refl
 
-lowest_by : (n : ℕ) (xs : List ℤ) → list_any is_nonzero (take n xs) ≡ true → (position_or_len is_nonzero (take n xs) < n) × (is_nonzero (get_or xs (position_or_len is_nonzero (take n xs)) (pos 0)) ≡ true)
+lowest_by : (n : ℕ) (xs : List ℤ) → list_any is_nonzero (take n xs) ≡ true
+    → (position_or_len is_nonzero (take n xs) < n) × (is_nonzero (get_or xs (position_or_len is_nonzero (take n xs)) (pos 0)) ≡ true)
 lowest_by zero xs e = absurd cc
 lowest_by (suc n) [] e = absurd cc
 lowest_by (suc n) (pos zero ∷ xs) e = let r = lowest_by n xs e in (omega (arith, r.0), rw one-add r.1)
@@ -107,7 +109,8 @@ lowest_by (suc n) (pos (suc m) ∷ xs) e = (omega arith, refl)
 lowest_by (suc n) (negsuc m ∷ xs) e = (omega arith, refl)
 
 -- the lowest column of a line with a variable
-pub lowest_is : (n : ℕ) (line : Line) → has_variable n line ≡ true → (lowest_column n line < n) × (is_nonzero (coefficient_at (lowest_column n line) line) ≡ true)
+pub lowest_is : (n : ℕ) (line : Line) → has_variable n line ≡ true
+    → (lowest_column n line < n) × (is_nonzero (coefficient_at (lowest_column n line) line) ≡ true)
 unfolding has_variable lowest_column
 lowest_is n line e = lowest_by n line.numbers e
 
@@ -129,11 +132,13 @@ lowest_open n f line h e = let l = lowest_is n line e in (l.0, open_where n (low
 min_either : (P : ℕ → Type 0) (a b : ℕ) → P a → P b → P (min a b)
 min_either P a b h k = elim (cases_lt a b) [ inl l ↦ rw (min-eq_left (le_of_lt l)) h | inr l ↦ rw (min-eq_right l) k ]
 
-folded_keeps : (P : ℕ → Type 0) (n c : ℕ) (lines : List Line) → P c → AllByRecursion (λ line. P (lowest_column n line)) lines → P (fold (λ c line. min c (lowest_column n line)) c lines)
+folded_keeps : (P : ℕ → Type 0) (n c : ℕ) (lines : List Line) → P c → AllByRecursion (λ line. P (lowest_column n line)) lines
+    → P (fold (λ c line. min c (lowest_column n line)) c lines)
 folded_keeps P n c [] h k = h
 folded_keeps P n c (line ∷ lines) h k = folded_keeps P n (min c (lowest_column n line)) lines (min_either P c (lowest_column n line) h k.0) k.1
 
-pub lowest_of_open : (n : ℕ) (f : ℕ → Bool) (line : Line) (lines : List Line) → AllWithin n f (line ∷ lines) → AllVary n (line ∷ lines) → IsOpen n f (lowest_of n (line ∷ lines))
+pub lowest_of_open : (n : ℕ) (f : ℕ → Bool) (line : Line) (lines : List Line) → AllWithin n f (line ∷ lines) → AllVary n (line ∷ lines)
+    → IsOpen n f (lowest_of n (line ∷ lines))
 unfolding lowest_of
 lowest_of_open n f line lines h v =
     let first = lowest_open n f line h.0 v.0 in
@@ -154,23 +159,28 @@ abbrev pub ClosesTested : ℕ → (ℕ → Bool) → Next → Type 0
 ClosesTested n f (Goes work) = (c : ℕ) × IsOpen n f c × AllWithin n (close c f) work.lines × AllVary n work.lines
 ClosesTested n f (Ends outcome) = ⊤
 
-closes_follows : (n : ℕ) (f : ℕ → Bool) (work : Work) (kept : Kept) (made c : ℕ) (o : Option (List Line)) → IsOpen n f c → ((lines : List Line) → o ≡ Some lines → AllWithin n (close c f) lines) → Closes n f (follows work kept made o)
+closes_follows : (n : ℕ) (f : ℕ → Bool) (work : Work) (kept : Kept) (made c : ℕ) (o : Option (List Line)) → IsOpen n f c
+    → ((lines : List Line) → o ≡ Some lines → AllWithin n (close c f) lines) → Closes n f (follows work kept made o)
 closes_follows n f work kept made c None i h = tt
 closes_follows n f work kept made c (Some lines) i h = (c, i, h lines refl)
 
-made_within : (n : ℕ) (f : ℕ → Bool) (equal : Bool) (a : ℤ) (left : Line) (b : ℤ) (right line : Line) → IsWithin n f left → IsWithin n f right → made_line equal a left.numbers b right.numbers ≡ Some line → IsWithin n f line
+made_within : (n : ℕ) (f : ℕ → Bool) (equal : Bool) (a : ℤ) (left : Line) (b : ℤ) (right line : Line) → IsWithin n f left → IsWithin n f right
+    → made_line equal a left.numbers b right.numbers ≡ Some line → IsWithin n f line
 made_within n f equal a left b right line h k e j l t =
     let same = made_is equal a left.numbers b right.numbers line e in
     subst (λ (next : Line). coefficient_at j next ≡ pos 0) same
     (made_vanishes (λ xs. get_or xs j (pos 0)) (get-linear j) a left.numbers b right.numbers (h j l t) (k j l t))
 
-made_loses : (c : ℕ) (equal : Bool) (a : ℤ) (left : Line) (b : ℤ) (right line : Line) → a *ℤ coefficient_at c left +ℤ b *ℤ coefficient_at c right ≡ pos 0 → made_line equal a left.numbers b right.numbers ≡ Some line → coefficient_at c line ≡ pos 0
+made_loses : (c : ℕ) (equal : Bool) (a : ℤ) (left : Line) (b : ℤ) (right line : Line)
+    → a *ℤ coefficient_at c left +ℤ b *ℤ coefficient_at c right ≡ pos 0 → made_line equal a left.numbers b right.numbers ≡ Some line
+    → coefficient_at c line ≡ pos 0
 made_loses c equal a left b right line h e =
     subst (λ (next : Line). coefficient_at c next ≡ pos 0) (made_is equal a left.numbers b right.numbers line e)
     (reduced_vanishes (λ xs. get_or xs c (pos 0)) (get-linear c) (combination a left.numbers b right.numbers)
     (of_combination (λ xs. get_or xs c (pos 0)) (get-linear c) a left.numbers b right.numbers ∙ h))
 
-pub substituted_closes : (n c : ℕ) (f : ℕ → Bool) (equality line next : Line) → IsWithin n f equality → IsWithin n f line → substituted c equality line ≡ Some next → IsWithin n (close c f) next
+pub substituted_closes : (n c : ℕ) (f : ℕ → Bool) (equality line next : Line) → IsWithin n f equality → IsWithin n f line
+    → substituted c equality line ≡ Some next → IsWithin n (close c f) next
 unfolding substituted
 substituted_closes n c f equality line next h k e = at (is_nonzero q) refl e where
   p : ℤ
@@ -182,14 +192,17 @@ substituted_closes n c f equality line next h k e = at (is_nonzero q) refl e whe
   g : ℕ
   g = gcd (unsigned_abs p) (unsigned_abs q)
 
-  at : (b : Bool) → is_nonzero q ≡ b → cond b (made_line line.equal (over g (pos (unsigned_abs p))) line.numbers (neg_ℤ (over g (int_signum p *ℤ q))) equality.numbers) (Some line) ≡ Some next → IsWithin n (close c f) next
+  at : (b : Bool) → is_nonzero q ≡ b
+      → cond b (made_line line.equal (over g (pos (unsigned_abs p))) line.numbers (neg_ℤ (over g (int_signum p *ℤ q))) equality.numbers) (Some line) ≡ Some next
+      → IsWithin n (close c f) next
   at true t e =
       within_closed n c f next
       (made_within n f line.equal (over g (pos (unsigned_abs p))) line (neg_ℤ (over g (int_signum p *ℤ q))) equality next k h e)
       (made_loses c line.equal (over g (pos (unsigned_abs p))) line (neg_ℤ (over g (int_signum p *ℤ q))) equality next (substitution_cancels p q t) e)
   at false t e = let same : line ≡ next = cc in subst (λ (l : Line). IsWithin n (close c f) l) same (within_closed n c f line k (zero_by_test q t))
 
-pub paired_closes : (n c : ℕ) (f : ℕ → Bool) (positive negative next : Line) → IsWithin n f positive → IsWithin n f negative → int_lt (pos 0) (coefficient_at c positive) ≡ true → paired c positive negative ≡ Some next → IsWithin n (close c f) next
+pub paired_closes : (n c : ℕ) (f : ℕ → Bool) (positive negative next : Line) → IsWithin n f positive → IsWithin n f negative
+    → int_lt (pos 0) (coefficient_at c positive) ≡ true → paired c positive negative ≡ Some next → IsWithin n (close c f) next
 unfolding paired
 paired_closes n c f positive negative next h k t e =
     let p = coefficient_at c positive in
@@ -207,7 +220,9 @@ without_equality_within n f (line ∷ lines) h = at (without_equality_within n f
   at rest true = h.1
   at rest false = (h.0, rest)
 
-pub equality_stage_closes : (system : System) (f : ℕ → Bool) (work : Work) (equality : Line) → IsWithin system.columns f equality → has_variable system.columns equality ≡ true → AllWithin system.columns f work.lines → Closes system.columns f (equality_stage system work equality)
+pub equality_stage_closes : (system : System) (f : ℕ → Bool) (work : Work) (equality : Line) → IsWithin system.columns f equality
+    → has_variable system.columns equality ≡ true → AllWithin system.columns f work.lines
+    → Closes system.columns f (equality_stage system work equality)
 unfolding equality_stage
 equality_stage_closes system f work equality e v h =
     let n = system.columns in
@@ -237,7 +252,8 @@ without_column_within n c f lines h =
     (λ line k. within_closed n c f line k.0 (zero_by_test (coefficient_at c line) (not_false (is_nonzero (coefficient_at c line)) k.1)))
     (all_kept (IsWithin n f) (λ line. not (is_nonzero (coefficient_at c line))) lines h)
 
-pub pair_stage_closes : (system : System) (f : ℕ → Bool) (work : Work) → IsOpen system.columns f (lowest_of system.columns work.lines) → AllWithin system.columns f work.lines → Closes system.columns f (pair_stage system work)
+pub pair_stage_closes : (system : System) (f : ℕ → Bool) (work : Work) → IsOpen system.columns f (lowest_of system.columns work.lines)
+    → AllWithin system.columns f work.lines → Closes system.columns f (pair_stage system work)
 unfolding pair_stage
 pair_stage_closes system f work i h = by_limit (are_too_many system made) where
   c : ℕ

@@ -23,7 +23,8 @@ some_of : {X : Type 0} (b : Bool) (x y : X) → cond b (Some x) None ≡ Some y 
 some_of true x y e = cc
 some_of false x y e = absurd cc
 
-pub made_is : (equal : Bool) (a : ℤ) (xs : List ℤ) (b : ℤ) (ys : List ℤ) (line : Line) → made_line equal a xs b ys ≡ Some line → record { equal = equal; numbers = reduced (combination a xs b ys) } ≡ line
+pub made_is : (equal : Bool) (a : ℤ) (xs : List ℤ) (b : ℤ) (ys : List ℤ) (line : Line) → made_line equal a xs b ys ≡ Some line
+    → record { equal = equal; numbers = reduced (combination a xs b ys) } ≡ line
 unfolding made_line
 made_is equal a xs b ys line e = some_of (combination_fits a xs b ys) (record { equal = equal; numbers = reduced (combination a xs b ys) }) line e
 
@@ -66,7 +67,8 @@ reduced_primitive xs d h =
 
 pub record IsDerived (system : System) (line : Line) : Type 0 where
   -- its coefficients and its bound are the sums of those of the rows, by the multipliers,
-  pub coefficients : (y : List ℤ) → product_of (take system.columns line.numbers) y ≡ product_of (multipliers_of system.columns line) (values_at y system.rows)
+  pub coefficients : (y : List ℤ)
+      → product_of (take system.columns line.numbers) y ≡ product_of (multipliers_of system.columns line) (values_at y system.rows)
   pub bound : bound_of system.columns line ≡ product_of (multipliers_of system.columns line) (bounds_of system.rows)
   -- which have the signs that rows allow
   pub signs : Signs line.equal system.rows (multipliers_of system.columns line)
@@ -92,7 +94,8 @@ bound_defect_linear system =
     (drop-linear (suc system.columns) (λ xs. product_of xs (bounds_of system.rows)) (product-linear (bounds_of system.rows)))
 
 -- what vanishes on two lists vanishes on what is made of them
-pub made_vanishes : (f : List ℤ → ℤ) → IsLinear f → (a : ℤ) (xs : List ℤ) (b : ℤ) (ys : List ℤ) → f xs ≡ pos 0 → f ys ≡ pos 0 → f (reduced (combination a xs b ys)) ≡ pos 0
+pub made_vanishes : (f : List ℤ → ℤ) → IsLinear f → (a : ℤ) (xs : List ℤ) (b : ℤ) (ys : List ℤ) → f xs ≡ pos 0 → f ys ≡ pos 0
+    → f (reduced (combination a xs b ys)) ≡ pos 0
 made_vanishes f h a xs b ys e k =
     reduced_vanishes f h (combination a xs b ys)
     (of_combination f h a xs b ys ∙ ap (λ t. a *ℤ t +ℤ b *ℤ f ys) e ∙ ap (λ t. a *ℤ pos 0 +ℤ b *ℤ t) k ∙ omega (arith, linear, mul_zero a, mul_zero b))
@@ -125,7 +128,8 @@ derived_made system equal a left b right h k s = record {
 }
 
 -- a line, of which an equality is taken away
-pub derived_by_equality : (system : System) (a : ℤ) (left : Line) (b : ℤ) (right result : Line) → pos 0 ≤ℤ a → right.equal ≡ true → IsDerived system left → IsDerived system right
+pub derived_by_equality : (system : System) (a : ℤ) (left : Line) (b : ℤ) (right result : Line) → pos 0 ≤ℤ a → right.equal ≡ true
+    → IsDerived system left → IsDerived system right
     → made_line left.equal a left.numbers b right.numbers ≡ Some result → IsDerived system result
 derived_by_equality system a left b right result n e h k m =
     let signs_right : Signs true system.rows (multipliers_of system.columns right) = rw e at k.signs in
@@ -136,7 +140,8 @@ derived_by_equality system a left b right result n e h k m =
     subst (λ (l : Line). IsDerived system l) (made_is left.equal a left.numbers b right.numbers result m) (derived_made system left.equal a left b right h k signs)
 
 -- two lines, added
-pub derived_by_pair : (system : System) (a : ℤ) (left : Line) (b : ℤ) (right result : Line) → pos 0 ≤ℤ a → pos 0 ≤ℤ b → IsDerived system left → IsDerived system right
+pub derived_by_pair : (system : System) (a : ℤ) (left : Line) (b : ℤ) (right result : Line) → pos 0 ≤ℤ a → pos 0 ≤ℤ b → IsDerived system left
+    → IsDerived system right
     → made_line false a left.numbers b right.numbers ≡ Some result → IsDerived system result
 derived_by_pair system a left b right result n o h k m =
     let signs : Signs false system.rows (combination a (multipliers_of system.columns left) b (multipliers_of system.columns right)) =

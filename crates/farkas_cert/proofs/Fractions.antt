@@ -67,7 +67,8 @@ at_most_itself k = omega (arith, linear)
 
 -- ---- the chosen value
 
-pub chosen_upper : (low high : Option Fraction) (u g : Fraction) → high ≡ Some u → IsAtMost u g → ((l : Fraction) → low ≡ Some l → IsAtMost l g) → IsAtMost (chosen low high) g
+pub chosen_upper : (low high : Option Fraction) (u g : Fraction) → high ≡ Some u → IsAtMost u g → ((l : Fraction) → low ≡ Some l → IsAtMost l g)
+    → IsAtMost (chosen low high) g
 chosen_upper low None u g e h k = absurd cc
 chosen_upper None (Some v) u g e h k =
     let same : v ≡ u = cc in

@@ -7,18 +7,21 @@ use Rattle.farkas_cert.specs.Elimination.{Outcome, Work, Next, Goes, Ends, teste
 use Rattle.farkas_cert.proofs.Columns.{count_open, close, close_falls, IsWithin, AllWithin, AllVary, IsOpen, lowest_open, lowest_of_open, Closes, ClosesTested, equality_stage_closes, pair_stage_closes}
 use Rattle.farkas_cert.proofs.Lists.{all_filter, filter_all, all_both, found}
 
-tested_closes : (system : System) (f : ℕ → Bool) (number : ℕ) (work : Work) → Closes system.columns f (Goes work) → ClosesTested system.columns f (tested system number work)
+tested_closes : (system : System) (f : ℕ → Bool) (number : ℕ) (work : Work) → Closes system.columns f (Goes work)
+    → ClosesTested system.columns f (tested system number work)
 unfolding tested
 tested_closes system f number work h = by_found (find (is_false system.columns) work.lines) where
   by_found : (o : Option Line) → ClosesTested system.columns f (tested_by system number work o)
   by_found None = (h.0, h.1, all_filter (IsWithin system.columns (close h.0 f)) (has_variable system.columns) work.lines h.2, filter_all (has_variable system.columns) work.lines)
   by_found (Some line) = tt
 
-then_tested_closes : (system : System) (f : ℕ → Bool) (next : Next) → Closes system.columns f next → ClosesTested system.columns f (then_tested system next)
+then_tested_closes : (system : System) (f : ℕ → Bool) (next : Next) → Closes system.columns f next
+    → ClosesTested system.columns f (then_tested system next)
 then_tested_closes system f (Goes work) h = tested_closes system f (length work.kept) work h
 then_tested_closes system f (Ends outcome) h = tt
 
-taken_out_closes : (system : System) (f : ℕ → Bool) (work : Work) (line : Line) (lines : List Line) → work.lines ≡ line ∷ lines → AllWithin system.columns f work.lines → AllVary system.columns work.lines → Closes system.columns f (taken_out system work)
+taken_out_closes : (system : System) (f : ℕ → Bool) (work : Work) (line : Line) (lines : List Line) → work.lines ≡ line ∷ lines
+    → AllWithin system.columns f work.lines → AllVary system.columns work.lines → Closes system.columns f (taken_out system work)
 unfolding taken_out
 taken_out_closes system f work line lines s h v = by_found (find (λ line. line.equal) work.lines) refl where
   n : ℕ
@@ -32,7 +35,8 @@ taken_out_closes system f work line lines s h v = by_found (find (λ line. line.
       let at = found (λ l. IsWithin n f l × (has_variable n l ≡ true)) (λ line. line.equal) work.lines equality (all_both (IsWithin n f) (λ l. has_variable n l ≡ true) work.lines h v) e in
       equality_stage_closes system f work equality at.0.0 at.0.1 h
 
-pub stage_closes : (system : System) (f : ℕ → Bool) (work : Work) (line : Line) (lines : List Line) → work.lines ≡ line ∷ lines → AllWithin system.columns f work.lines → AllVary system.columns work.lines → ClosesTested system.columns f (stage system work)
+pub stage_closes : (system : System) (f : ℕ → Bool) (work : Work) (line : Line) (lines : List Line) → work.lines ≡ line ∷ lines
+    → AllWithin system.columns f work.lines → AllVary system.columns work.lines → ClosesTested system.columns f (stage system work)
 unfolding stage
 stage_closes system f work line lines s h v = then_tested_closes system f (taken_out system work) (taken_out_closes system f work line lines s h v)
 
@@ -49,7 +53,9 @@ same_ends : (system : System) (f : ℕ → Bool) (more other : Work → Outcome)
 same_ends system f more other (Goes work) same h = same work h.0 h.1 h.2 h.3
 same_ends system f more other (Ends outcome) same h = refl
 
-same_stages : (fuel other : ℕ) (system : System) (f : ℕ → Bool) (work : Work) → count_open system.columns f ≤ fuel → count_open system.columns f ≤ other → AllWithin system.columns f work.lines → AllVary system.columns work.lines → stages fuel system work ≡ stages other system work
+same_stages : (fuel other : ℕ) (system : System) (f : ℕ → Bool) (work : Work) → count_open system.columns f ≤ fuel
+    → count_open system.columns f ≤ other → AllWithin system.columns f work.lines → AllVary system.columns work.lines
+    → stages fuel system work ≡ stages other system work
 unfolding stages
 same_stages zero zero system f work l m h v = refl
 same_stages zero (suc other) system f work l m h v = rw (none_left system.columns f work.lines h v l) refl
@@ -85,11 +91,13 @@ Varies system (Ends outcome) = ⊤
 pub begun_varies : (system : System) → Varies system (begun system)
 unfolding begun tested
 begun_varies system = by_found (find (is_false system.columns) (given_lines (length system.rows) 0 system.rows)) where
-  by_found : (o : Option Line) → Varies system (tested_by system 0 (record { lines = given_lines (length system.rows) 0 system.rows; kept = []; made = 0 }) o)
+  by_found : (o : Option Line)
+      → Varies system (tested_by system 0 (record { lines = given_lines (length system.rows) 0 system.rows; kept = []; made = 0 }) o)
   by_found None = filter_all (has_variable system.columns) (given_lines (length system.rows) 0 system.rows)
   by_found (Some line) = tt
 
-same_begun : (fuel : ℕ) (system : System) (next : Next) → system.columns ≤ fuel → Varies system next → or_ends (stages fuel system) next ≡ or_ends (stages system.columns system) next
+same_begun : (fuel : ℕ) (system : System) (next : Next) → system.columns ≤ fuel → Varies system next
+    → or_ends (stages fuel system) next ≡ or_ends (stages system.columns system) next
 same_begun fuel system (Goes work) l v =
     let c = count_all system.columns in
     same_stages fuel system.columns system all_open work (omega arith) c (all_within system.columns work.lines) v

@@ -30,7 +30,8 @@ some_point : (b : Bool) (x y : RationalPoint) → cond b (Some x) None ≡ Some 
 some_point true x y e = cc
 some_point false x y e = absurd cc
 
-pub assigned_moved : (c : ℕ) (point : RationalPoint) (f : Fraction) (next : RationalPoint) → pos 0 <ℤ point.denominator → pos 0 <ℤ f.denominator → assigned c point f ≡ Some next → Moved c point f next
+pub assigned_moved : (c : ℕ) (point : RationalPoint) (f : Fraction) (next : RationalPoint) → pos 0 <ℤ point.denominator → pos 0 <ℤ f.denominator
+    → assigned c point f ≡ Some next → Moved c point f next
 unfolding assigned
 assigned_moved c point f next h k e =
     let g = gcd (unsigned_abs point.denominator) (unsigned_abs f.denominator) in
@@ -54,17 +55,20 @@ assigned_moved c point f next h k e =
       denominator = ap (λ (p : RationalPoint). p.denominator) (sym same);
     }
 
-pub moved_length : (n c : ℕ) (point : RationalPoint) (f : Fraction) (next : RationalPoint) → Moved c point f next → length point.numerators ≡ n → length next.numerators ≡ n
+pub moved_length : (n c : ℕ) (point : RationalPoint) (f : Fraction) (next : RationalPoint) → Moved c point f next → length point.numerators ≡ n
+    → length next.numerators ≡ n
 moved_length n c point f next m h =
     rw m.numerators (length-set (scaled m.scale point.numerators) c (f.numerator *ℤ m.share) ∙ length-map point.numerators (λ x. m.scale *ℤ x) ∙ h)
 
-pub moved_positive : (c : ℕ) (point : RationalPoint) (f : Fraction) (next : RationalPoint) → Moved c point f next → pos 0 <ℤ point.denominator → pos 0 <ℤ next.denominator
+pub moved_positive : (c : ℕ) (point : RationalPoint) (f : Fraction) (next : RationalPoint) → Moved c point f next → pos 0 <ℤ point.denominator
+    → pos 0 <ℤ next.denominator
 moved_positive c point f next m h = rw m.denominator (mul_positive point.denominator m.scale h m.scale_positive)
 
 -- ---- slack after the step
 
 -- what the other columns give, and column c
-moved_slack : (n c : ℕ) (point : RationalPoint) (f : Fraction) (next : RationalPoint) (line : Line) (m : Moved c point f next) → c < n → length point.numerators ≡ n →
+moved_slack : (n c : ℕ) (point : RationalPoint) (f : Fraction) (next : RationalPoint) (line : Line) (m : Moved c point f next) → c < n
+    → length point.numerators ≡ n →
     slack n next line.numbers ≡ (m.scale *ℤ product_of (slice_set (take n line.numbers) c (pos 0)) point.numerators +ℤ coefficient_at c line *ℤ (f.numerator *ℤ m.share)) -ℤ bound_of n line *ℤ (point.denominator *ℤ m.scale)
 moved_slack n c point f next line m l h =
     let xs = take n line.numbers in
@@ -79,7 +83,8 @@ moved_slack n c point f next line m l h =
     let column = ap (λ t. t *ℤ y) here in
     omega (arith, linear)
 
-scaled_sum : (g q s v d o a w b : ℤ) → g *ℤ q ≡ v → g *ℤ s ≡ d → g *ℤ ((q *ℤ o +ℤ a *ℤ (w *ℤ s)) -ℤ b *ℤ (d *ℤ q)) ≡ (a *ℤ d) *ℤ w -ℤ (b *ℤ d -ℤ o) *ℤ v
+scaled_sum : (g q s v d o a w b : ℤ) → g *ℤ q ≡ v → g *ℤ s ≡ d
+    → g *ℤ ((q *ℤ o +ℤ a *ℤ (w *ℤ s)) -ℤ b *ℤ (d *ℤ q)) ≡ (a *ℤ d) *ℤ w -ℤ (b *ℤ d -ℤ o) *ℤ v
 scaled_sum g q s v d o a w b e k =
     let first : g *ℤ (q *ℤ o) ≡ o *ℤ v = sym (mul_mul g q o) ∙ ap (λ t. t *ℤ o) e ∙ mul_swap v o in
     let turn : g *ℤ (a *ℤ (w *ℤ s)) ≡ a *ℤ (w *ℤ (g *ℤ s)) = simp factors in
@@ -98,7 +103,8 @@ scaled_sum g q s v d o a w b e k =
     )
 
 -- up to a positive factor, the slack of a line is its coefficient times the denominator times the value, less the rest of the line
-pub slack_at : (n c : ℕ) (point : RationalPoint) (f : Fraction) (next : RationalPoint) (line : Line) (m : Moved c point f next) → c < n → length point.numerators ≡ n →
+pub slack_at : (n c : ℕ) (point : RationalPoint) (f : Fraction) (next : RationalPoint) (line : Line) (m : Moved c point f next) → c < n
+    → length point.numerators ≡ n →
     m.divisor *ℤ slack n next line.numbers ≡ (coefficient_at c line *ℤ point.denominator) *ℤ f.numerator -ℤ rest_of n c point line *ℤ f.denominator
 slack_at n c point f next line m l h =
     ap (λ t. m.divisor *ℤ t) (moved_slack n c point f next line m l h)
@@ -116,7 +122,8 @@ holds_cancel true k s h e = cancel_equal s (pos 0) k h (mul_swap s k ∙ e ∙ s
 holds_cancel false k s h e = cancel_at_most s (pos 0) k h (omega (arith, linear, mul_swap s k, zero_mul k))
 
 -- A line without the column holds as before.
-pub still_meets : (n c : ℕ) (point : RationalPoint) (f : Fraction) (next : RationalPoint) (line : Line) → Moved c point f next → c < n → length point.numerators ≡ n → coefficient_at c line ≡ pos 0 → MeetsLine n point line → MeetsLine n next line
+pub still_meets : (n c : ℕ) (point : RationalPoint) (f : Fraction) (next : RationalPoint) (line : Line) → Moved c point f next → c < n
+    → length point.numerators ≡ n → coefficient_at c line ≡ pos 0 → MeetsLine n point line → MeetsLine n next line
 still_meets n c point f next line m l h z k =
     let xs = take n line.numbers in
     let o = product_of (slice_set xs c (pos 0)) point.numerators in

@@ -37,7 +37,8 @@ Leads system lines kept = (point : RationalPoint) (x : List ℤ) (d : ℤ) → I
 
 -- ---- the constant test
 
-true_meets : (n : ℕ) (point : RationalPoint) (line : Line) (equal : Bool) → line.equal ≡ equal → pos 0 <ℤ point.denominator → product_of (take n line.numbers) point.numerators ≡ pos 0 → fails equal (bound_of n line) ≡ false → Holds equal (slack n point line.numbers)
+true_meets : (n : ℕ) (point : RationalPoint) (line : Line) (equal : Bool) → line.equal ≡ equal → pos 0 <ℤ point.denominator
+    → product_of (take n line.numbers) point.numerators ≡ pos 0 → fails equal (bound_of n line) ≡ false → Holds equal (slack n point line.numbers)
 true_meets n point line true e d z f =
     let none = zero_by_test (bound_of n line) f in
     let product : bound_of n line *ℤ point.denominator ≡ pos 0 = ap (λ t. t *ℤ point.denominator) none ∙ zero_mul point.denominator in
@@ -49,20 +50,23 @@ second_false : (a b : Bool) → a ≡ true → (a && b) ≡ false → b ≡ fals
 second_false true b t e = e
 second_false false b t e = absurd cc
 
-constant_meets : (n : ℕ) (point : RationalPoint) (line : Line) → pos 0 <ℤ point.denominator → is_false n line ≡ false → has_variable n line ≡ false → MeetsLine n point line
+constant_meets : (n : ℕ) (point : RationalPoint) (line : Line) → pos 0 <ℤ point.denominator → is_false n line ≡ false → has_variable n line ≡ false
+    → MeetsLine n point line
 unfolding is_false
 constant_meets n point line d f v =
     let test : not (has_variable n line) ≡ true = rw v refl in
     true_meets n point line line.equal refl d (product_of_zeros (take n line.numbers) point.numerators (no_variable n line v))
     (second_false (not (has_variable n line)) (fails line.equal (bound_of n line)) test f)
 
-by_variable : (n : ℕ) (point : RationalPoint) (line : Line) → pos 0 <ℤ point.denominator → is_false n line ≡ false → (has_variable n line ≡ true → MeetsLine n point line) → MeetsLine n point line
+by_variable : (n : ℕ) (point : RationalPoint) (line : Line) → pos 0 <ℤ point.denominator → is_false n line ≡ false
+    → (has_variable n line ≡ true → MeetsLine n point line) → MeetsLine n point line
 by_variable n point line d f h = at (has_variable n line) refl where
   at : (b : Bool) → has_variable n line ≡ b → MeetsLine n point line
   at true v = h v
   at false v = constant_meets n point line d f v
 
-all_tested : (n : ℕ) (point : RationalPoint) (lines : List Line) → pos 0 <ℤ point.denominator → find (is_false n) lines ≡ None → AllMeet n point (filter (has_variable n) lines) → AllMeet n point lines
+all_tested : (n : ℕ) (point : RationalPoint) (lines : List Line) → pos 0 <ℤ point.denominator → find (is_false n) lines ≡ None
+    → AllMeet n point (filter (has_variable n) lines) → AllMeet n point lines
 all_tested n point lines d e h =
     all_from (λ line. (is_false n line ≡ false) × (has_variable n line ≡ true → MeetsLine n point line)) (MeetsLine n point) lines
     (λ line k. by_variable n point line d k.0 k.1)
@@ -92,7 +96,8 @@ tested_leads system number work h = at (find (is_false system.columns) work.line
 
 -- ---- the step of the point
 
-step_is : (k : ℕ) (more : RationalPoint → Outcome) (o : Option RationalPoint) (x : List ℤ) (d : ℤ) → or_leaves k more o ≡ Point x d → (next : RationalPoint) × (o ≡ Some next) × (more next ≡ Point x d)
+step_is : (k : ℕ) (more : RationalPoint → Outcome) (o : Option RationalPoint) (x : List ℤ) (d : ℤ) → or_leaves k more o ≡ Point x d
+    → (next : RationalPoint) × (o ≡ Some next) × (more next ≡ Point x d)
 step_is k more None x d e = absurd cc
 step_is k more (Some next) x d e = (next, refl, e)
 
@@ -101,20 +106,25 @@ moved_over n c point f next m o = record { whole = moved_length n c point f next
 
 -- ---- a stage with an equality
 
-with_equality : (P : Line → Type 0) (lines : List Line) (equality : Line) → find (λ line. line.equal) lines ≡ Some equality → P equality → AllByRecursion P (without_equality lines) → AllByRecursion P lines
+with_equality : (P : Line → Type 0) (lines : List Line) (equality : Line) → find (λ line. line.equal) lines ≡ Some equality → P equality
+    → AllByRecursion P (without_equality lines) → AllByRecursion P lines
 unfolding without_equality
 with_equality P [] equality e h k = tt
 with_equality P (line ∷ lines) equality e h k = at (with_equality P lines equality) line.equal e k where
-  at : (find (λ line. line.equal) lines ≡ Some equality → P equality → AllByRecursion P (without_equality lines) → AllByRecursion P lines) → (b : Bool)
-      → cond b (Some line) (find (λ line. line.equal) lines) ≡ Some equality → AllByRecursion P (cond b lines (line ∷ without_equality lines)) → P line × AllByRecursion P lines
+  at : (find (λ line. line.equal) lines ≡ Some equality → P equality → AllByRecursion P (without_equality lines) → AllByRecursion P lines)
+      → (b : Bool)
+      → cond b (Some line) (find (λ line. line.equal) lines) ≡ Some equality → AllByRecursion P (cond b lines (line ∷ without_equality lines))
+      → P line × AllByRecursion P lines
   at rest true e k = let same : equality ≡ line = cc in (subst P same h, k)
   at rest false e k = (k.0, rest e h k.1)
 
 lost_column : (n c : ℕ) (line : Line) → c < n → IsWithin n (close c all_open) line → coefficient_at c line ≡ pos 0
 lost_column n c line l h = h c l (closed_here c all_open)
 
-equality_leads : (system : System) (work : Work) (equality : Line) (lines : List Line) → find (λ line. line.equal) work.lines ≡ Some equality → equality.equal ≡ true → has_variable system.columns equality ≡ true
-    → every (map (substituted (lowest_column system.columns equality) equality) (without_equality work.lines)) ≡ Some lines → Leads system work.lines work.kept → Leads system lines (Solved (lowest_column system.columns equality) equality ∷ work.kept)
+equality_leads : (system : System) (work : Work) (equality : Line) (lines : List Line) → find (λ line. line.equal) work.lines ≡ Some equality
+    → equality.equal ≡ true → has_variable system.columns equality ≡ true
+    → every (map (substituted (lowest_column system.columns equality) equality) (without_equality work.lines)) ≡ Some lines
+    → Leads system work.lines work.kept → Leads system lines (Solved (lowest_column system.columns equality) equality ∷ work.kept)
 unfolding point_from set_column
 equality_leads system work equality lines found_it t v made h point x d over meets e =
     let n = system.columns in
@@ -137,7 +147,8 @@ equality_leads system work equality lines found_it t v made h point x d over mee
 
 -- ---- a stage without one
 
-pair_leads : (system : System) (work : Work) (c : ℕ) (pairs : List Line) → c < system.columns → AllByRecursion (λ line. line.equal ≡ false) work.lines → pairs_at c work.lines ≡ Some pairs → Leads system work.lines work.kept
+pair_leads : (system : System) (work : Work) (c : ℕ) (pairs : List Line) → c < system.columns → AllByRecursion (λ line. line.equal ≡ false) work.lines
+    → pairs_at c work.lines ≡ Some pairs → Leads system work.lines work.kept
     → Leads system (without_column c work.lines ++ pairs) (Bounded c (with_column c work.lines) ∷ work.kept)
 unfolding point_from set_column
 pair_leads system work c pairs l q made h point x d over meets e =
@@ -158,18 +169,22 @@ pair_leads system work c pairs l q made h point x d over meets e =
 
 -- ---- a stage
 
-follows_leads : (system : System) (work : Work) (kept : Kept) (made : ℕ) (o : Option (List Line)) → ((lines : List Line) → o ≡ Some lines → Leads system lines (kept ∷ work.kept)) → NextLeads system (follows work kept made o)
+follows_leads : (system : System) (work : Work) (kept : Kept) (made : ℕ) (o : Option (List Line))
+    → ((lines : List Line) → o ≡ Some lines → Leads system lines (kept ∷ work.kept)) → NextLeads system (follows work kept made o)
 follows_leads system work kept made None h = λ x d e. absurd cc
 follows_leads system work kept made (Some lines) h = h lines refl
 
-equality_stage_leads : (system : System) (work : Work) (equality : Line) → find (λ line. line.equal) work.lines ≡ Some equality → equality.equal ≡ true → has_variable system.columns equality ≡ true → Leads system work.lines work.kept → NextLeads system (equality_stage system work equality)
+equality_stage_leads : (system : System) (work : Work) (equality : Line) → find (λ line. line.equal) work.lines ≡ Some equality
+    → equality.equal ≡ true → has_variable system.columns equality ≡ true → Leads system work.lines work.kept
+    → NextLeads system (equality_stage system work equality)
 unfolding equality_stage
 equality_stage_leads system work equality e t v h =
     let c = lowest_column system.columns equality in
     follows_leads system work (Solved c equality) work.made (every (map (substituted c equality) (without_equality work.lines)))
     (λ lines m. equality_leads system work equality lines e t v m h)
 
-pair_stage_leads : (system : System) (work : Work) → lowest_of system.columns work.lines < system.columns → AllByRecursion (λ line. line.equal ≡ false) work.lines → Leads system work.lines work.kept → NextLeads system (pair_stage system work)
+pair_stage_leads : (system : System) (work : Work) → lowest_of system.columns work.lines < system.columns
+    → AllByRecursion (λ line. line.equal ≡ false) work.lines → Leads system work.lines work.kept → NextLeads system (pair_stage system work)
 unfolding pair_stage
 pair_stage_leads system work l q h = by_limit (are_too_many system made) where
   c : ℕ
@@ -185,7 +200,8 @@ pair_stage_leads system work l q h = by_limit (are_too_many system made) where
       (λ lines e. let split = appended (without_column c work.lines) (pairs_at c work.lines) lines e in
       subst (λ (all : List Line). Leads system all (Bounded c (with_column c work.lines) ∷ work.kept)) split.2 (pair_leads system work c split.0 l q split.1 h))
 
-taken_out_leads : (system : System) (work : Work) (line : Line) (lines : List Line) → work.lines ≡ line ∷ lines → AllVary system.columns work.lines → Leads system work.lines work.kept → NextLeads system (taken_out system work)
+taken_out_leads : (system : System) (work : Work) (line : Line) (lines : List Line) → work.lines ≡ line ∷ lines → AllVary system.columns work.lines
+    → Leads system work.lines work.kept → NextLeads system (taken_out system work)
 unfolding taken_out
 taken_out_leads system work line lines s v h = at (find (λ line. line.equal) work.lines) refl where
   n : ℕ
@@ -204,14 +220,16 @@ then_tested_leads : (system : System) (next : Next) → NextLeads system next �
 then_tested_leads system (Goes work) h = tested_leads system (length work.kept) work h
 then_tested_leads system (Ends outcome) h = h
 
-stage_leads : (system : System) (work : Work) (line : Line) (lines : List Line) → work.lines ≡ line ∷ lines → AllVary system.columns work.lines → Leads system work.lines work.kept → NextLeads system (stage system work)
+stage_leads : (system : System) (work : Work) (line : Line) (lines : List Line) → work.lines ≡ line ∷ lines → AllVary system.columns work.lines
+    → Leads system work.lines work.kept → NextLeads system (stage system work)
 unfolding stage
 stage_leads system work line lines s v h = then_tested_leads system (taken_out system work) (taken_out_leads system work line lines s v h)
 
 -- ---- the whole
 
 -- where no line is left, the point at 0 is a start
-start_leads : (system : System) (kept : List Kept) (x : List ℤ) (d : ℤ) → Leads system [] kept → point_of system.columns kept ≡ Point x d → IsRationalPoint system x d
+start_leads : (system : System) (kept : List Kept) (x : List ℤ) (d : ℤ) → Leads system [] kept → point_of system.columns kept ≡ Point x d
+    → IsRationalPoint system x d
 start_leads system kept x d h e =
     h (record { numerators = replicate system.columns (pos 0); denominator = pos 1 }) x d (record { whole = length-replicate system.columns (pos 0); positive = omega (arith, linear) }) tt e
 
@@ -221,7 +239,9 @@ ends_lead : (system : System) (f : ℕ → Bool) (more : Work → Outcome) (next
 ends_lead system f more (Goes work) x d rest c h e = rest work c.0 c.1 c.2 c.3 h e
 ends_lead system f more (Ends outcome) x d rest c h e = absurd (h x d e)
 
-stages_lead : (fuel : ℕ) (system : System) (f : ℕ → Bool) (work : Work) (x : List ℤ) (d : ℤ) → count_open system.columns f ≤ fuel → AllWithin system.columns f work.lines → AllVary system.columns work.lines → Leads system work.lines work.kept → stages fuel system work ≡ Point x d → IsRationalPoint system x d
+stages_lead : (fuel : ℕ) (system : System) (f : ℕ → Bool) (work : Work) (x : List ℤ) (d : ℤ) → count_open system.columns f ≤ fuel
+    → AllWithin system.columns f work.lines → AllVary system.columns work.lines → Leads system work.lines work.kept
+    → stages fuel system work ≡ Point x d → IsRationalPoint system x d
 unfolding stages
 stages_lead zero system f work x d l w v h e =
     start_leads system work.kept x d (subst (λ (lines : List Line). Leads system lines work.kept) (none_left system.columns f work.lines w v l) h) e
@@ -240,7 +260,8 @@ holds_over : (equal : Bool) (a b : ℤ) → Holds equal (a -ℤ b) → MatchBool
 holds_over true a b h = omega (arith, linear)
 holds_over false a b h = omega (arith, linear)
 
-given_meets : (system : System) (total k : ℕ) (row : Row) (point : RationalPoint) → length row.coefficients ≡ system.columns → MeetsLine system.columns point (given_line total k row) → MeetsOver row point.numerators point.denominator
+given_meets : (system : System) (total k : ℕ) (row : Row) (point : RationalPoint) → length row.coefficients ≡ system.columns
+    → MeetsLine system.columns point (given_line total k row) → MeetsOver row point.numerators point.denominator
 given_meets system total k row point w h =
     let parts = given_parts system.columns total k row w in
     let moved : Holds row.equal (product_of row.coefficients point.numerators -ℤ row.bound *ℤ point.denominator) =
@@ -248,7 +269,9 @@ given_meets system total k row point w h =
     (subst (λ t. Holds row.equal (product_of (take system.columns (given_line total k row).numbers) point.numerators -ℤ t *ℤ point.denominator)) parts.1 h) in
     holds_over row.equal (product_of row.coefficients point.numerators) (row.bound *ℤ point.denominator) moved
 
-given_meet : (system : System) (total k : ℕ) (rows : List Row) (point : RationalPoint) → AllByRecursion (λ row. length row.coefficients ≡ system.columns) rows → AllMeet system.columns point (given_lines total k rows) → AllByRecursion (λ row. MeetsOver row point.numerators point.denominator) rows
+given_meet : (system : System) (total k : ℕ) (rows : List Row) (point : RationalPoint)
+    → AllByRecursion (λ row. length row.coefficients ≡ system.columns) rows → AllMeet system.columns point (given_lines total k rows)
+    → AllByRecursion (λ row. MeetsOver row point.numerators point.denominator) rows
 unfolding given_lines
 given_meet system total k [] point w h = tt
 given_meet system total k (row ∷ rows) point w h = (given_meets system total k row point w.0 h.0, given_meet system total (suc k) rows point w.1 h.1)
@@ -261,7 +284,8 @@ given_leads system w point x d over meets e =
     subst (λ (z : List ℤ). IsRationalPoint system z d) same_x (subst (λ (k : ℤ). IsRationalPoint system point.numerators k) same_d
     (record { whole = over.whole; positive = over.positive; meets = given_meet system (length system.rows) 0 system.rows point w meets }))
 
-outcome_by : (system : System) (next : Next) (x : List ℤ) (d : ℤ) → Varies system next → NextLeads system next → or_ends (stages system.columns system) next ≡ Point x d → IsRationalPoint system x d
+outcome_by : (system : System) (next : Next) (x : List ℤ) (d : ℤ) → Varies system next → NextLeads system next
+    → or_ends (stages system.columns system) next ≡ Point x d → IsRationalPoint system x d
 outcome_by system (Goes work) x d v h e = stages_lead system.columns system all_open work x d (count_all system.columns) (all_within system.columns work.lines) v h e
 outcome_by system (Ends outcome) x d v h e = absurd (h x d e)
 

@@ -23,7 +23,8 @@ zeros_product zero zs = refl
 zeros_product (suc n) [] = refl
 zeros_product (suc n) (z ∷ zs) = omega (arith, linear, zero_mul z, zeros_product n zs)
 
-unit_product : (f : Row → ℤ) (rows : List Row) (k : ℕ) (row : Row) → slice_get rows k ≡ Some row → product_of (slice_set (replicate (length rows) (pos 0)) k (pos 1)) (map f rows) ≡ f row
+unit_product : (f : Row → ℤ) (rows : List Row) (k : ℕ) (row : Row) → slice_get rows k ≡ Some row
+    → product_of (slice_set (replicate (length rows) (pos 0)) k (pos 1)) (map f rows) ≡ f row
 unit_product f [] k row e = absurd cc
 unit_product f (x ∷ rows) zero row e =
     let same : x ≡ row = cc in
@@ -44,14 +45,16 @@ zeros_signs : (equal : Bool) (rows : List Row) → Signs equal rows (replicate (
 zeros_signs equal [] = tt
 zeros_signs equal (row ∷ rows) = (zero_sign row.equal equal, zeros_signs equal rows)
 
-unit_signs : (rows : List Row) (k : ℕ) (row : Row) → slice_get rows k ≡ Some row → Signs row.equal rows (slice_set (replicate (length rows) (pos 0)) k (pos 1))
+unit_signs : (rows : List Row) (k : ℕ) (row : Row) → slice_get rows k ≡ Some row
+    → Signs row.equal rows (slice_set (replicate (length rows) (pos 0)) k (pos 1))
 unit_signs [] k row e = absurd cc
 unit_signs (x ∷ rows) zero row e =
     let same : x ≡ row = cc in
     (subst (λ (r : Row). RowSign x.equal r.equal (pos 1)) same (one_sign x.equal), zeros_signs row.equal rows)
 unit_signs (x ∷ rows) (suc k) row e = (zero_sign x.equal row.equal, unit_signs rows k row e)
 
-unit_primitive : (rows : List Row) (k : ℕ) (row : Row) (g : ℕ) → slice_get rows k ≡ Some row → DivideAll g (slice_set (replicate (length rows) (pos 0)) k (pos 1)) → g ≤ 1
+unit_primitive : (rows : List Row) (k : ℕ) (row : Row) (g : ℕ) → slice_get rows k ≡ Some row
+    → DivideAll g (slice_set (replicate (length rows) (pos 0)) k (pos 1)) → g ≤ 1
 unit_primitive [] k row g e h = absurd cc
 unit_primitive (x ∷ rows) zero row g e h = le_of_dvd (omega arith) h.0
 unit_primitive (x ∷ rows) (suc k) row g e h = unit_primitive rows k row g e h.1
@@ -85,7 +88,8 @@ given_parts n total k row e =
     let unit = slice_set (replicate total (pos 0)) k (pos 1) in
     (take-front n row.coefficients (row.bound ∷ unit) e, get-front n row.coefficients row.bound unit e, drop-front n row.coefficients row.bound unit e)
 
-given_derived : (system : System) (k : ℕ) (row : Row) → slice_get system.rows k ≡ Some row → length row.coefficients ≡ system.columns → IsDerived system (given_line (length system.rows) k row)
+given_derived : (system : System) (k : ℕ) (row : Row) → slice_get system.rows k ≡ Some row → length row.coefficients ≡ system.columns
+    → IsDerived system (given_line (length system.rows) k row)
 given_derived system k row e w =
     let parts = given_parts system.columns (length system.rows) k row w in
     record {
@@ -95,7 +99,9 @@ given_derived system k row e w =
       primitive = λ g h. inl (unit_primitive system.rows k row g e (divides_right g row.coefficients (row.bound ∷ slice_set (replicate (length system.rows) (pos 0)) k (pos 1)) h).1);
     }
 
-pub all_given_derived : (system : System) (k : ℕ) (rows : List Row) → drop k system.rows ≡ rows → AllByRecursion (λ row. length row.coefficients ≡ system.columns) rows → AllByRecursion (IsDerived system) (given_lines (length system.rows) k rows)
+pub all_given_derived : (system : System) (k : ℕ) (rows : List Row) → drop k system.rows ≡ rows
+    → AllByRecursion (λ row. length row.coefficients ≡ system.columns) rows
+    → AllByRecursion (IsDerived system) (given_lines (length system.rows) k rows)
 unfolding given_lines
 all_given_derived system k [] e w = tt
 all_given_derived system k (row ∷ rows) e w =
@@ -134,7 +140,8 @@ product_neg [] zs = refl
 product_neg (m ∷ ms) [] = refl
 product_neg (m ∷ ms) (z ∷ zs) = omega (arith, linear, neg_mul m z, product_neg ms zs)
 
-refutes_by : (system : System) (equal : Bool) (ms : List ℤ) → Signs equal system.rows ms → ((y : List ℤ) → product_of ms (values_at y system.rows) ≡ pos 0) → product_of ms (bounds_of system.rows) <ℤ pos 0 → Refutes system (listed 1 ms)
+refutes_by : (system : System) (equal : Bool) (ms : List ℤ) → Signs equal system.rows ms
+    → ((y : List ℤ) → product_of ms (values_at y system.rows) ≡ pos 0) → product_of ms (bounds_of system.rows) <ℤ pos 0 → Refutes system (listed 1 ms)
 refutes_by system equal ms s c b = record {
   in_order = listed_in_order system.rows system.rows 0 0 equal ms (omega arith) refl s;
   contradicts = record {
@@ -153,7 +160,8 @@ zero_at zero (x ∷ xs) h = h.0
 zero_at (suc n) (x ∷ xs) h = zero_at n xs h.1
 
 -- The multipliers of a line without a variable and with a bound other than 0 have no common divisor.
-reduced_by : (system : System) (line : Line) → IsDerived system line → AllZero (take system.columns line.numbers) → ¬ (bound_of system.columns line ≡ pos 0) → (g : ℕ) → DivideAll g (multipliers_of system.columns line) → g ≤ 1
+reduced_by : (system : System) (line : Line) → IsDerived system line → AllZero (take system.columns line.numbers)
+    → ¬ (bound_of system.columns line ≡ pos 0) → (g : ℕ) → DivideAll g (multipliers_of system.columns line) → g ≤ 1
 reduced_by system line h z b g d =
     let bound : g ∣ unsigned_abs (bound_of system.columns line) =
     divides_from_multiple g (bound_of system.columns line) (rw h.bound (multiple_product g (multipliers_of system.columns line) (bounds_of system.rows) d)) in
@@ -174,7 +182,8 @@ nonzero_negative (negsuc n) f p = omega (arith, ints)
 abbrev pub IsProvedBy : System → List ℤ → Type 0
 IsProvedBy system ms = Refutes system (listed 1 ms) × IsReduced (listed 1 ms)
 
-by_negative : (system : System) (line : Line) → IsDerived system line → AllZero (take system.columns line.numbers) → bound_of system.columns line <ℤ pos 0 → IsProvedBy system (multipliers_of system.columns line)
+by_negative : (system : System) (line : Line) → IsDerived system line → AllZero (take system.columns line.numbers)
+    → bound_of system.columns line <ℤ pos 0 → IsProvedBy system (multipliers_of system.columns line)
 by_negative system line h z b = (
   refutes_by system line.equal (multipliers_of system.columns line) h.signs
       (λ y. sym (h.coefficients y) ∙ product_of_zeros (take system.columns line.numbers) y z)
@@ -182,7 +191,8 @@ by_negative system line h z b = (
   λ g d. reduced_by system line h z (λ e. absurd (omega (arith, linear))) g (divides_listed g 1 (multipliers_of system.columns line) d),
 )
 
-by_positive : (system : System) (line : Line) → IsDerived system line → line.equal ≡ true → AllZero (take system.columns line.numbers) → pos 0 <ℤ bound_of system.columns line → IsProvedBy system (map neg_ℤ (multipliers_of system.columns line))
+by_positive : (system : System) (line : Line) → IsDerived system line → line.equal ≡ true → AllZero (take system.columns line.numbers)
+    → pos 0 <ℤ bound_of system.columns line → IsProvedBy system (map neg_ℤ (multipliers_of system.columns line))
 by_positive system line h e z b =
     let ms = multipliers_of system.columns line in (
       refutes_by system true (map neg_ℤ ms) (signs_neg system.rows ms (rw e at h.signs))
@@ -192,13 +202,15 @@ by_positive system line h e z b =
     )
 
 -- by the kind of the line and the sign of its bound
-by_kind : (system : System) (line : Line) (equal positive : Bool) → line.equal ≡ equal → int_lt (pos 0) (bound_of system.columns line) ≡ positive → IsDerived system line → AllZero (take system.columns line.numbers) → fails equal (bound_of system.columns line) ≡ true
+by_kind : (system : System) (line : Line) (equal positive : Bool) → line.equal ≡ equal → int_lt (pos 0) (bound_of system.columns line) ≡ positive
+    → IsDerived system line → AllZero (take system.columns line.numbers) → fails equal (bound_of system.columns line) ≡ true
     → IsProvedBy system (cond (equal && positive) (map neg_ℤ (multipliers_of system.columns line)) (multipliers_of system.columns line))
 by_kind system line false positive e p h z f = by_negative system line h z (is_negative (bound_of system.columns line) f)
 by_kind system line true true e p h z f = by_positive system line h e z (omega (arith, ints))
 by_kind system line true false e p h z f = by_negative system line h z (nonzero_negative (bound_of system.columns line) f p)
 
-pub false_refutes : (system : System) (line : Line) → IsDerived system line → is_false system.columns line ≡ true → IsProvedBy system (refuting system.columns line)
+pub false_refutes : (system : System) (line : Line) → IsDerived system line → is_false system.columns line ≡ true
+    → IsProvedBy system (refuting system.columns line)
 unfolding is_false refuting
 false_refutes system line h f =
     let parts = both (not (has_variable system.columns line)) (fails line.equal (bound_of system.columns line)) f in

@@ -51,7 +51,8 @@ nonzero_product (pos (suc a)) d e h = let p = mul_positive (pos (suc a)) d (omeg
 nonzero_product (negsuc a) d e h = let p = negative_product (negsuc a) d (omega (arith, linear)) h in λ z. absurd (omega (arith, linear))
 
 -- the bound of a line with the column, as a fraction
-pub bound_is : (n c : ℕ) (point : RationalPoint) (line : Line) (f : Fraction) → is_nonzero (coefficient_at c line) ≡ true → pos 0 <ℤ point.denominator → bound_on n c point line ≡ Some f
+pub bound_is : (n c : ℕ) (point : RationalPoint) (line : Line) (f : Fraction) → is_nonzero (coefficient_at c line) ≡ true → pos 0 <ℤ point.denominator
+    → bound_on n c point line ≡ Some f
     → IsFractionOf (rest_of n c point line) (coefficient_at c line *ℤ point.denominator) f
 bound_is n c point line f z h e =
     subst (λ (g : Fraction). IsFractionOf (rest_of n c point line) (coefficient_at c line *ℤ point.denominator) g) (sym (bound_on_is n c point line f e))
@@ -67,22 +68,27 @@ holds_below : (equal : Bool) (k s : ℤ) → pos 0 <ℤ k → equal ≡ false �
 holds_below true k s h t e = absurd cc
 holds_below false k s h t e = holds_cancel false k s h e
 
-pub solved_meets : (n c : ℕ) (point : RationalPoint) (f : Fraction) (next : RationalPoint) (line : Line) → Moved c point f next → c < n → length point.numerators ≡ n → pos 0 <ℤ point.denominator
+pub solved_meets : (n c : ℕ) (point : RationalPoint) (f : Fraction) (next : RationalPoint) (line : Line) → Moved c point f next → c < n
+    → length point.numerators ≡ n → pos 0 <ℤ point.denominator
     → is_nonzero (coefficient_at c line) ≡ true → line.equal ≡ true → bound_on n c point line ≡ Some f → MeetsLine n next line
 solved_meets n c point f next line m l h d z t e =
     let i = bound_is n c point line f z d e in
     let s = coefficient_at c line *ℤ point.denominator in
     holds_by line.equal m.divisor (slack n next line.numbers) m.divisor_positive t (slack_at n c point f next line m l h ∙ same_side s (rest_of n c point line) f i)
 
-pub upper_meets : (n c : ℕ) (point : RationalPoint) (w : Fraction) (next : RationalPoint) (line : Line) (f : Fraction) → Moved c point w next → c < n → length point.numerators ≡ n → pos 0 <ℤ point.denominator
-    → line.equal ≡ false → pos 0 <ℤ coefficient_at c line → IsFractionOf (rest_of n c point line) (coefficient_at c line *ℤ point.denominator) f → IsAtMost w f → MeetsLine n next line
+pub upper_meets : (n c : ℕ) (point : RationalPoint) (w : Fraction) (next : RationalPoint) (line : Line) (f : Fraction) → Moved c point w next → c < n
+    → length point.numerators ≡ n → pos 0 <ℤ point.denominator
+    → line.equal ≡ false → pos 0 <ℤ coefficient_at c line → IsFractionOf (rest_of n c point line) (coefficient_at c line *ℤ point.denominator) f
+    → IsAtMost w f → MeetsLine n next line
 upper_meets n c point w next line f m l h d t a i k =
     let s = coefficient_at c line *ℤ point.denominator in
     let side = upper_side s (rest_of n c point line) f w (mul_positive (coefficient_at c line) point.denominator a d) i k in
     holds_below line.equal m.divisor (slack n next line.numbers) m.divisor_positive t (omega (arith, linear, slack_at n c point w next line m l h))
 
-pub lower_meets : (n c : ℕ) (point : RationalPoint) (w : Fraction) (next : RationalPoint) (line : Line) (f : Fraction) → Moved c point w next → c < n → length point.numerators ≡ n → pos 0 <ℤ point.denominator
-    → line.equal ≡ false → coefficient_at c line <ℤ pos 0 → IsFractionOf (rest_of n c point line) (coefficient_at c line *ℤ point.denominator) f → IsAtMost f w → MeetsLine n next line
+pub lower_meets : (n c : ℕ) (point : RationalPoint) (w : Fraction) (next : RationalPoint) (line : Line) (f : Fraction) → Moved c point w next → c < n
+    → length point.numerators ≡ n → pos 0 <ℤ point.denominator
+    → line.equal ≡ false → coefficient_at c line <ℤ pos 0 → IsFractionOf (rest_of n c point line) (coefficient_at c line *ℤ point.denominator) f
+    → IsAtMost f w → MeetsLine n next line
 lower_meets n c point w next line f m l h d t a i k =
     let s = coefficient_at c line *ℤ point.denominator in
     let side = lower_side s (rest_of n c point line) f w (negative_product (coefficient_at c line) point.denominator a d) i k in
@@ -105,7 +111,8 @@ pair_bounds p q d u v fn fd gn gd hp hq hd hf hg e k s =
     (omega (arith, linear, neg_mul (p *ℤ v) (gd *ℤ fd)))
 
 -- the slack of a line by its column c
-slack_split : (n c : ℕ) (point : RationalPoint) (line : Line) → c < n → slack n point line.numbers ≡ coefficient_at c line *ℤ get_or point.numerators c (pos 0) -ℤ rest_of n c point line
+slack_split : (n c : ℕ) (point : RationalPoint) (line : Line) → c < n
+    → slack n point line.numbers ≡ coefficient_at c line *ℤ get_or point.numerators c (pos 0) -ℤ rest_of n c point line
 slack_split n c point line l =
     omega (arith, linear, without_product (take n line.numbers) point.numerators c, ap (λ t. t *ℤ get_or point.numerators c (pos 0)) (get_or-take n line.numbers c (pos 0) l))
 
@@ -114,14 +121,16 @@ holds_unreduced true f l xs h = from_reduced_vanishes f l xs h
 holds_unreduced false f l xs h = from_reduced_at_most f l xs h
 
 -- what holds of the made line holds of the combination
-unreduced : (n : ℕ) (point : RationalPoint) (equal : Bool) (a : ℤ) (left : Line) (b : ℤ) (right next : Line) → made_line equal a left.numbers b right.numbers ≡ Some next → MeetsLine n point next
+unreduced : (n : ℕ) (point : RationalPoint) (equal : Bool) (a : ℤ) (left : Line) (b : ℤ) (right next : Line)
+    → made_line equal a left.numbers b right.numbers ≡ Some next → MeetsLine n point next
     → Holds equal (a *ℤ slack n point left.numbers +ℤ b *ℤ slack n point right.numbers)
 unreduced n point equal a left b right next e h =
     let xs = combination a left.numbers b right.numbers in
     let here : Holds equal (slack n point (reduced xs)) = subst (λ (line : Line). MeetsLine n point line) (sym (made_is equal a left.numbers b right.numbers next e)) h in
     subst (λ t. Holds equal t) (of_combination (slack n point) (slack_linear n point) a left.numbers b right.numbers) (holds_unreduced equal (slack n point) (slack_linear n point) xs here)
 
-pub substituted_back : (n c : ℕ) (point : RationalPoint) (equality line next : Line) → is_nonzero (coefficient_at c equality) ≡ true → equality.equal ≡ true → MeetsLine n point equality → substituted c equality line ≡ Some next → MeetsLine n point next → MeetsLine n point line
+pub substituted_back : (n c : ℕ) (point : RationalPoint) (equality line next : Line) → is_nonzero (coefficient_at c equality) ≡ true
+    → equality.equal ≡ true → MeetsLine n point equality → substituted c equality line ≡ Some next → MeetsLine n point next → MeetsLine n point line
 unfolding substituted
 substituted_back n c point equality line next z t m e h = at (is_nonzero q) refl e where
   p : ℤ
@@ -146,7 +155,8 @@ substituted_back n c point equality line next z t m e h = at (is_nonzero q) refl
   positive = positive_over (pos g) a (pos (unsigned_abs p)) (gcd_positive_left (unsigned_abs p) (unsigned_abs q) (nonzero_abs p z))
       (over-exact g (pos (unsigned_abs p)) (gcd-IsGcd (unsigned_abs p) (unsigned_abs q)).0) (omega (arith, linear, nonzero_abs p z))
 
-  at : (k : Bool) → is_nonzero q ≡ k → cond k (made_line line.equal a line.numbers b equality.numbers) (Some line) ≡ Some next → MeetsLine n point line
+  at : (k : Bool) → is_nonzero q ≡ k → cond k (made_line line.equal a line.numbers b equality.numbers) (Some line) ≡ Some next
+      → MeetsLine n point line
   at true w e =
       let sum = unreduced n point line.equal a line b equality next e h in
       let only : a *ℤ slack n point line.numbers +ℤ b *ℤ slack n point equality.numbers ≡ a *ℤ slack n point line.numbers =
@@ -155,7 +165,8 @@ substituted_back n c point equality line next z t m e h = at (is_nonzero q) refl
   at false w e = let same : line ≡ next = cc in subst (λ (l : Line). MeetsLine n point l) (sym same) h
 
 -- q times the one slack and p times the other, where their parts by g do not rise above 0
-pair_sum : (g a b p q u v x : ℤ) → pos 0 <ℤ g → g *ℤ a ≡ q → g *ℤ b ≡ p → (a *ℤ (p *ℤ x -ℤ u) +ℤ b *ℤ (neg_ℤ q *ℤ x -ℤ v)) ≤ℤ pos 0 → pos 0 ≤ℤ (q *ℤ u +ℤ p *ℤ v)
+pair_sum : (g a b p q u v x : ℤ) → pos 0 <ℤ g → g *ℤ a ≡ q → g *ℤ b ≡ p → (a *ℤ (p *ℤ x -ℤ u) +ℤ b *ℤ (neg_ℤ q *ℤ x -ℤ v)) ≤ℤ pos 0
+    → pos 0 ≤ℤ (q *ℤ u +ℤ p *ℤ v)
 pair_sum g a b p q u v x hg e k h =
     let sl = p *ℤ x -ℤ u in
     let sr = neg_ℤ q *ℤ x -ℤ v in
@@ -167,7 +178,8 @@ pair_sum g a b p q u v x hg e k h =
 
 pub paired_bounds : (n c : ℕ) (point : RationalPoint) (positive negative next : Line) (f g : Fraction) → c < n → pos 0 <ℤ point.denominator
     → pos 0 <ℤ coefficient_at c positive → coefficient_at c negative <ℤ pos 0
-    → IsFractionOf (rest_of n c point positive) (coefficient_at c positive *ℤ point.denominator) f → IsFractionOf (rest_of n c point negative) (coefficient_at c negative *ℤ point.denominator) g
+    → IsFractionOf (rest_of n c point positive) (coefficient_at c positive *ℤ point.denominator) f
+    → IsFractionOf (rest_of n c point negative) (coefficient_at c negative *ℤ point.denominator) g
     → paired c positive negative ≡ Some next → MeetsLine n point next → IsAtMost g f
 unfolding paired
 paired_bounds n c point positive negative next f g l d hp hn i k e h = record {

@@ -107,10 +107,12 @@ allows false false m h = h
 row_allows : (row : Row) (equal : Bool) (m : ℤ) → RowSign row.equal equal m → Allows row m
 row_allows row equal m h = allows row.equal equal m h
 
-allowed_at : (all rows : List Row) (k : ℕ) (row : Row) (equal : Bool) (m : ℤ) → drop k all ≡ row ∷ rows → RowSign row.equal equal m → AllowsAt (row_numbered all (suc k)) m
+allowed_at : (all rows : List Row) (k : ℕ) (row : Row) (equal : Bool) (m : ℤ) → drop k all ≡ row ∷ rows → RowSign row.equal equal m
+    → AllowsAt (row_numbered all (suc k)) m
 allowed_at all rows k row equal m e h = subst (λ (o : Option Row). AllowsAt o m) (sym (split_at all rows k row e).0) (row_allows row equal m h)
 
-pub listed_in_order : (all rows : List Row) (last k : ℕ) (equal : Bool) (ms : List ℤ) → last ≤ k → drop k all ≡ rows → Signs equal rows ms → InOrder all last (listed (suc k) ms)
+pub listed_in_order : (all rows : List Row) (last k : ℕ) (equal : Bool) (ms : List ℤ) → last ≤ k → drop k all ≡ rows → Signs equal rows ms
+    → InOrder all last (listed (suc k) ms)
 unfolding listed
 listed_in_order all rows last k equal [] l e h = tt
 listed_in_order all [] last k equal (m ∷ ms) l e h = absurd h

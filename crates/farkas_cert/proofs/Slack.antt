@@ -37,13 +37,15 @@ MeetsLine n point line = Holds line.equal (slack n point line.numbers)
 
 -- ---- one column of a product
 
-pub set_product : (xs ns : List ℤ) (c : ℕ) (y : ℤ) → c < length ns → product_of xs (slice_set ns c y) ≡ product_of (slice_set xs c (pos 0)) ns +ℤ get_or xs c (pos 0) *ℤ y
+pub set_product : (xs ns : List ℤ) (c : ℕ) (y : ℤ) → c < length ns
+    → product_of xs (slice_set ns c y) ≡ product_of (slice_set xs c (pos 0)) ns +ℤ get_or xs c (pos 0) *ℤ y
 set_product [] ns c y h = omega (arith, linear, zero_mul y)
 set_product (x ∷ xs) [] c y h = absurd (omega arith)
 set_product (x ∷ xs) (n ∷ ns) zero y h = omega (arith, linear, zero_mul n)
 set_product (x ∷ xs) (n ∷ ns) (suc c) y h = omega (arith, linear, set_product xs ns c y (omega arith))
 
-pub without_product : (xs ns : List ℤ) (c : ℕ) → product_of xs ns ≡ product_of (slice_set xs c (pos 0)) ns +ℤ get_or xs c (pos 0) *ℤ get_or ns c (pos 0)
+pub without_product : (xs ns : List ℤ) (c : ℕ)
+    → product_of xs ns ≡ product_of (slice_set xs c (pos 0)) ns +ℤ get_or xs c (pos 0) *ℤ get_or ns c (pos 0)
 without_product [] ns c = omega (arith, linear, zero_mul (get_or ns c (pos 0)))
 without_product (x ∷ xs) [] zero = omega (arith, linear, mul_zero x)
 without_product (x ∷ xs) [] (suc c) = omega (arith, linear, mul_zero (get_or xs c (pos 0)))
@@ -65,7 +67,8 @@ minus_is : (t : ℤ) (xs ns : List ℤ) (r : ℤ) → minus_products t xs ns ≡
 minus_is t [] ns r e = let same : t ≡ r = cc in omega (arith, linear)
 minus_is t (x ∷ xs) [] r e = let same : t ≡ r = cc in omega (arith, linear)
 minus_is t (x ∷ xs) (n ∷ ns) r e = by_fit (minus_is (t -ℤ x *ℤ n) xs ns r) (fits (x *ℤ n) && fits (t -ℤ x *ℤ n)) e where
-  by_fit : (minus_products (t -ℤ x *ℤ n) xs ns ≡ Some r → r ≡ (t -ℤ x *ℤ n) -ℤ product_of xs ns) → (b : Bool) → cond b (minus_products (t -ℤ x *ℤ n) xs ns) None ≡ Some r → r ≡ t -ℤ (x *ℤ n +ℤ product_of xs ns)
+  by_fit : (minus_products (t -ℤ x *ℤ n) xs ns ≡ Some r → r ≡ (t -ℤ x *ℤ n) -ℤ product_of xs ns) → (b : Bool)
+      → cond b (minus_products (t -ℤ x *ℤ n) xs ns) None ≡ Some r → r ≡ t -ℤ (x *ℤ n +ℤ product_of xs ns)
   by_fit rest true e = let h = rest e in omega (arith, linear)
   by_fit rest false e = absurd cc
 
@@ -83,7 +86,8 @@ pub map_is : {X Y : Type 0} (f : X → Y) (o : Option X) (y : Y) → option_map 
 map_is f None y e = absurd cc
 map_is f (Some x) y e = (x, refl, cc)
 
-pub bound_on_is : (n c : ℕ) (point : RationalPoint) (line : Line) (f : Fraction) → bound_on n c point line ≡ Some f → f ≡ fraction (rest_of n c point line) (coefficient_at c line *ℤ point.denominator)
+pub bound_on_is : (n c : ℕ) (point : RationalPoint) (line : Line) (f : Fraction) → bound_on n c point line ≡ Some f
+    → f ≡ fraction (rest_of n c point line) (coefficient_at c line *ℤ point.denominator)
 unfolding bound_on
 bound_on_is n c point line f e =
     let others = slice_set (take n line.numbers) c (pos 0) in

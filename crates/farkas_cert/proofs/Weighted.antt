@@ -23,7 +23,8 @@ values_at y rows = map (λ row. product_of row.coefficients y) rows
 abbrev pub bounds_of : List Row → List ℤ
 bounds_of rows = map (λ row. row.bound) rows
 
-added : (o : Option Row) (row : Row) (m : ℤ) (total : Row) (y : List ℤ) → o ≡ Some row → product_of (add_weighted o m total).coefficients y ≡ m *ℤ product_of row.coefficients y +ℤ product_of total.coefficients y
+added : (o : Option Row) (row : Row) (m : ℤ) (total : Row) (y : List ℤ) → o ≡ Some row
+    → product_of (add_weighted o m total).coefficients y ≡ m *ℤ product_of row.coefficients y +ℤ product_of total.coefficients y
 added None row m total y e = absurd cc
 added (Some other) row m total y e =
     let same : other ≡ row = cc in
@@ -35,7 +36,8 @@ added_bound : (o : Option Row) (row : Row) (m : ℤ) (total : Row) → o ≡ Som
 added_bound None row m total e = absurd cc
 added_bound (Some other) row m total e = let same : other ≡ row = cc in ap (λ (r : Row). m *ℤ r.bound +ℤ total.bound) same
 
-pub weighted_coefficients : (all rows : List Row) (k : ℕ) (equal : Bool) (ms y : List ℤ) → drop k all ≡ rows → Signs equal rows ms → product_of (weighted_sum all (listed (suc k) ms)).coefficients y ≡ product_of ms (values_at y rows)
+pub weighted_coefficients : (all rows : List Row) (k : ℕ) (equal : Bool) (ms y : List ℤ) → drop k all ≡ rows → Signs equal rows ms
+    → product_of (weighted_sum all (listed (suc k) ms)).coefficients y ≡ product_of ms (values_at y rows)
 unfolding listed
 weighted_coefficients all rows k equal [] y e h = refl
 weighted_coefficients all [] k equal (m ∷ ms) y e h = absurd h
@@ -50,7 +52,8 @@ weighted_coefficients all (row ∷ rows) k equal (negsuc m ∷ ms) y e h =
     added (row_numbered all (suc k)) row (negsuc m) (weighted_sum all (listed (suc (suc k)) ms)) y at.0
     ∙ ap (λ t. negsuc m *ℤ product_of row.coefficients y +ℤ t) (weighted_coefficients all rows (suc k) equal ms y at.1 h.1)
 
-pub weighted_bound : (all rows : List Row) (k : ℕ) (equal : Bool) (ms : List ℤ) → drop k all ≡ rows → Signs equal rows ms → (weighted_sum all (listed (suc k) ms)).bound ≡ product_of ms (bounds_of rows)
+pub weighted_bound : (all rows : List Row) (k : ℕ) (equal : Bool) (ms : List ℤ) → drop k all ≡ rows → Signs equal rows ms
+    → (weighted_sum all (listed (suc k) ms)).bound ≡ product_of ms (bounds_of rows)
 unfolding listed
 weighted_bound all rows k equal [] e h = refl
 weighted_bound all [] k equal (m ∷ ms) e h = absurd h
@@ -115,7 +118,8 @@ divides_neg g (pos (suc m) ∷ ms) h = (h.0, divides_neg g ms h.1)
 divides_neg g (negsuc m ∷ ms) h = (h.0, divides_neg g ms h.1)
 
 -- A list is divided where its parts are.
-pub divides_parts : (g n : ℕ) (xs : List ℤ) → DivideAll g (take n xs) → g ∣ unsigned_abs (get_or xs n (pos 0)) → DivideAll g (drop (suc n) xs) → DivideAll g xs
+pub divides_parts : (g n : ℕ) (xs : List ℤ) → DivideAll g (take n xs) → g ∣ unsigned_abs (get_or xs n (pos 0)) → DivideAll g (drop (suc n) xs)
+    → DivideAll g xs
 divides_parts g n [] h b k = tt
 divides_parts g zero (x ∷ xs) h b k = (b, k)
 divides_parts g (suc n) (x ∷ xs) h b k = (h.0, divides_parts g n xs h.1 b k)
