@@ -45,5 +45,10 @@ worked :
     × (outcome_of (over_columns 1 (at_most (pos 2 ∷ []) (pos 5) ∷ [])) ≡ Point (pos 2 ∷ []) (pos 1))
     -- 0 <= -1
     × (outcome_of (over_columns 1 (at_most (pos 0 ∷ []) (neg_ℤ (pos 1)) ∷ [])) ≡ Refuted ((1, pos 1) ∷ []))
+    -- x + y <= 1 with -x <= -1 and -2y <= 1: y is 0, the least whole number from -1/2 on, and then x is 1
+    × (outcome_of (over_columns 2 (at_most (pos 1 ∷ pos 1 ∷ []) (pos 1) ∷ at_most (neg_ℤ (pos 1) ∷ pos 0 ∷ []) (neg_ℤ (pos 1)) ∷ at_most (pos 0 ∷ neg_ℤ (pos 2) ∷ []) (pos 1) ∷ []))
+    ≡ Point (pos 1 ∷ pos 0 ∷ []) (pos 1))
+    -- no columns, with 0 <= 0
+    × (outcome_of (over_columns 0 (at_most [] (pos 0) ∷ [])) ≡ Point [] (pos 1))
 unfolding outcome_within begun stages stage taken_out point_from tested equality_stage pair_stage pairs_at paired substituted without_equality every fraction bound_on bounds_from assigned set_column check_fits given_lines has_variable lowest_column lowest_of is_false refuting listed made_line gcd gcd_of over reduced
-worked = (refl, refl, refl, refl, refl, refl, refl, refl, refl)
+worked = (refl, refl, refl, refl, refl, refl, refl, refl, refl, refl, refl)

@@ -55,21 +55,27 @@ every (Some x ∷ xs) = option_map (λ ys. x ∷ ys) (every xs)
 
 -- Multipliers refute, where the check of the certificate keeps to numbers that fit.
 abbrev pub refuted : System → ℕ → List ℤ → Outcome
-refuted system stage ms = let pairs = listed 1 ms in cond (check_fits system.rows pairs) (Refuted pairs) (Leaves stage Overflow)
+refuted system number ms =
+    let pairs = listed 1 ms in
+    if check_fits system.rows pairs then Refuted pairs else Leaves number Overflow
 
 -- The first false line without a variable ends the work as refuted; the other lines without a variable are removed.
 abbrev pub tested_by : System → ℕ → Work → Option Line → Next
-tested_by system stage work (Some line) = Ends (refuted system stage (refuting system.columns line))
-tested_by system stage work None = Goes (record work { lines = filter (has_variable system.columns) work.lines })
+tested_by system number work (Some line) = Ends (refuted system number (refuting system.columns line))
+tested_by system number work None = Goes (record work { lines = filter (has_variable system.columns) work.lines })
 
 unfoldable pub tested : System → ℕ → Work → Next
-tested system stage work = tested_by system stage work (find (is_false system.columns) work.lines)
+tested system number work = tested_by system number work (find (is_false system.columns) work.lines)
 
 -- ---- a stage
 
+-- the number of the stage that begins
+abbrev pub stage_number : Work → ℕ
+stage_number work = suc (length work.kept)
+
 -- A stage keeps lines for its column and goes on with others; it leaves where one of those could not be made.
 abbrev pub follows : Work → Kept → ℕ → Option (List Line) → Next
-follows work kept made None = Ends (Leaves (suc (length work.kept)) Overflow)
+follows work kept made None = Ends (Leaves (stage_number work) Overflow)
 follows work kept made (Some lines) = Goes (record { lines = lines; kept = kept ∷ work.kept; made = made })
 
 -- ---- a stage with an equality
@@ -134,7 +140,7 @@ unfoldable pub pair_stage : System → Work → Next
 pair_stage system work =
     let c = lowest_of system.columns work.lines in
     let made = work.made + length (positives c work.lines) * length (negatives c work.lines) in
-    if are_too_many system made then Ends (Leaves (suc (length work.kept)) Rows) else
+    if are_too_many system made then Ends (Leaves (stage_number work) Rows) else
     (follows work (Bounded c (with_column c work.lines)) made (option_map (λ pairs. without_column c work.lines ++ pairs) (pairs_at c work.lines)))
 
 -- ---- the whole
@@ -157,8 +163,8 @@ stage system work = then_tested system (taken_out system work)
 
 -- The columns that stages took are set, the latest first. A number that does not fit is one of the column's stage.
 abbrev pub or_leaves : ℕ → (RationalPoint → Outcome) → Option RationalPoint → Outcome
-or_leaves stage more None = Leaves stage Overflow
-or_leaves stage more (Some point) = more point
+or_leaves number more None = Leaves number Overflow
+or_leaves number more (Some point) = more point
 
 unfoldable pub point_from : ℕ → List Kept → RationalPoint → Outcome
 point_from n [] point = Point point.numerators point.denominator

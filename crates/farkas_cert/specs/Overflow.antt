@@ -4,7 +4,7 @@ use Rattle.lin_rows.specs.Row.{Row, scaled, sum_of}
 use Rattle.farkas_cert.specs.Cert.{Pairs, row_numbered}
 use Rattle.farkas_cert.specs.Line.{all_fit}
 
--- m times the numbers of a row, bound first
+-- m times the numbers of a row, the bound first: where all have to fit, no order matters
 abbrev pub products_of : Option Row → ℤ → List ℤ
 products_of None m = []
 products_of (Some row) m = scaled m (row.bound ∷ row.coefficients)
