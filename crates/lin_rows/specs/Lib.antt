@@ -1,2 +1,6 @@
 pub mod Row
 pub mod System
+pub mod Gcd
+pub mod Atom
+pub mod Exact
+pub mod View

@@ -1,3 +1,11 @@
 //! Rows of linear constraints over whole numbers: lists of rows, atoms, normal forms and negations, exact
-//! over unbounded integers.
+//! over unbounded integers. The layers above learn that what they hold has one coefficient per column and
+//! numbers that fit, and at which whole points a row, its normal form and a negation hold.
 #![tactic(auto)]
+
+mod divisor;
+mod exact;
+mod row;
+
+pub use exact::{product_if_fits, sum_if_fits};
+pub use row::RowView;

@@ -1,0 +1,8 @@
+-- What stands for a row in a program.
+use Rattle.std.specs.Prelude.{map}
+use Rattle.lin_rows.specs.Row.{Row}
+use Rattle.lin_rows.specs.declared.row.RowView.{RowView}
+
+-- the row that is borrowed
+abbrev pub row_of : RowView → Row
+row_of view = record { equal = view.equal; coefficients = view.coefficients.now; bound = view.bound }
