@@ -1,2 +1,4 @@
 pub mod Integers
 pub mod Divisors
+pub mod Numbers
+pub mod Lists

@@ -3,4 +3,5 @@ pub mod System
 pub mod Gcd
 pub mod Atom
 pub mod Exact
+pub mod Stored
 pub mod View

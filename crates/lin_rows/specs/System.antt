@@ -1,11 +1,15 @@
 -- Systems: lists of rows over the same columns.
-use Rattle.std.specs.Prelude.{◌≡◌, ◌<◌, ◌-◌, ◌^◌, ◌<ℤ◌, ℕ, ℤ, pos, List, length}
+use Rattle.std.specs.Prelude.{◌≡◌, ◌<◌, ◌-◌, ◌^◌, ◌<ℤ◌, ℕ, ℤ, pos, List, [], ◌∷◌, ◌++◌, length}
 use Rattle.std.specs.List.{AllByRecursion}
 use Rattle.lin_rows.specs.Row.{Row, RowFits, Meets, MeetsOver}
 
 pub record System : Type 0 where
   pub columns : ℕ
   pub rows : List Row
+
+-- the system with one more row, at its end
+abbrev pub with_row : System → Row → System
+with_row system row = record system { rows = system.rows ++ row ∷ [] }
 
 -- The row has one coefficient per column, and its numbers fit.
 pub record IsRowOver (columns : ℕ) (row : Row) : Type 0 where

@@ -1,5 +1,4 @@
--- What stands for a row in a program.
-use Rattle.std.specs.Prelude.{map}
+-- What stands for rows in a program.
 use Rattle.lin_rows.specs.Row.{Row}
 use Rattle.lin_rows.specs.declared.row.RowView.{RowView}
 

@@ -6,6 +6,8 @@
 mod divisor;
 mod exact;
 mod row;
+mod rows;
 
 pub use exact::{product_if_fits, sum_if_fits};
 pub use row::RowView;
+pub use rows::{Rows, RowsView};
