@@ -16,8 +16,8 @@ pub record IsRowOver (columns : ℕ) (row : Row) : Type 0 where
   pub width : length row.coefficients ≡ columns
   pub fits : RowFits row
 
--- What is known of each system that a program holds.
-pub record IsHeld (system : System) : Type 0 where
+-- what is known of each system that a program holds.
+pub record IsWellFormed (system : System) : Type 0 where
   pub columns : system.columns < 2 ^ 32
   pub count : length system.rows < 2 ^ 32 - 1
   pub rows : AllByRecursion (IsRowOver system.columns) system.rows

@@ -3,11 +3,15 @@
 //! numbers that fit, and at which whole points a row, its normal form and a negation hold.
 #![tactic(auto)]
 
+mod atom;
 mod divisor;
 mod exact;
+mod normal_form;
 mod row;
 mod rows;
 
+pub use atom::{Atom, negate};
 pub use exact::{product_if_fits, sum_if_fits};
+pub use normal_form::{NormalForm, NormalStop, normal};
 pub use row::RowView;
 pub use rows::{Rows, RowsView};

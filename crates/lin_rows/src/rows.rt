@@ -2,7 +2,7 @@ ghost use Rattle.std.specs.Prelude.{◌≡◌, ◌+◌, ◌-◌, ◌^◌, ◌<�
 ghost use Rattle.std.specs.List.{AllByRecursion};
 ghost use Rattle.thr_base.specs.Number.{Fits};
 ghost use Rattle.lin_rows.specs.Row.{Row};
-ghost use Rattle.lin_rows.specs.System.{IsHeld, IsRowOver, with_row};
+ghost use Rattle.lin_rows.specs.System.{IsWellFormed, IsRowOver, with_row};
 ghost use Rattle.lin_rows.specs.View.{row_of};
 
 use std::alloc::{AllocError, Global};
@@ -25,7 +25,7 @@ pub struct Rows {
 }
 
 impl Model for Rows {
-    ghost use Rattle.lin_rows.specs.System.{System, IsHeld};
+    ghost use Rattle.lin_rows.specs.System.{System, IsWellFormed};
 
     ghost Value = { System };
 
@@ -33,7 +33,7 @@ impl Model for Rows {
 
     ghost view = { λ inside. stored_system inside.columns inside.rows.items };
 
-    ghost invariant = { λ inside. IsHeld (stored_system inside.columns inside.rows.items) };
+    ghost invariant = { λ inside. IsWellFormed (stored_system inside.columns inside.rows.items) };
 }
 
 /// A system of rows, borrowed.
@@ -44,7 +44,7 @@ pub struct RowsView<'a> {
 }
 
 impl<'a> Model for RowsView<'a> {
-    ghost use Rattle.lin_rows.specs.System.{System, IsHeld};
+    ghost use Rattle.lin_rows.specs.System.{System, IsWellFormed};
 
     ghost Value = { System };
 
@@ -52,7 +52,7 @@ impl<'a> Model for RowsView<'a> {
 
     ghost view = { λ inside. stored_system inside.columns inside.rows.now };
 
-    ghost invariant = { λ inside. IsHeld (stored_system inside.columns inside.rows.now) };
+    ghost invariant = { λ inside. IsWellFormed (stored_system inside.columns inside.rows.now) };
 }
 
 impl Rows {
@@ -104,7 +104,7 @@ impl RowsView<'_> {
     /// The number of rows.
     pub fn count(&self) -> u32
         ensures count { result ≡ length self.now.rows }
-        ensures held { IsHeld self.now }
+        ensures well_formed { IsWellFormed self.now }
     {
         self.rows.len() as u32
     }
