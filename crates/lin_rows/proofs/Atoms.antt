@@ -1,7 +1,6 @@
 -- Inequalities, their normal forms and negations, at whole points.
-use Rattle.std.proofs.Common.{◌≡◌, ◌≢◌, ◌↔◌, ℕ, zero, suc, ◌+◌, ◌<◌, ◌^◌, ◌-◌, List, [], ◌∷◌, map, Bool, true, false, MatchBool, ℤ, pos, negsuc, ◌+ℤ◌, ◌-ℤ◌, ◌*ℤ◌, neg_ℤ, ◌≤ℤ◌, ◌<ℤ◌, Ok, refl, sym, ◌∙◌, ap, ap₂, subst, arith, mod-lt, lit<}
+use Rattle.std.proofs.Common.{◌≡◌, ◌≢◌, ◌↔◌, ℕ, ◌+◌, ◌<◌, ◌^◌, List, [], ◌∷◌, map, Bool, false, MatchBool, ℤ, pos, negsuc, ◌+ℤ◌, ◌-ℤ◌, ◌*ℤ◌, neg_ℤ, ◌≤ℤ◌, ◌<ℤ◌, Ok, refl, sym, ◌∙◌, ap, ap₂, subst, arith, mod-lt}
 use Rattle.std.specs.Int.{int_div_euclid, int_rem_euclid}
-use Rattle.std.specs.List.{AllByRecursion}
 use Rattle.std.proofs.lemmas.Int.{ints, by_lt_z}
 use Rattle.thr_base.specs.Number.{Fits}
 use Rattle.lin_rows.specs.Row.{Row, RowFits, Meets, product_of, scaled}
@@ -11,7 +10,7 @@ use Rattle.lin_rows.specs.Normal.{reduced, IsConstant, HoldsAlike, IsConstantFor
 use Rattle.lin_rows.specs.declared.normal_form.NormalForm.{NormalForm}
 use Rattle.lin_rows.specs.declared.normal_form.NormalForm.TheVariants.{Always, Never, Atom}
 use borrow.Author.Differences.{up, down}
-use Rattle.lin_rows.proofs.Integers.{mul-le-mul_ℤ, le_of_mul-le-mul_ℤ, quotient-remainder, mul-add_ℤ}
+use Rattle.lin_rows.proofs.Integers.{mul-le-mul_ℤ, quotient-remainder, mul-add_ℤ}
 use Rattle.lin_rows.proofs.Divisors.{gcd_of-divides, gcd_of-quotients, gcd_of-neg, DividesAll, exact_quotient, quotients, AllZero-from_gcd_of, gcd_of-AllZero}
 use Rattle.lin_rows.proofs.Numbers.{Fits-int_div_euclid, Fits-neg, Fits-in, Fits-out}
 use Rattle.lin_rows.proofs.Lists.{AllByRecursion-map}
@@ -36,11 +35,12 @@ le-floor g p b h =
     let whole = quotient-remainder b g h in
     let rest = remainder-range b g h in
     let over : (q <ℤ p) → ((pos g *ℤ p) ≤ℤ b) → ⊥ = λ lt le.
-      let step = mul-le-mul_ℤ (pos g) (q +ℤ pos 1) p (omega (arith, ints)) (omega (arith, ints)) in
-      let parts = mul-add_ℤ (pos g) q (pos 1) in
-      omega (arith, ints, whole, rest.0, rest.1, step, ap up parts, ap down parts, le) in
-    (λ le. by_lt_z q p (λ lt. absurd (over lt le)) (λ le'. le'),
-     λ le. let step = mul-le-mul_ℤ (pos g) p q (omega (arith, ints)) le in omega (arith, ints, whole, rest.0, step))
+    let step = mul-le-mul_ℤ (pos g) (q +ℤ pos 1) p (omega (arith, ints)) (omega (arith, ints)) in
+    let parts = mul-add_ℤ (pos g) q (pos 1) in
+    omega (arith, ints, whole, rest.0, rest.1, step, ap up parts, ap down parts, le) in (
+      λ le. by_lt_z q p (λ lt. absurd (over lt le)) (λ le'. le'),
+      λ le. let step = mul-le-mul_ℤ (pos g) p q (omega (arith, ints)) le in omega (arith, ints, whole, rest.0, step),
+    )
 
 -- ---- the normal form
 scaled-quotients : (g : ℕ) (xs : List ℤ) → 0 < g → DividesAll g xs → scaled (pos g) (quotients g xs) ≡ xs
@@ -109,22 +109,24 @@ has_room-bound_below b fits e = omega (arith, ints, Fits-out b fits, e)
 
 pub IsAtom-negation : (row : Row) → IsAtom row → IsAtom (negation row)
 IsAtom-negation row atom = record {
-    no_equality = refl;
-    reduced = gcd_of-neg row.coefficients ∙ atom.reduced;
-    fits = record {
-      coefficients = AllByRecursion-map Fits Fits neg_ℤ Fits-neg row.coefficients atom.fits.coefficients;
-      bound = Fits-bound_below row.bound atom.fits.bound atom.has_room;
-    };
-    has_room = has_room-bound_below row.bound atom.fits.bound;
-  }
+  no_equality = refl;
+  reduced = gcd_of-neg row.coefficients ∙ atom.reduced;
+  fits = record {
+    coefficients = AllByRecursion-map Fits Fits neg_ℤ Fits-neg row.coefficients atom.fits.coefficients;
+    bound = Fits-bound_below row.bound atom.fits.bound atom.has_room;
+  };
+  has_room = has_room-bound_below row.bound atom.fits.bound;
+}
+
 pub Meets-negation : (row : Row) (z : List ℤ) → row.equal ≡ false → Meets (negation row) z ↔ (¬ Meets row z)
 Meets-negation row z e =
     let open_row = Meets-inequality row z e in
     let p = product_of row.coefficients z in
     let same = product_of-neg row.coefficients z in
-    let P : ℤ → Type 0 = λ v. v ≤ℤ (neg_ℤ row.bound -ℤ pos 1) in
-    (λ meets holds. omega (arith, ints, subst P same meets, open_row.0 holds),
-     λ fails. subst P (sym same) (by_lt_z row.bound p (λ lt. omega (arith, ints, lt)) (λ le. absurd (fails (open_row.1 le)))))
+    let P : ℤ → Type 0 = λ v. v ≤ℤ (neg_ℤ row.bound -ℤ pos 1) in (
+      λ meets holds. omega (arith, ints, subst P same meets, open_row.0 holds),
+      λ fails. subst P (sym same) (by_lt_z row.bound p (λ lt. omega (arith, ints, lt)) (λ le. absurd (fails (open_row.1 le)))),
+    )
 
 -- an inequality with the parts of a negation
 pub negation-parts : (row : Row) (xs : List ℤ) (b : ℤ) → xs ≡ map neg_ℤ row.coefficients → b ≡ neg_ℤ row.bound -ℤ pos 1 → inequality xs b ≡ negation row

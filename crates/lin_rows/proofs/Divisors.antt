@@ -1,5 +1,5 @@
 -- The greatest common divisor, by Euclid's steps.
-use Rattle.std.proofs.Common.{◌≡◌, ℕ, zero, suc, ◌+◌, ◌*◌, ◌/◌, ◌%◌, ◌≤◌, ◌<◌, List, [], ◌∷◌, map, fold, ℤ, pos, negsuc, neg_ℤ, ◌*ℤ◌, unsigned_abs, refl, sym, ◌∙◌, ap, subst, arith, mod-lt, le_refl, suc-ne-zero, mul-one, mul-le-mul_left, ◌^◌, lit<}
+use Rattle.std.proofs.Common.{◌≡◌, ℕ, zero, suc, ◌*◌, ◌/◌, ◌%◌, ◌≤◌, ◌<◌, List, [], ◌∷◌, map, fold, ℤ, pos, negsuc, neg_ℤ, ◌*ℤ◌, unsigned_abs, refl, sym, ◌∙◌, ap, subst, arith, mod-lt, le_refl, suc-ne-zero, mul-one, mul-le-mul_left, ◌^◌, lit<}
 use Rattle.std.specs.Int.{IsGcd, ◌∣◌, int_div_euclid}
 use Rattle.std.specs.List.{AllByRecursion}
 use Rattle.std.proofs.lemmas.Nat.Gcd.{IsGcd-from_zero, IsGcd-from_mod, dvd_refl, dvd_trans, dvd-zero, mod-eq-zero_of_dvd}

@@ -1,5 +1,5 @@
 -- Laws of sums, products and orders of integers, which the crates above cite too.
-use Rattle.std.proofs.Common.{◌≡◌, ℕ, zero, suc, ◌+◌, ◌*◌, ◌/◌, ◌%◌, ◌≤◌, ◌<◌, ℤ, pos, negsuc, ◌+ℤ◌, ◌-ℤ◌, ◌*ℤ◌, neg_ℤ, ◌≤ℤ◌, ◌<ℤ◌, arith, refl, sym, ◌∙◌, ap, mul-le-mul_left, mod-lt}
+use Rattle.std.proofs.Common.{◌≡◌, ℕ, ◌+◌, ◌*◌, ◌≤◌, ◌<◌, ℤ, pos, negsuc, ◌+ℤ◌, ◌*ℤ◌, neg_ℤ, ◌≤ℤ◌, ◌<ℤ◌, arith, refl, ◌∙◌, ap, mul-le-mul_left, mod-lt}
 use Rattle.std.specs.Int.{int_div_euclid, int_rem_euclid}
 use Rattle.std.proofs.Math.Nat.{div-add-mod}
 use Rattle.std.proofs.lemmas.Int.{ints, by_lt_z}
@@ -26,6 +26,7 @@ mul-neg_ℤ a b = omega (arith, ints, ap (λ n. up a * n) (neg_is_up b), ap (λ 
   where
     neg_is_up : (b : ℤ) → up (neg_ℤ b) ≡ down b
     neg_is_up b = omega (arith, ints)
+
     neg_is_down : (b : ℤ) → down (neg_ℤ b) ≡ up b
     neg_is_down b = omega (arith, ints)
 

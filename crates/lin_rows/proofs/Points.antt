@@ -1,5 +1,5 @@
 -- Products of lists with points.
-use Rattle.std.proofs.Common.{◌≡◌, ℕ, zero, suc, ◌<◌, List, [], ◌∷◌, map, ℤ, pos, ◌+ℤ◌, ◌-ℤ◌, ◌*ℤ◌, neg_ℤ, refl, sym, ◌∙◌, ap, ap₂, arith}
+use Rattle.std.proofs.Common.{◌≡◌, List, [], ◌∷◌, map, ℤ, pos, ◌+ℤ◌, ◌*ℤ◌, neg_ℤ, refl, sym, ◌∙◌, ap, ap₂, arith}
 use Rattle.std.proofs.lemmas.Int.{ints}
 use Rattle.lin_rows.specs.Row.{product_of, scaled, sum_of}
 use Rattle.lin_rows.proofs.Integers.{mul_assoc_ℤ, mul-add_ℤ, add-mul_ℤ, neg-mul_ℤ, zero-mul_ℤ, mul-zero_ℤ}

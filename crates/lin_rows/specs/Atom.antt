@@ -1,7 +1,5 @@
 -- Atoms: inequalities in their one form, and the negation of one.
 use Rattle.std.specs.Prelude.{◌≡◌, ◌≢◌, ◌-◌, ◌^◌, List, ℤ, pos, ◌-ℤ◌, neg_ℤ, false, map}
-use Rattle.std.specs.List.{AllByRecursion}
-use Rattle.thr_base.specs.Number.{Fits}
 use Rattle.lin_rows.specs.Row.{Row, RowFits}
 use Rattle.lin_rows.specs.Gcd.{gcd_of}
 

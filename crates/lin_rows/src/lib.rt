@@ -15,3 +15,6 @@ pub use exact::{product_if_fits, sum_if_fits};
 pub use normal_form::{NormalForm, NormalStop, normal};
 pub use row::RowView;
 pub use rows::{Rows, RowsView};
+
+#[cfg(test)]
+mod tests;

@@ -4,11 +4,10 @@ ghost use Rattle.lin_rows.specs.Row.{RowFits};
 ghost use Rattle.lin_rows.specs.View.{row_of};
 ghost use Rattle.lin_rows.specs.Normal.{IsNormalForm, HoldsAlike, IsConstantForm};
 
-use std::alloc::{AllocError, Global};
-
 use crate::atom::Atom;
 use crate::divisor::{divisor_of, floor_of};
 use crate::row::RowView;
+use std::alloc::{AllocError, Global};
 
 /// What an inequality says: nothing, what never holds, or an atom.
 #[derive(Debug, Drop)]

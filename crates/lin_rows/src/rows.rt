@@ -5,10 +5,9 @@ ghost use Rattle.lin_rows.specs.Row.{Row};
 ghost use Rattle.lin_rows.specs.System.{IsWellFormed, IsRowOver, with_row};
 ghost use Rattle.lin_rows.specs.View.{row_of};
 
+use crate::row::RowView;
 use std::alloc::{AllocError, Global};
 use std::marker::Model;
-
-use crate::row::RowView;
 
 #[derive(Debug, Drop)]
 struct StoredRow {
@@ -66,7 +65,12 @@ impl Rows {
     }
 
     /// Appends a row.
-    pub fn push(&mut self, equal: bool, coefficients: &[i128], bound: i128) -> Result<(), AllocError>
+    pub fn push(
+        &mut self,
+        equal: bool,
+        coefficients: &[i128],
+        bound: i128,
+    ) -> Result<(), AllocError>
         requires width { length coefficients.now ≡ self.old.columns }
         requires coefficients { AllByRecursion Fits coefficients.now }
         requires bound { Fits bound }

@@ -1,8 +1,8 @@
-use Rattle.std.proofs.Common.{◌≡◌, ◌↔◌, ℤ, map, pos, ◌-ℤ◌, neg_ℤ, sym, subst, ap, ◌∙◌, to_z, of_z, arith}
+use Rattle.std.proofs.Common.{◌≡◌, ◌↔◌, map, pos, ◌-ℤ◌, neg_ℤ, sym, subst, ap, ◌∙◌, to_z, of_z, arith}
 use Rattle.std.proofs.lemmas.Int.{ints}
 use Rattle.std.specs.Int.{w128}
 use Rattle.lin_rows.specs.Row.{Row, Meets}
-use Rattle.lin_rows.specs.Atom.{IsAtom, inequality, negation}
+use Rattle.lin_rows.specs.Atom.{IsAtom, negation}
 use Rattle.lin_rows.proofs.Atoms.{IsAtom-negation, Meets-negation, negation-parts}
 use Rattle.lin_rows.proofs.atom.negate.Goals as goal
 

@@ -1,13 +1,11 @@
-use Rattle.std.proofs.Common.{◌≡◌, ◌≢◌, ◌↔◌, ℕ, zero, suc, ◌<◌, ◌^◌, ℤ, pos, List, sym, subst, ap, ap₂, map, ◌∙◌, SFits, to_z, of_z, to_z-of_z, Ok, arith}
-use Rattle.std.proofs.lemmas.Int.{ints}
+use Rattle.std.proofs.Common.{◌≡◌, ◌≢◌, ◌↔◌, ℕ, zero, suc, ◌<◌, ◌^◌, ℤ, pos, List, sym, subst, ap, ap₂, map, ◌∙◌, to_z, of_z, to_z-of_z, arith}
 use Rattle.std.specs.Int.{w128, int_div_euclid}
 use lib.Signed.{mag}
 use Rattle.lin_rows.specs.Row.{Row, RowFits, Meets}
 use Rattle.lin_rows.specs.View.{row_of}
 use Rattle.lin_rows.specs.Gcd.{gcd_of}
 use Rattle.lin_rows.specs.Atom.{IsAtom, inequality, greatest}
-use Rattle.lin_rows.specs.Normal.{reduced, IsConstant}
-use Rattle.lin_rows.proofs.Divisors.{quotients}
+use Rattle.lin_rows.specs.Normal.{reduced}
 use Rattle.lin_rows.proofs.Numbers.{read_back}
 use Rattle.lin_rows.proofs.Atoms.{IsAtom-reduced, Meets-reduced, reduced-parts, IsConstant-from_gcd_of, gcd_of-positive, HoldsAlike-constant, IsNormalForm-constant}
 use Rattle.lin_rows.proofs.normal_form.normal.Goals as goal
