@@ -1,1 +1,4 @@
 pub mod Cert
+pub mod Proof
+pub mod Point
+pub mod Columns

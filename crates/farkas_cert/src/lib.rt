@@ -1,3 +1,6 @@
 //! Evidence about systems of rows: a certificate that refutes one, or a rational point of it, and checks of
-//! both that run no solver.
+//! both that run no solver and take no memory. The layers above learn that what is proved is refuted, and
+//! that what is refuted has no point.
 #![tactic(auto)]
+
+mod named_rows;
