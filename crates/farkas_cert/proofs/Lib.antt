@@ -1,1 +1,3 @@
 pub mod NamedRowsLemmas
+pub mod ColumnSums
+pub mod Overflows

@@ -1,6 +1,7 @@
 -- How the checks go over the rows that a certificate can name: column by column, since that takes no memory.
-use Rattle.std.specs.Prelude.{◌≡◌, ℕ, ℤ, pos, ◌+ℤ◌, ◌<ℤ◌, List, [], ◌∷◌, Bool, true, false, ◌&&◌, Option, Some, None, Result, Ok, Err, length, slice_index_or, nat_lt, int_lt, if◌then◌else◌}
-use Rattle.std.specs.Option.{option_map_or, ForSome}
+use Rattle.std.specs.Prelude.{◌≡◌, ℕ, ℤ, pos, ◌+ℤ◌, List, [], ◌∷◌, ◌&&◌, Option, Some, None, Result, Ok, Err, length, slice_index_or, nat_lt, if◌then◌else◌}
+use Rattle.std.specs.Option.{option_map_or}
+use Rattle.std.specs.List.{AllByRecursion}
 use Rattle.thr_base.specs.Number.{fits}
 use Rattle.lin_rows.specs.Row.{Row}
 use Rattle.lin_rows.specs.System.{System}
@@ -10,6 +11,10 @@ use Rattle.farkas_cert.specs.Proof.{numbers_of, denying}
 abbrev pub perhaps_denying : System → Option Row → System
 perhaps_denying system None = system
 perhaps_denying system (Some atom) = denying system atom
+
+-- Each row has one coefficient per column.
+abbrev pub HasWidths : System → Type 0
+HasWidths system = AllByRecursion (λ row. length row.coefficients ≡ system.columns) system.rows
 
 -- a number of a row, the bound as the last
 abbrev pub number_at : Option Row → ℕ → ℤ

@@ -1,4 +1,6 @@
 pub mod Cert
 pub mod Proof
 pub mod Point
+pub mod Answer
 pub mod Columns
+pub mod Weighing

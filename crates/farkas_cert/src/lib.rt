@@ -3,4 +3,6 @@
 //! that what is refuted has no point.
 #![tactic(auto)]
 
+mod answers;
+mod columns;
 mod named_rows;

@@ -3,7 +3,7 @@ ghost use Rattle.lin_rows.specs.View.{row_of};
 ghost use Rattle.lin_rows.specs.Atom.{negation};
 ghost use Rattle.farkas_cert.specs.Cert.{AllowsAt, row_numbered};
 ghost use Rattle.farkas_cert.specs.Proof.{denying};
-ghost use Rattle.farkas_cert.specs.Columns.{number_at};
+ghost use Rattle.farkas_cert.specs.Columns.{number_at, HasWidths};
 
 use lin_rows::{Atom, RowView, RowsView};
 use std::marker::Model;
@@ -44,7 +44,8 @@ impl<'a> NamedRows<'a> {
     }
 
     pub fn columns(&self) -> u32
-        ensures { result ≡ self.now.columns }
+        ensures columns { result ≡ self.now.columns }
+        ensures widths { HasWidths self.now }
     {
         self.rows.columns()
     }

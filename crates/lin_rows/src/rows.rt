@@ -100,7 +100,8 @@ impl Rows {
 
 impl RowsView<'_> {
     pub fn columns(&self) -> u32
-        ensures { result ≡ self.now.columns }
+        ensures columns { result ≡ self.now.columns }
+        ensures well_formed { IsWellFormed self.now }
     {
         self.columns
     }
