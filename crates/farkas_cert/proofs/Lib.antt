@@ -1,3 +1,4 @@
 pub mod NamedRowsLemmas
 pub mod ColumnSums
 pub mod Overflows
+pub mod Totals

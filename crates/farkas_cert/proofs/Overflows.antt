@@ -19,7 +19,7 @@ get_or-sum_of (x ∷ xs) [] n = omega (arith, ints)
 get_or-sum_of (x ∷ xs) (y ∷ ys) zero = refl
 get_or-sum_of (x ∷ xs) (y ∷ ys) (suc n) = get_or-sum_of xs ys n
 
-take-nil : (n : ℕ) → take {A = ℤ} n [] ≡ []
+pub take-nil : (n : ℕ) → take {A = ℤ} n [] ≡ []
 take-nil zero = refl
 take-nil (suc n) = refl
 
