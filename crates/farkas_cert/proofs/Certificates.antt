@@ -1,18 +1,20 @@
 -- The certificate with which the elimination ends refutes the system, and is reduced.
 use Rattle.std.proofs.Common.{◌≡◌, ℕ, zero, suc, ◌+◌, ◌*◌, refl, arith, subst, List, [], ◌∷◌, ◌++◌, map, length, Bool, true, false, cond, Some, None, Option}
-use Rattle.std.specs.Prelude.{ℤ, pos, negsuc, neg_ℤ, ◌≤ℤ◌, ◌*ℤ◌, ⊤, unsigned_abs, find, filter, int_lt, not, flat_map, replicate}
+use Rattle.std.specs.Prelude.{is_none, ℤ, pos, negsuc, neg_ℤ, ◌≤ℤ◌, ◌*ℤ◌, ⊤, unsigned_abs, find, filter, int_lt, not, flat_map, replicate}
 use Rattle.std.specs.Option.{option_map}
 use Rattle.std.proofs.lemmas.Int.{ints}
 use Rattle.std.specs.Int.{int_signum}
 use Rattle.std.specs.List.{AllByRecursion}
 use Rattle.lin_rows.specs.System.{System}
-use Rattle.farkas_cert.specs.Cert.{Refutes, Pairs}
+use Rattle.farkas_cert.specs.Cert.{Pairs}
 use Rattle.farkas_cert.specs.Reduced.{IsReduced}
-use Rattle.farkas_cert.specs.Divisor.{gcd, over}
+use Rattle.lin_rows.specs.Gcd.{gcd}
+use Rattle.farkas_cert.specs.Divided.{over}
 use Rattle.farkas_cert.specs.Line.{Line, coefficient_at, given_lines, is_false, has_variable, refuting, listed, is_nonzero, made_line, lowest_column, lowest_of}
-use Rattle.farkas_cert.specs.Overflow.{check_fits}
+use Rattle.farkas_cert.specs.Columns.{HasWidths}
+use Rattle.farkas_cert.specs.Proof.{Proves, overflow_of}
 use Rattle.farkas_cert.specs.BackSubstitution.{RationalPoint, Kept, Solved, Bounded, set_column}
-use Rattle.farkas_cert.specs.Elimination.{IsRectangular, Outcome, Refuted, Point, Leaves, Overflow, Rows, Work, Next, Goes, Ends, every, refuted, tested, tested_by, follows, without_equality, substituted, equality_stage, paired, positives, negatives, with_column, without_column, pairs_at, are_too_many, pair_stage, taken_out, taken_out_by, stage, then_tested, point_from, or_leaves, or_ends, goes_on, stages, begun, outcome_of, outcome_within}
+use Rattle.farkas_cert.specs.Elimination.{Outcome, Refuted, Point, Leaves, Overflow, Rows, Work, Next, Goes, Ends, every, refuted, tested, tested_by, follows, without_equality, substituted, equality_stage, paired, positives, negatives, with_column, without_column, pairs_at, are_too_many, pair_stage, taken_out, taken_out_by, stage, then_tested, point_from, or_leaves, or_ends, goes_on, stages, begun, outcome_of, outcome_within}
 use Rattle.farkas_cert.proofs.Integers.{linear}
 use Rattle.farkas_cert.proofs.Derived.{IsDerived, derived_by_equality, derived_by_pair}
 use Rattle.farkas_cert.proofs.Lists.{all_filter, all_append, all_map, all_flat_map, found, all_every, filter_all, all_both}
@@ -23,7 +25,7 @@ AllDerived system lines = AllByRecursion (IsDerived system) lines
 
 -- what is shown of each outcome
 abbrev pub IsSound : System → Outcome → Type 0
-IsSound system (Refuted pairs) = Refutes system pairs × IsReduced pairs × (check_fits system.rows pairs ≡ true)
+IsSound system (Refuted pairs) = Proves system pairs × IsReduced pairs
 IsSound system (Point x d) = ⊤
 IsSound system (Leaves stage kind) = ⊤
 
@@ -34,10 +36,10 @@ IsSoundNext system (Ends outcome) = IsSound system outcome
 -- ---- the constant test
 
 sound_refuted : (system : System) (number : ℕ) (ms : List ℤ) → IsProvedBy system ms → IsSound system (refuted system number ms)
-sound_refuted system number ms h = by_fit (check_fits system.rows (listed 1 ms)) refl where
-  by_fit : (b : Bool) → check_fits system.rows (listed 1 ms) ≡ b → IsSound system (cond b (Refuted (listed 1 ms)) (Leaves number Overflow))
-  by_fit true e = (h.0, h.1, e)
-  by_fit false e = tt
+sound_refuted system number ms h = by_fit (overflow_of system.rows (listed 1 ms)) refl where
+  by_fit : (o : Option (ℕ × ℕ)) → overflow_of system.rows (listed 1 ms) ≡ o → IsSound system (cond (is_none o) (Refuted (listed 1 ms)) (Leaves number Overflow))
+  by_fit None e = (record { refutes = h.0; fits = e }, h.1)
+  by_fit (Some place) e = tt
 
 tested_sound : (system : System) (number : ℕ) (work : Work) → AllDerived system work.lines → IsSoundNext system (tested system number work)
 unfolding tested
@@ -51,7 +53,6 @@ tested_sound system number work h = by_found (find (is_false system.columns) wor
 -- ---- the stages
 
 over_not_negative : (g : ℕ) (x : ℤ) → pos 0 ≤ℤ x → pos 0 ≤ℤ over g x
-unfolding over
 over_not_negative g (pos n) h = omega (arith, linear)
 over_not_negative g (negsuc n) h = absurd (omega (arith, linear))
 
@@ -201,12 +202,12 @@ unfolding stages
 stages_sound zero system work h = point_sound system system.columns work.kept (record { numerators = replicate system.columns (pos 0); denominator = pos 1 })
 stages_sound (suc fuel) system work h = goes_on_sound system work (stages fuel system) work.lines (stages_sound fuel system) h
 
-pub outcome_sound : (fuel : ℕ) (system : System) → IsRectangular system → IsSound system (outcome_within fuel system)
+pub outcome_sound : (fuel : ℕ) (system : System) → HasWidths system → IsSound system (outcome_within fuel system)
 unfolding outcome_within begun
 outcome_sound fuel system w =
     or_ends_sound system (stages fuel system) (begun system) (stages_sound fuel system)
     (tested_sound system 0 (record { lines = given_lines (length system.rows) 0 system.rows; kept = []; made = 0 }) (all_given_derived system 0 system.rows refl w))
 
-pub certificate_is_sound : (system : System) (pairs : Pairs) → IsRectangular system → outcome_of system ≡ Refuted pairs
+pub certificate_is_sound : (system : System) (pairs : Pairs) → HasWidths system → outcome_of system ≡ Refuted pairs
     → IsSound system (Refuted pairs)
 certificate_is_sound system pairs w e = subst (λ (o : Outcome). IsSound system o) e (outcome_sound system.columns system w)

@@ -1,69 +1,52 @@
--- Euclid's algorithm gives the greatest common divisor, and division by it is exact.
-use Rattle.std.proofs.Common.{◌≡◌, ℕ, zero, suc, ◌/◌, ◌%◌, ◌<◌, refl, ap, ◌∙◌, arith, List, [], ◌∷◌, map}
-use Rattle.std.specs.Prelude.{ℤ, pos, negsuc, neg_ℤ, ◌*ℤ◌, unsigned_abs, fold}
+-- Division by a common divisor is exact.
+use Rattle.std.proofs.Common.{◌≡◌, ℕ, zero, suc, ◌%◌, ◌<◌, ◌≤◌, refl, sym, ap, ◌∙◌, arith, List, [], ◌∷◌, map}
+use Rattle.std.specs.Prelude.{ℤ, pos, negsuc, ◌*ℤ◌, unsigned_abs}
 use Rattle.std.specs.Int.{IsGcd, ◌∣◌}
-use Rattle.std.specs.List.{AllByRecursion}
 use Rattle.std.proofs.lemmas.Nat.{mod_below}
-use Rattle.std.proofs.lemmas.Nat.Gcd.{IsGcd-from_zero, IsGcd-from_mod, dvd_refl, dvd_trans, dvd-zero}
-use Rattle.std.proofs.Math.Nat.{mul-div_cancel', eq-zero_of_zero-dvd}
-use Rattle.farkas_cert.specs.Divisor.{euclid, gcd, gcd_of, over, reduced}
-use Rattle.farkas_cert.proofs.Integers.{mul_neg}
+use Rattle.std.proofs.lemmas.Nat.Gcd.{IsGcd-from_zero, IsGcd-from_mod}
+use Rattle.std.proofs.Math.Nat.{eq-zero_of_zero-dvd}
+use Rattle.lin_rows.specs.Gcd.{gcd_within, gcd, gcd_of}
+use Rattle.lin_rows.proofs.Divisors.{DividesAll, AllZero, AllZero-from_gcd_of, gcd_of-divides, exact_quotient}
+use Rattle.farkas_cert.specs.Divided.{over, divided}
+use Rattle.lin_rows.proofs.Integers.{zero-mul_ℤ}
 
-pub euclid-IsGcd : (fuel a b : ℕ) → b < fuel → IsGcd a b (euclid fuel a b)
-euclid-IsGcd zero a b h = absurd (omega arith)
-euclid-IsGcd (suc fuel) a zero h = IsGcd-from_zero a zero refl
-euclid-IsGcd (suc fuel) a (suc b) h =
+gcd_within-IsGcd : (fuel a b : ℕ) → b ≤ fuel → IsGcd a b (gcd_within fuel a b)
+gcd_within-IsGcd zero a b h = IsGcd-from_zero a b (omega arith)
+gcd_within-IsGcd (suc fuel) a zero h = IsGcd-from_zero a zero refl
+gcd_within-IsGcd (suc fuel) a (suc b) h =
     let falls : a % suc b < suc b = mod_below a (suc b) (omega arith) in
-    IsGcd-from_mod a (suc b) (euclid fuel (suc b) (a % suc b)) (euclid-IsGcd fuel (suc b) (a % suc b) (omega arith))
+    IsGcd-from_mod a (suc b) (gcd_within fuel (suc b) (a % suc b)) (gcd_within-IsGcd fuel (suc b) (a % suc b) (omega arith))
 
 pub gcd-IsGcd : (a b : ℕ) → IsGcd a b (gcd a b)
-unfolding gcd
-gcd-IsGcd a b = euclid-IsGcd (suc b) a b (omega arith)
+gcd-IsGcd a b = gcd_within-IsGcd b a b (omega arith)
 
-abbrev pub DivideAll : ℕ → List ℤ → Type 0
-DivideAll d xs = AllByRecursion (λ x. d ∣ unsigned_abs x) xs
-
-folded_divides : (g : ℕ) (xs : List ℤ) → (fold (λ g x. gcd g (unsigned_abs x)) g xs ∣ g) × DivideAll (fold (λ g x. gcd g (unsigned_abs x)) g xs) xs
-folded_divides g [] = (dvd_refl g, tt)
-folded_divides g (x ∷ xs) =
-    let r = fold (λ g x. gcd g (unsigned_abs x)) (gcd g (unsigned_abs x)) xs in
-    let rest = folded_divides (gcd g (unsigned_abs x)) xs in
-    let here = gcd-IsGcd g (unsigned_abs x) in
-    (dvd_trans r rest.0 here.0, (dvd_trans r rest.0 here.1, rest.1))
-
-folded_greatest : (d g : ℕ) (xs : List ℤ) → d ∣ g → DivideAll d xs → d ∣ fold (λ g x. gcd g (unsigned_abs x)) g xs
-folded_greatest d g [] h k = h
-folded_greatest d g (x ∷ xs) h k = folded_greatest d (gcd g (unsigned_abs x)) xs ((gcd-IsGcd g (unsigned_abs x)).2 d h k.0) k.1
-
-pub gcd_of-divides : (xs : List ℤ) → DivideAll (gcd_of xs) xs
-unfolding gcd_of
-gcd_of-divides xs = (folded_divides 0 xs).1
-
-pub gcd_of-greatest : (d : ℕ) (xs : List ℤ) → DivideAll d xs → d ∣ gcd_of xs
-unfolding gcd_of
-gcd_of-greatest d xs h = folded_greatest d 0 xs (dvd-zero d) h
+zero_divides : (x : ℤ) → 0 ∣ unsigned_abs x → x ≡ pos 0
+zero_divides (pos n) h = ap pos (eq-zero_of_zero-dvd h)
+zero_divides (negsuc n) h = let z = eq-zero_of_zero-dvd h in absurd (omega arith)
 
 pub over-exact : (g : ℕ) (x : ℤ) → g ∣ unsigned_abs x → pos g *ℤ over g x ≡ x
-unfolding over
-over-exact g (pos n) h = ap pos (mul-div_cancel' g h)
-over-exact g (negsuc n) h = mul_neg (pos g) (pos (suc n / g)) ∙ ap (λ k. neg_ℤ (pos k)) (mul-div_cancel' g h)
+over-exact zero x h = zero-mul_ℤ (over 0 x) ∙ sym (zero_divides x h)
+over-exact (suc g) x h = sym (exact_quotient x (suc g) (omega arith) h)
 
-over_all : (g : ℕ) (xs : List ℤ) → DivideAll g xs → map (λ x. pos g *ℤ x) (map (over g) xs) ≡ xs
+over_all : (g : ℕ) (xs : List ℤ) → DividesAll g xs → map (λ x. pos g *ℤ x) (map (over g) xs) ≡ xs
 over_all g [] h = refl
-over_all g (x ∷ xs) h = let l = over-exact g x h.0 in let r = over_all g xs h.1 in cc
+over_all g (x ∷ xs) h =
+    let l = over-exact g x h.0 in
+    let r = over_all g xs h.1 in
+    cc
 
-pub reduced-exact : (xs : List ℤ) → map (λ x. pos (gcd_of xs) *ℤ x) (reduced xs) ≡ xs
-unfolding reduced
-reduced-exact xs = over_all (gcd_of xs) xs (gcd_of-divides xs)
+pub divided-exact : (xs : List ℤ) → map (λ x. pos (gcd_of xs) *ℤ x) (divided xs) ≡ xs
+unfolding divided
+divided-exact xs = over_all (gcd_of xs) xs (gcd_of-divides xs)
 
-all_zeros : (g : ℕ) (xs : List ℤ) → g ≡ 0 → DivideAll g xs → map (over g) xs ≡ xs
-unfolding over
-all_zeros g [] e h = refl
-all_zeros g (pos zero ∷ xs) e h = let l : g ≡ 0 → pos (0 / g) ≡ pos 0 = λ z. rw z refl in let r = all_zeros g xs e h.1 in let m = l e in cc
-all_zeros g (pos (suc n) ∷ xs) e h = let z = eq-zero_of_zero-dvd (rw e at h.0) in absurd (omega arith)
-all_zeros g (negsuc n ∷ xs) e h = let z = eq-zero_of_zero-dvd (rw e at h.0) in absurd (omega arith)
+zeros_over : (g : ℕ) (xs : List ℤ) → g ≡ 0 → AllZero xs → map (over g) xs ≡ xs
+zeros_over g [] e h = refl
+zeros_over g (x ∷ xs) e h =
+    let here : over g x ≡ x = rw (h.0, e) refl in
+    let rest = zeros_over g xs e h.1 in
+    cc
 
 -- Zeros are divided by nothing.
-pub reduced-same : (xs : List ℤ) → gcd_of xs ≡ 0 → reduced xs ≡ xs
-unfolding reduced
-reduced-same xs e = all_zeros (gcd_of xs) xs e (gcd_of-divides xs)
+pub divided-same : (xs : List ℤ) → gcd_of xs ≡ 0 → divided xs ≡ xs
+unfolding divided
+divided-same xs e = zeros_over (gcd_of xs) xs e (AllZero-from_gcd_of xs e)

@@ -4,10 +4,12 @@ use Rattle.std.specs.Prelude.{ℤ, pos, negsuc, neg_ℤ, ◌+ℤ◌, ◌*ℤ◌,
 use Rattle.std.specs.Int.{int_signum, ◌∣◌}
 use Rattle.std.proofs.lemmas.Int.{unsigned_abs-mul, ints}
 use Rattle.std.proofs.Math.Nat.{dvd-mul_left_of_dvd, eq-zero_of_zero-dvd}
-use Rattle.farkas_cert.specs.Divisor.{gcd, over}
+use Rattle.lin_rows.specs.Gcd.{gcd}
+use Rattle.farkas_cert.specs.Divided.{over}
 use Rattle.farkas_cert.specs.Line.{is_nonzero}
 use Rattle.farkas_cert.proofs.Divisors.{gcd-IsGcd, over-exact}
-use Rattle.farkas_cert.proofs.Integers.{linear, mul_add, mul_mul, mul_swap, mul_neg, neg_mul, zero_mul, cancel_equal}
+use Rattle.lin_rows.proofs.Integers.{mul-add_ℤ, mul_assoc_ℤ, mul_comm_ℤ, mul-neg_ℤ, neg-mul_ℤ, zero-mul_ℤ}
+use Rattle.farkas_cert.proofs.Integers.{linear, eq_of_mul_right_ℤ}
 
 -- ---- signs
 
@@ -44,10 +46,10 @@ positive_abs (negsuc n) h = omega arith
 
 cancels_by : (g a q b p u v : ℤ) → pos 0 <ℤ g → g *ℤ a ≡ u → g *ℤ b ≡ v → u *ℤ q +ℤ v *ℤ p ≡ pos 0 → a *ℤ q +ℤ b *ℤ p ≡ pos 0
 cancels_by g a q b p u v n e k h =
-    let first = sym (mul_mul g a q) ∙ ap (λ t. t *ℤ q) e in
-    let second = sym (mul_mul g b p) ∙ ap (λ t. t *ℤ p) k in
-    cancel_equal (a *ℤ q +ℤ b *ℤ p) (pos 0) g n
-    (omega (arith, linear, mul_swap (a *ℤ q +ℤ b *ℤ p) g, mul_add g (a *ℤ q) (b *ℤ p), zero_mul g))
+    let first = sym (mul_assoc_ℤ g a q) ∙ ap (λ t. t *ℤ q) e in
+    let second = sym (mul_assoc_ℤ g b p) ∙ ap (λ t. t *ℤ p) k in
+    eq_of_mul_right_ℤ (a *ℤ q +ℤ b *ℤ p) (pos 0) g n
+    (omega (arith, linear, mul_comm_ℤ (a *ℤ q +ℤ b *ℤ p) g, mul-add_ℤ g (a *ℤ q) (b *ℤ p), zero-mul_ℤ g))
 
 pub substitution_cancels : (p q : ℤ) → is_nonzero q ≡ true →
     let g = gcd (unsigned_abs p) (unsigned_abs q) in over g (pos (unsigned_abs p)) *ℤ q +ℤ neg_ℤ (over g (int_signum p *ℤ q)) *ℤ p ≡ pos 0
@@ -58,8 +60,8 @@ substitution_cancels p q e =
     cancels_by (pos g) (over g (pos (unsigned_abs p))) q (neg_ℤ (over g (int_signum p *ℤ q))) p (pos (unsigned_abs p)) (neg_ℤ (int_signum p *ℤ q))
     (gcd_positive (unsigned_abs p) (unsigned_abs q) (nonzero_abs q e))
     (over-exact g (pos (unsigned_abs p)) d.0)
-    (mul_neg (pos g) (over g (int_signum p *ℤ q)) ∙ ap neg_ℤ (over-exact g (int_signum p *ℤ q) divides))
-    (omega (arith, linear, neg_mul (int_signum p *ℤ q) p, mul_mul (int_signum p) q p, ap (λ t. int_signum p *ℤ t) (mul_swap q p), mul_mul (int_signum p) p q, ap (λ t. t *ℤ q) (sign_self p)))
+    (mul-neg_ℤ (pos g) (over g (int_signum p *ℤ q)) ∙ ap neg_ℤ (over-exact g (int_signum p *ℤ q) divides))
+    (omega (arith, linear, neg-mul_ℤ (int_signum p *ℤ q) p, mul_assoc_ℤ (int_signum p) q p, ap (λ t. int_signum p *ℤ t) (mul_comm_ℤ q p), mul_assoc_ℤ (int_signum p) p q, ap (λ t. t *ℤ q) (sign_self p)))
 
 pub pairing_cancels : (p r : ℤ) → pos 0 <ℤ p →
     let q = neg_ℤ r in let g = gcd (unsigned_abs p) (unsigned_abs q) in over g q *ℤ p +ℤ over g p *ℤ r ≡ pos 0
@@ -70,4 +72,4 @@ pairing_cancels p r h =
     cancels_by (pos g) (over g q) p (over g p) r q p
     (gcd_positive_left (unsigned_abs p) (unsigned_abs q) (positive_abs p h))
     (over-exact g q d.1) (over-exact g p d.0)
-    (omega (arith, linear, neg_mul r p, mul_swap r p))
+    (omega (arith, linear, neg-mul_ℤ r p, mul_comm_ℤ r p))

@@ -4,14 +4,13 @@ use Rattle.std.specs.Prelude.{ℤ, pos, negsuc, neg_ℤ, ◌*ℤ◌, ◌≤ℤ�
 use Rattle.std.specs.Int.{int_div_euclid}
 use Rattle.std.proofs.lemmas.Int.{ints, by_lt_z}
 use Rattle.std.proofs.Math.Nat.{div-mul-le_self, lt-div-mul-add}
-use Rattle.farkas_cert.specs.Divisor.{gcd, over}
+use Rattle.lin_rows.specs.Gcd.{gcd}
+use Rattle.farkas_cert.specs.Divided.{over}
 use Rattle.farkas_cert.specs.BackSubstitution.{Fraction, whole, reduced_fraction, fraction, floor_of, ceiling_of, chosen}
 use Rattle.farkas_cert.proofs.Divisors.{gcd-IsGcd, over-exact}
 use Rattle.farkas_cert.proofs.Eliminates.{gcd_positive}
-use Rattle.farkas_cert.proofs.Integers.{linear, mul_add, add_mul, mul_mul, mul_swap, mul_swap_left, mul_neg, neg_mul, mul_zero, zero_mul, mul_one, one_mul, mul_at_most, cancel_at_most, cancel_equal, mul_positive, mul_not_negative}
-
--- for `simp`: products of the same factors become the same
-pub ruleset factors = (mul_mul, mul_swap, mul_swap_left)
+use Rattle.lin_rows.proofs.Integers.{mul_comm_ℤ, mul-neg_ℤ, neg-mul_ℤ, zero-mul_ℤ}
+use Rattle.farkas_cert.proofs.Integers.{linear, mul-one_ℤ, mul_right_le_ℤ, le_of_mul_right_ℤ, factors}
 
 pub record IsAtMost (f g : Fraction) : Type 0 where
   pub left : pos 0 <ℤ f.denominator
@@ -26,12 +25,12 @@ not_negative a h = omega (arith, linear)
 
 trans_by : (a b c d e f : ℤ) → pos 0 <ℤ b → pos 0 <ℤ d → pos 0 <ℤ f → (a *ℤ d) ≤ℤ (c *ℤ b) → (c *ℤ f) ≤ℤ (e *ℤ d) → (a *ℤ f) ≤ℤ (e *ℤ b)
 trans_by a b c d e f hb hd hf h k =
-    let first = mul_at_most (a *ℤ d) (c *ℤ b) f (not_negative f hf) h in
-    let second = mul_at_most (c *ℤ f) (e *ℤ d) b (not_negative b hb) k in
+    let first = mul_right_le_ℤ (a *ℤ d) (c *ℤ b) f (not_negative f hf) h in
+    let second = mul_right_le_ℤ (c *ℤ f) (e *ℤ d) b (not_negative b hb) k in
     let left : (a *ℤ d) *ℤ f ≡ (a *ℤ f) *ℤ d = simp factors in
     let middle : (c *ℤ b) *ℤ f ≡ (c *ℤ f) *ℤ b = simp factors in
     let right : (e *ℤ d) *ℤ b ≡ (e *ℤ b) *ℤ d = simp factors in
-    cancel_at_most (a *ℤ f) (e *ℤ b) d hd (omega (arith, linear))
+    le_of_mul_right_ℤ (a *ℤ f) (e *ℤ b) d hd (omega (arith, linear))
 
 pub at_most_trans : (f g h : Fraction) → IsAtMost f g → IsAtMost g h → IsAtMost f h
 at_most_trans f g h i k = record {
@@ -52,14 +51,14 @@ pub below_floor : (k : ℤ) (f : Fraction) → pos 0 <ℤ f.denominator → k �
 below_floor k f h l = record {
   left = omega (arith, linear);
   right = h;
-  le = omega (arith, linear, mul_at_most k (floor_of f) f.denominator (not_negative f.denominator h) l, floor_by f.numerator f.denominator h, mul_one f.numerator);
+  le = omega (arith, linear, mul_right_le_ℤ k (floor_of f) f.denominator (not_negative f.denominator h) l, floor_by f.numerator f.denominator h, mul-one_ℤ f.numerator);
 }
 
 pub below_ceiling : (f : Fraction) → pos 0 <ℤ f.denominator → IsAtMost f (whole (ceiling_of f))
 below_ceiling f h = record {
   left = h;
   right = omega (arith, linear);
-  le = omega (arith, linear, floor_by (neg_ℤ f.numerator) f.denominator h, mul_one f.numerator, neg_mul (int_div_euclid (neg_ℤ f.numerator) f.denominator) f.denominator);
+  le = omega (arith, linear, floor_by (neg_ℤ f.numerator) f.denominator h, mul-one_ℤ f.numerator, neg-mul_ℤ (int_div_euclid (neg_ℤ f.numerator) f.denominator) f.denominator);
 }
 
 at_most_itself : (k : ℤ) → k ≤ℤ k
@@ -122,7 +121,7 @@ pub record IsFractionOf (t s : ℤ) (f : Fraction) : Type 0 where
   pub same : f.numerator *ℤ s ≡ t *ℤ f.denominator
 
 pub positive_over : (g x s : ℤ) → pos 0 <ℤ g → g *ℤ x ≡ s → pos 0 <ℤ s → pos 0 <ℤ x
-positive_over g x s h e k = by_lt_z (pos 0) x (λ l. l) (λ l. absurd (omega (arith, linear, mul_at_most x (pos 0) g (not_negative g h) l, zero_mul g, mul_swap x g)))
+positive_over g x s h e k = by_lt_z (pos 0) x (λ l. l) (λ l. absurd (omega (arith, linear, mul_right_le_ℤ x (pos 0) g (not_negative g h) l, zero-mul_ℤ g, mul_comm_ℤ x g)))
 
 reduced_is : (t : ℤ) (s : ℕ) → 0 < s → IsFractionOf t (pos s) (reduced_fraction t s)
 reduced_is t s h =
@@ -145,5 +144,5 @@ fraction_is t (negsuc s) n =
     let f = reduced_fraction (neg_ℤ t) (suc s) in
     record {
       positive = r.positive;
-      same = let e = r.same in omega (arith, linear, mul_neg f.numerator (pos (suc s)), neg_mul t f.denominator);
+      same = let e = r.same in omega (arith, linear, mul-neg_ℤ f.numerator (pos (suc s)), neg-mul_ℤ t f.denominator);
     }

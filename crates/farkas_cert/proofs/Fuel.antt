@@ -4,7 +4,7 @@ use Rattle.std.specs.Prelude.{⊤, find}
 use Rattle.lin_rows.specs.System.{System}
 use Rattle.farkas_cert.specs.Line.{Line, given_lines, is_false, has_variable, lowest_column, lowest_of}
 use Rattle.farkas_cert.specs.Elimination.{Outcome, Work, Next, Goes, Ends, tested, tested_by, taken_out, taken_out_by, stage, then_tested, or_ends, goes_on, stages, begun, outcome_of, outcome_within}
-use Rattle.farkas_cert.proofs.Columns.{count_open, close, close_falls, IsWithin, AllWithin, AllVary, IsOpen, lowest_open, lowest_of_open, Closes, ClosesTested, equality_stage_closes, pair_stage_closes}
+use Rattle.farkas_cert.proofs.OpenColumns.{count_open, close, close_falls, IsWithin, AllWithin, AllVary, IsOpen, lowest_open, lowest_of_open, Closes, ClosesTested, equality_stage_closes, pair_stage_closes}
 use Rattle.farkas_cert.proofs.Lists.{all_filter, filter_all, all_both, found}
 
 tested_closes : (system : System) (f : ℕ → Bool) (number : ℕ) (work : Work) → Closes system.columns f (Goes work)

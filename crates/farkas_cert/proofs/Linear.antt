@@ -2,10 +2,12 @@
 use Rattle.std.proofs.Common.{◌≡◌, ℕ, zero, suc, refl, sym, ap, ◌∙◌, arith, List, [], ◌∷◌, take, drop, get_or}
 use Rattle.std.specs.Prelude.{ℤ, pos, neg_ℤ, ◌+ℤ◌, ◌-ℤ◌, ◌*ℤ◌, ◌≤ℤ◌, ◌<ℤ◌}
 use Rattle.lin_rows.specs.Row.{product_of, scaled, sum_of}
-use Rattle.farkas_cert.specs.Divisor.{gcd_of, reduced}
+use Rattle.lin_rows.specs.Gcd.{gcd_of}
+use Rattle.farkas_cert.specs.Divided.{divided}
 use Rattle.farkas_cert.specs.Line.{combination}
-use Rattle.farkas_cert.proofs.Divisors.{reduced-exact, reduced-same}
-use Rattle.farkas_cert.proofs.Integers.{linear, mul_add, add_mul, mul_mul, mul_zero, zero_mul, cancel_equal, cancel_at_most, mul_at_most, mul_swap, mul_neg}
+use Rattle.farkas_cert.proofs.Divisors.{divided-exact, divided-same}
+use Rattle.lin_rows.proofs.Integers.{mul-add_ℤ, add-mul_ℤ, mul_assoc_ℤ, mul-zero_ℤ, zero-mul_ℤ, mul_comm_ℤ, mul-neg_ℤ}
+use Rattle.farkas_cert.proofs.Integers.{linear, eq_of_mul_right_ℤ, le_of_mul_right_ℤ, mul_right_le_ℤ}
 
 pub record IsLinear (f : List ℤ → ℤ) : Type 0 where
   pub of_sum : (xs ys : List ℤ) → f (sum_of xs ys) ≡ f xs +ℤ f ys
@@ -17,12 +19,12 @@ pub product-sum : (xs ys zs : List ℤ) → product_of (sum_of xs ys) zs ≡ pro
 product-sum [] ys zs = omega (arith, linear)
 product-sum (x ∷ xs) [] zs = omega (arith, linear)
 product-sum (x ∷ xs) (y ∷ ys) [] = refl
-product-sum (x ∷ xs) (y ∷ ys) (z ∷ zs) = omega (arith, linear, product-sum xs ys zs, add_mul x y z)
+product-sum (x ∷ xs) (y ∷ ys) (z ∷ zs) = omega (arith, linear, product-sum xs ys zs, add-mul_ℤ x y z)
 
 pub product-scaled : (k : ℤ) (xs zs : List ℤ) → product_of (scaled k xs) zs ≡ k *ℤ product_of xs zs
-product-scaled k [] zs = sym (mul_zero k)
-product-scaled k (x ∷ xs) [] = sym (mul_zero k)
-product-scaled k (x ∷ xs) (z ∷ zs) = omega (arith, linear, product-scaled k xs zs, mul_mul k x z, mul_add k (x *ℤ z) (product_of xs zs))
+product-scaled k [] zs = sym (mul-zero_ℤ k)
+product-scaled k (x ∷ xs) [] = sym (mul-zero_ℤ k)
+product-scaled k (x ∷ xs) (z ∷ zs) = omega (arith, linear, product-scaled k xs zs, mul_assoc_ℤ k x z, mul-add_ℤ k (x *ℤ z) (product_of xs zs))
 
 pub product-linear : (zs : List ℤ) → IsLinear (λ xs. product_of xs zs)
 product-linear zs = record { of_sum = λ xs ys. product-sum xs ys zs; of_scaled = λ k xs. product-scaled k xs zs }
@@ -36,7 +38,7 @@ get-sum (x ∷ xs) (y ∷ ys) zero = refl
 get-sum (x ∷ xs) (y ∷ ys) (suc c) = get-sum xs ys c
 
 pub get-scaled : (k : ℤ) (xs : List ℤ) (c : ℕ) → get_or (scaled k xs) c (pos 0) ≡ k *ℤ get_or xs c (pos 0)
-get-scaled k [] c = sym (mul_zero k)
+get-scaled k [] c = sym (mul-zero_ℤ k)
 get-scaled k (x ∷ xs) zero = refl
 get-scaled k (x ∷ xs) (suc c) = get-scaled k xs c
 
@@ -86,7 +88,7 @@ drop-linear n f h = record {
 pub difference-linear : (f g : List ℤ → ℤ) → IsLinear f → IsLinear g → IsLinear (λ xs. f xs -ℤ g xs)
 difference-linear f g h k = record {
   of_sum = λ xs ys. omega (arith, linear, h.of_sum xs ys, k.of_sum xs ys);
-  of_scaled = λ m xs. omega (arith, linear, h.of_scaled m xs, k.of_scaled m xs, mul_add m (f xs) (neg_ℤ (g xs)), mul_neg m (g xs));
+  of_scaled = λ m xs. omega (arith, linear, h.of_scaled m xs, k.of_scaled m xs, mul-add_ℤ m (f xs) (neg_ℤ (g xs)), mul-neg_ℤ m (g xs));
 }
 
 -- ---- combinations and what is left of them after the division
@@ -94,33 +96,33 @@ difference-linear f g h k = record {
 pub of_combination : (f : List ℤ → ℤ) → IsLinear f → (a : ℤ) (xs : List ℤ) (b : ℤ) (ys : List ℤ) → f (combination a xs b ys) ≡ a *ℤ f xs +ℤ b *ℤ f ys
 of_combination f h a xs b ys = omega (arith, linear, h.of_sum (scaled a xs) (scaled b ys), h.of_scaled a xs, h.of_scaled b ys)
 
-pub of_reduced : (f : List ℤ → ℤ) → IsLinear f → (xs : List ℤ) → pos (gcd_of xs) *ℤ f (reduced xs) ≡ f xs
-of_reduced f h xs = sym (h.of_scaled (pos (gcd_of xs)) (reduced xs)) ∙ ap f (reduced-exact xs)
+pub of_divided : (f : List ℤ → ℤ) → IsLinear f → (xs : List ℤ) → pos (gcd_of xs) *ℤ f (divided xs) ≡ f xs
+of_divided f h xs = sym (h.of_scaled (pos (gcd_of xs)) (divided xs)) ∙ ap f (divided-exact xs)
 
 by_size : {P : Type 0} (g : ℕ) → (g ≡ 0 → P) → (pos 0 <ℤ pos g → P) → P
 by_size zero same positive = same refl
 by_size (suc g) same positive = positive (omega (arith, linear))
 
-by_divisor : {P : Type 0} (xs : List ℤ) → (reduced xs ≡ xs → P) → (pos 0 <ℤ pos (gcd_of xs) → P) → P
-by_divisor xs same positive = by_size (gcd_of xs) (λ e. same (reduced-same xs e)) positive
+by_divisor : {P : Type 0} (xs : List ℤ) → (divided xs ≡ xs → P) → (pos 0 <ℤ pos (gcd_of xs) → P) → P
+by_divisor xs same positive = by_size (gcd_of xs) (λ e. same (divided-same xs e)) positive
 
 -- What vanishes on both vanishes on the made line; what is not negative stays so.
-pub reduced_vanishes : (f : List ℤ → ℤ) → IsLinear f → (xs : List ℤ) → f xs ≡ pos 0 → f (reduced xs) ≡ pos 0
-reduced_vanishes f h xs e = by_divisor xs
+pub divided_vanishes : (f : List ℤ → ℤ) → IsLinear f → (xs : List ℤ) → f xs ≡ pos 0 → f (divided xs) ≡ pos 0
+divided_vanishes f h xs e = by_divisor xs
     (λ z. ap f z ∙ e)
-    (λ p. cancel_equal (f (reduced xs)) (pos 0) (pos (gcd_of xs)) p (mul_swap (f (reduced xs)) (pos (gcd_of xs)) ∙ of_reduced f h xs ∙ e ∙ sym (zero_mul (pos (gcd_of xs)))))
+    (λ p. eq_of_mul_right_ℤ (f (divided xs)) (pos 0) (pos (gcd_of xs)) p (mul_comm_ℤ (f (divided xs)) (pos (gcd_of xs)) ∙ of_divided f h xs ∙ e ∙ sym (zero-mul_ℤ (pos (gcd_of xs)))))
 
-pub reduced_not_negative : (f : List ℤ → ℤ) → IsLinear f → (xs : List ℤ) → pos 0 ≤ℤ f xs → pos 0 ≤ℤ f (reduced xs)
-reduced_not_negative f h xs e = by_divisor xs
+pub divided_not_negative : (f : List ℤ → ℤ) → IsLinear f → (xs : List ℤ) → pos 0 ≤ℤ f xs → pos 0 ≤ℤ f (divided xs)
+divided_not_negative f h xs e = by_divisor xs
     (λ z. let i = ap f z in omega (arith, linear))
-    (λ p. let i = mul_swap (f (reduced xs)) (pos (gcd_of xs)) ∙ of_reduced f h xs in
-    cancel_at_most (pos 0) (f (reduced xs)) (pos (gcd_of xs)) p (omega (arith, linear, zero_mul (pos (gcd_of xs)))))
+    (λ p. let i = mul_comm_ℤ (f (divided xs)) (pos (gcd_of xs)) ∙ of_divided f h xs in
+    le_of_mul_right_ℤ (pos 0) (f (divided xs)) (pos (gcd_of xs)) p (omega (arith, linear, zero-mul_ℤ (pos (gcd_of xs)))))
 
-pub from_reduced_vanishes : (f : List ℤ → ℤ) → IsLinear f → (xs : List ℤ) → f (reduced xs) ≡ pos 0 → f xs ≡ pos 0
-from_reduced_vanishes f h xs e = sym (of_reduced f h xs) ∙ ap (λ t. pos (gcd_of xs) *ℤ t) e ∙ mul_zero (pos (gcd_of xs))
+pub from_divided_vanishes : (f : List ℤ → ℤ) → IsLinear f → (xs : List ℤ) → f (divided xs) ≡ pos 0 → f xs ≡ pos 0
+from_divided_vanishes f h xs e = sym (of_divided f h xs) ∙ ap (λ t. pos (gcd_of xs) *ℤ t) e ∙ mul-zero_ℤ (pos (gcd_of xs))
 
-pub from_reduced_at_most : (f : List ℤ → ℤ) → IsLinear f → (xs : List ℤ) → f (reduced xs) ≤ℤ pos 0 → f xs ≤ℤ pos 0
-from_reduced_at_most f h xs e =
+pub from_divided_at_most : (f : List ℤ → ℤ) → IsLinear f → (xs : List ℤ) → f (divided xs) ≤ℤ pos 0 → f xs ≤ℤ pos 0
+from_divided_at_most f h xs e =
     let g = pos (gcd_of xs) in
     let n : pos 0 ≤ℤ g = omega (arith, linear) in
-    omega (arith, linear, mul_at_most (f (reduced xs)) (pos 0) g n e, zero_mul g, mul_swap (f (reduced xs)) g, of_reduced f h xs)
+    omega (arith, linear, mul_right_le_ℤ (f (divided xs)) (pos 0) g n e, zero-mul_ℤ g, mul_comm_ℤ (f (divided xs)) g, of_divided f h xs)

@@ -4,13 +4,15 @@ use Rattle.std.specs.Prelude.{ℤ, pos, neg_ℤ, ◌+ℤ◌, ◌-ℤ◌, ◌*ℤ
 use Rattle.std.proofs.lemmas.List.{length-set, length-map, get_or-take}
 use Rattle.thr_base.specs.Number.{fits}
 use Rattle.lin_rows.specs.Row.{product_of, scaled}
-use Rattle.farkas_cert.specs.Divisor.{gcd, over}
+use Rattle.lin_rows.specs.Gcd.{gcd}
+use Rattle.farkas_cert.specs.Divided.{over}
 use Rattle.farkas_cert.specs.Line.{Line, coefficient_at, bound_of, all_fit}
 use Rattle.farkas_cert.specs.BackSubstitution.{RationalPoint, Fraction, assigned}
 use Rattle.farkas_cert.proofs.Divisors.{gcd-IsGcd, over-exact}
 use Rattle.farkas_cert.proofs.Eliminates.{gcd_positive, positive_abs}
-use Rattle.farkas_cert.proofs.Fractions.{factors, positive_over, not_negative}
-use Rattle.farkas_cert.proofs.Integers.{linear, mul_add, add_mul, mul_mul, mul_swap, mul_neg, neg_mul, mul_zero, zero_mul, mul_at_most, cancel_at_most, cancel_equal, mul_positive}
+use Rattle.farkas_cert.proofs.Fractions.{positive_over, not_negative}
+use Rattle.lin_rows.proofs.Integers.{mul-add_ℤ, add-mul_ℤ, mul_assoc_ℤ, mul_comm_ℤ, mul-neg_ℤ, neg-mul_ℤ, mul-zero_ℤ, zero-mul_ℤ}
+use Rattle.farkas_cert.proofs.Integers.{linear, mul_right_le_ℤ, le_of_mul_right_ℤ, eq_of_mul_right_ℤ, mul-positive_ℤ, factors}
 use Rattle.farkas_cert.proofs.Slack.{slack, Holds, MeetsLine, set_product, without_product, product-scaled_right, rest_of}
 
 -- ---- what the step does
@@ -62,7 +64,7 @@ moved_length n c point f next m h =
 
 pub moved_positive : (c : ℕ) (point : RationalPoint) (f : Fraction) (next : RationalPoint) → Moved c point f next → pos 0 <ℤ point.denominator
     → pos 0 <ℤ next.denominator
-moved_positive c point f next m h = rw m.denominator (mul_positive point.denominator m.scale h m.scale_positive)
+moved_positive c point f next m h = rw m.denominator (mul-positive_ℤ point.denominator m.scale h m.scale_positive)
 
 -- ---- slack after the step
 
@@ -86,20 +88,20 @@ moved_slack n c point f next line m l h =
 scaled_sum : (g q s v d o a w b : ℤ) → g *ℤ q ≡ v → g *ℤ s ≡ d
     → g *ℤ ((q *ℤ o +ℤ a *ℤ (w *ℤ s)) -ℤ b *ℤ (d *ℤ q)) ≡ (a *ℤ d) *ℤ w -ℤ (b *ℤ d -ℤ o) *ℤ v
 scaled_sum g q s v d o a w b e k =
-    let first : g *ℤ (q *ℤ o) ≡ o *ℤ v = sym (mul_mul g q o) ∙ ap (λ t. t *ℤ o) e ∙ mul_swap v o in
+    let first : g *ℤ (q *ℤ o) ≡ o *ℤ v = sym (mul_assoc_ℤ g q o) ∙ ap (λ t. t *ℤ o) e ∙ mul_comm_ℤ v o in
     let turn : g *ℤ (a *ℤ (w *ℤ s)) ≡ a *ℤ (w *ℤ (g *ℤ s)) = simp factors in
     let back : a *ℤ (w *ℤ d) ≡ (a *ℤ d) *ℤ w = simp factors in
     let second = turn ∙ ap (λ t. a *ℤ (w *ℤ t)) k ∙ back in
     let turn_b : g *ℤ (b *ℤ (d *ℤ q)) ≡ b *ℤ (d *ℤ (g *ℤ q)) = simp factors in
-    let third = turn_b ∙ ap (λ t. b *ℤ (d *ℤ t)) e ∙ sym (mul_mul b d v) in
+    let third = turn_b ∙ ap (λ t. b *ℤ (d *ℤ t)) e ∙ sym (mul_assoc_ℤ b d v) in
     omega (
       arith,
       linear,
-      mul_add g (q *ℤ o +ℤ a *ℤ (w *ℤ s)) (neg_ℤ (b *ℤ (d *ℤ q))),
-      mul_add g (q *ℤ o) (a *ℤ (w *ℤ s)),
-      mul_neg g (b *ℤ (d *ℤ q)),
-      add_mul (b *ℤ d) (neg_ℤ o) v,
-      neg_mul o v,
+      mul-add_ℤ g (q *ℤ o +ℤ a *ℤ (w *ℤ s)) (neg_ℤ (b *ℤ (d *ℤ q))),
+      mul-add_ℤ g (q *ℤ o) (a *ℤ (w *ℤ s)),
+      mul-neg_ℤ g (b *ℤ (d *ℤ q)),
+      add-mul_ℤ (b *ℤ d) (neg_ℤ o) v,
+      neg-mul_ℤ o v,
     )
 
 -- up to a positive factor, the slack of a line is its coefficient times the denominator times the value, less the rest of the line
@@ -114,12 +116,12 @@ slack_at n c point f next line m l h =
 -- ---- what holds
 
 holds_scaled : (equal : Bool) (k s : ℤ) → pos 0 <ℤ k → Holds equal s → Holds equal (k *ℤ s)
-holds_scaled true k s h e = ap (λ t. k *ℤ t) e ∙ mul_zero k
-holds_scaled false k s h e = omega (arith, linear, mul_at_most s (pos 0) k (not_negative k h) e, mul_swap s k, zero_mul k)
+holds_scaled true k s h e = ap (λ t. k *ℤ t) e ∙ mul-zero_ℤ k
+holds_scaled false k s h e = omega (arith, linear, mul_right_le_ℤ s (pos 0) k (not_negative k h) e, mul_comm_ℤ s k, zero-mul_ℤ k)
 
 pub holds_cancel : (equal : Bool) (k s : ℤ) → pos 0 <ℤ k → Holds equal (k *ℤ s) → Holds equal s
-holds_cancel true k s h e = cancel_equal s (pos 0) k h (mul_swap s k ∙ e ∙ sym (zero_mul k))
-holds_cancel false k s h e = cancel_at_most s (pos 0) k h (omega (arith, linear, mul_swap s k, zero_mul k))
+holds_cancel true k s h e = eq_of_mul_right_ℤ s (pos 0) k h (mul_comm_ℤ s k ∙ e ∙ sym (zero-mul_ℤ k))
+holds_cancel false k s h e = le_of_mul_right_ℤ s (pos 0) k h (omega (arith, linear, mul_comm_ℤ s k, zero-mul_ℤ k))
 
 -- A line without the column holds as before.
 pub still_meets : (n c : ℕ) (point : RationalPoint) (f : Fraction) (next : RationalPoint) (line : Line) → Moved c point f next → c < n
@@ -128,11 +130,11 @@ still_meets n c point f next line m l h z k =
     let xs = take n line.numbers in
     let o = product_of (slice_set xs c (pos 0)) point.numerators in
     let y = f.numerator *ℤ m.share in
-    let none : coefficient_at c line *ℤ y ≡ pos 0 = ap (λ t. t *ℤ y) z ∙ zero_mul y in
+    let none : coefficient_at c line *ℤ y ≡ pos 0 = ap (λ t. t *ℤ y) z ∙ zero-mul_ℤ y in
     let here = get_or-take n line.numbers c (pos 0) l ∙ z in
     let before = without_product xs point.numerators c in
-    let lost : get_or xs c (pos 0) *ℤ get_or point.numerators c (pos 0) ≡ pos 0 = ap (λ t. t *ℤ get_or point.numerators c (pos 0)) here ∙ zero_mul (get_or point.numerators c (pos 0)) in
+    let lost : get_or xs c (pos 0) *ℤ get_or point.numerators c (pos 0) ≡ pos 0 = ap (λ t. t *ℤ get_or point.numerators c (pos 0)) here ∙ zero-mul_ℤ (get_or point.numerators c (pos 0)) in
     let turn : bound_of n line *ℤ (point.denominator *ℤ m.scale) ≡ m.scale *ℤ (bound_of n line *ℤ point.denominator) = simp factors in
     let same : slack n next line.numbers ≡ m.scale *ℤ slack n point line.numbers = moved_slack n c point f next line m l h ∙
-    omega (arith, linear, mul_add m.scale (product_of xs point.numerators) (neg_ℤ (bound_of n line *ℤ point.denominator)), mul_neg m.scale (bound_of n line *ℤ point.denominator), ap (λ t. m.scale *ℤ t) before, mul_add m.scale o (get_or xs c (pos 0) *ℤ get_or point.numerators c (pos 0)), ap (λ t. m.scale *ℤ t) lost, mul_zero m.scale) in
+    omega (arith, linear, mul-add_ℤ m.scale (product_of xs point.numerators) (neg_ℤ (bound_of n line *ℤ point.denominator)), mul-neg_ℤ m.scale (bound_of n line *ℤ point.denominator), ap (λ t. m.scale *ℤ t) before, mul-add_ℤ m.scale o (get_or xs c (pos 0) *ℤ get_or point.numerators c (pos 0)), ap (λ t. m.scale *ℤ t) lost, mul-zero_ℤ m.scale) in
     subst (λ t. Holds line.equal t) (sym same) (holds_scaled line.equal m.scale (slack n point line.numbers) m.scale_positive k)

@@ -1,6 +1,6 @@
 -- The point with which the elimination ends is a point of the system.
 use Rattle.std.proofs.Common.{◌≡◌, ℕ, zero, suc, ◌+◌, ◌*◌, ◌<◌, ◌≤◌, refl, sym, ap, ◌∙◌, arith, subst, List, [], ◌∷◌, ◌++◌, map, take, length, Bool, true, false, cond, Some, None, Option}
-use Rattle.std.specs.Prelude.{ℤ, pos, ◌≤ℤ◌, ◌<ℤ◌, ◌*ℤ◌, ◌-ℤ◌, find, filter, not, replicate, MatchBool, ◌&&◌}
+use Rattle.std.specs.Prelude.{is_none, ℤ, pos, ◌≤ℤ◌, ◌<ℤ◌, ◌*ℤ◌, ◌-ℤ◌, find, filter, not, replicate, MatchBool, ◌&&◌}
 use Rattle.std.specs.Option.{option_map}
 use Rattle.std.specs.List.{AllByRecursion}
 use Rattle.std.proofs.lemmas.Int.{ints}
@@ -8,15 +8,17 @@ use Rattle.std.proofs.lemmas.List.{length-replicate}
 use Rattle.lin_rows.specs.Row.{Row, product_of, MeetsOver}
 use Rattle.lin_rows.specs.System.{System, IsRationalPoint}
 use Rattle.farkas_cert.specs.Line.{Line, given_line, given_lines, coefficient_at, bound_of, is_nonzero, is_false, fails, has_variable, lowest_column, lowest_of, refuting, listed}
-use Rattle.farkas_cert.specs.Overflow.{check_fits}
+use Rattle.farkas_cert.specs.Columns.{HasWidths}
+use Rattle.farkas_cert.specs.Proof.{overflow_of}
 use Rattle.farkas_cert.specs.BackSubstitution.{RationalPoint, Fraction, Kept, Solved, Bounded, bound_on, bounds_from, chosen, assigned, set_column}
-use Rattle.farkas_cert.specs.Elimination.{IsRectangular, Outcome, Refuted, Point, Leaves, Overflow, Rows, Work, Next, Goes, Ends, every, refuted, tested, tested_by, follows, without_equality, substituted, equality_stage, with_column, without_column, positives, negatives, pairs_at, are_too_many, pair_stage, taken_out, taken_out_by, stage, then_tested, or_leaves, point_from, point_of, or_ends, goes_on, stages, begun, outcome_of, outcome_within}
-use Rattle.farkas_cert.proofs.Integers.{linear, zero_mul, mul_at_most}
+use Rattle.farkas_cert.specs.Elimination.{Outcome, Refuted, Point, Leaves, Overflow, Rows, Work, Next, Goes, Ends, every, refuted, tested, tested_by, follows, without_equality, substituted, equality_stage, with_column, without_column, positives, negatives, pairs_at, are_too_many, pair_stage, taken_out, taken_out_by, stage, then_tested, or_leaves, point_from, point_of, or_ends, goes_on, stages, begun, outcome_of, outcome_within}
+use Rattle.lin_rows.proofs.Integers.{zero-mul_ℤ}
+use Rattle.farkas_cert.proofs.Integers.{linear, mul_right_le_ℤ}
 use Rattle.farkas_cert.proofs.Fractions.{not_negative}
 use Rattle.farkas_cert.proofs.Refuting.{not_true, no_variable, product_of_zeros, given_parts}
 use Rattle.farkas_cert.proofs.Lists.{all_from, all_left, all_right, all_parts, all_back, all_unfilter, found, none_found, all_both, filter_all}
 use Rattle.farkas_cert.proofs.Certificates.{appended}
-use Rattle.farkas_cert.proofs.Columns.{count_open, close, close_falls, IsWithin, AllWithin, AllVary, IsOpen, lowest_is, lowest_of_open, substituted_closes, closed_here, zero_by_test, ClosesTested}
+use Rattle.farkas_cert.proofs.OpenColumns.{count_open, close, close_falls, IsWithin, AllWithin, AllVary, IsOpen, lowest_is, lowest_of_open, substituted_closes, closed_here, zero_by_test, ClosesTested}
 use Rattle.farkas_cert.proofs.Fuel.{stage_closes, none_left, all_open, all_within, count_all, Varies, begun_varies}
 use Rattle.farkas_cert.proofs.Slack.{slack, Holds, MeetsLine, and_then_is}
 use Rattle.farkas_cert.proofs.Moves.{Moved, assigned_moved, moved_length, moved_positive, still_meets}
@@ -41,10 +43,10 @@ true_meets : (n : ℕ) (point : RationalPoint) (line : Line) (equal : Bool) → 
     → product_of (take n line.numbers) point.numerators ≡ pos 0 → fails equal (bound_of n line) ≡ false → Holds equal (slack n point line.numbers)
 true_meets n point line true e d z f =
     let none = zero_by_test (bound_of n line) f in
-    let product : bound_of n line *ℤ point.denominator ≡ pos 0 = ap (λ t. t *ℤ point.denominator) none ∙ zero_mul point.denominator in
+    let product : bound_of n line *ℤ point.denominator ≡ pos 0 = ap (λ t. t *ℤ point.denominator) none ∙ zero-mul_ℤ point.denominator in
     omega (arith, linear)
 true_meets n point line false e d z f =
-    omega (arith, ints, mul_at_most (pos 0) (bound_of n line) point.denominator (not_negative point.denominator d) (omega (arith, ints)), zero_mul point.denominator)
+    omega (arith, ints, mul_right_le_ℤ (pos 0) (bound_of n line) point.denominator (not_negative point.denominator d) (omega (arith, ints)), zero-mul_ℤ point.denominator)
 
 second_false : (a b : Bool) → a ≡ true → (a && b) ≡ false → b ≡ false
 second_false true b t e = e
@@ -82,7 +84,7 @@ NextLeads system (Goes work) = Leads system work.lines work.kept
 NextLeads system (Ends outcome) = NoPoint outcome
 
 no_point_refuted : (system : System) (number : ℕ) (ms : List ℤ) → NoPoint (refuted system number ms)
-no_point_refuted system number ms x d = at (check_fits system.rows (listed 1 ms)) where
+no_point_refuted system number ms x d = at (is_none (overflow_of system.rows (listed 1 ms))) where
   at : (b : Bool) → ¬ (cond b (Refuted (listed 1 ms)) (Leaves number Overflow) ≡ Point x d)
   at true e = cc
   at false e = cc
@@ -276,7 +278,7 @@ unfolding given_lines
 given_meet system total k [] point w h = tt
 given_meet system total k (row ∷ rows) point w h = (given_meets system total k row point w.0 h.0, given_meet system total (suc k) rows point w.1 h.1)
 
-given_leads : (system : System) → IsRectangular system → Leads system (given_lines (length system.rows) 0 system.rows) []
+given_leads : (system : System) → HasWidths system → Leads system (given_lines (length system.rows) 0 system.rows) []
 unfolding point_from
 given_leads system w point x d over meets e =
     let same_x : point.numerators ≡ x = cc in
@@ -289,7 +291,7 @@ outcome_by : (system : System) (next : Next) (x : List ℤ) (d : ℤ) → Varies
 outcome_by system (Goes work) x d v h e = stages_lead system.columns system all_open work x d (count_all system.columns) (all_within system.columns work.lines) v h e
 outcome_by system (Ends outcome) x d v h e = absurd (h x d e)
 
-pub point_is_sound : (system : System) (x : List ℤ) (d : ℤ) → IsRectangular system → outcome_of system ≡ Point x d → IsRationalPoint system x d
+pub point_is_sound : (system : System) (x : List ℤ) (d : ℤ) → HasWidths system → outcome_of system ≡ Point x d → IsRationalPoint system x d
 unfolding outcome_within begun
 point_is_sound system x d w e =
     outcome_by system (begun system) x d (begun_varies system)

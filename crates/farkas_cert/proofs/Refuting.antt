@@ -10,18 +10,19 @@ use Rattle.lin_rows.specs.System.{System}
 use Rattle.farkas_cert.specs.Cert.{Refutes, weighted_sum}
 use Rattle.farkas_cert.specs.Reduced.{IsReduced}
 use Rattle.farkas_cert.specs.Line.{Line, given_line, given_lines, bound_of, multipliers_of, is_nonzero, has_variable, fails, is_false, refuting, listed}
-use Rattle.farkas_cert.proofs.Divisors.{DivideAll}
-use Rattle.farkas_cert.proofs.Integers.{linear, zero_mul, one_mul, neg_mul}
+use Rattle.lin_rows.proofs.Divisors.{DividesAll, AllZero}
+use Rattle.lin_rows.proofs.Integers.{zero-mul_ℤ, one-mul_ℤ, neg-mul_ℤ}
+use Rattle.farkas_cert.proofs.Integers.{linear}
 use Rattle.farkas_cert.proofs.Signs.{Signs, RowSign, signs_neg, split_at, listed_in_order}
 use Rattle.farkas_cert.proofs.Weighted.{values_at, bounds_of, weighted_coefficients, weighted_bound, zeros_from_products, multiple_product, divides_from_multiple, divides_listed, divides_neg, divides_parts}
-use Rattle.farkas_cert.proofs.Derived.{AllZero, IsDerived}
+use Rattle.farkas_cert.proofs.Derived.{IsDerived}
 
 -- ---- the given rows
 
 zeros_product : (n : ℕ) (zs : List ℤ) → product_of (replicate n (pos 0)) zs ≡ pos 0
 zeros_product zero zs = refl
 zeros_product (suc n) [] = refl
-zeros_product (suc n) (z ∷ zs) = omega (arith, linear, zero_mul z, zeros_product n zs)
+zeros_product (suc n) (z ∷ zs) = omega (arith, linear, zero-mul_ℤ z, zeros_product n zs)
 
 unit_product : (f : Row → ℤ) (rows : List Row) (k : ℕ) (row : Row) → slice_get rows k ≡ Some row
     → product_of (slice_set (replicate (length rows) (pos 0)) k (pos 1)) (map f rows) ≡ f row
@@ -29,8 +30,8 @@ unit_product f [] k row e = absurd cc
 unit_product f (x ∷ rows) zero row e =
     let same : x ≡ row = cc in
     let here = ap f same in
-    omega (arith, linear, one_mul (f x), zeros_product (length rows) (map f rows))
-unit_product f (x ∷ rows) (suc k) row e = omega (arith, linear, zero_mul (f x), unit_product f rows k row e)
+    omega (arith, linear, one-mul_ℤ (f x), zeros_product (length rows) (map f rows))
+unit_product f (x ∷ rows) (suc k) row e = omega (arith, linear, zero-mul_ℤ (f x), unit_product f rows k row e)
 
 zero_sign : (r equal : Bool) → RowSign r equal (pos 0)
 zero_sign true equal = tt
@@ -54,12 +55,12 @@ unit_signs (x ∷ rows) zero row e =
 unit_signs (x ∷ rows) (suc k) row e = (zero_sign x.equal row.equal, unit_signs rows k row e)
 
 unit_primitive : (rows : List Row) (k : ℕ) (row : Row) (g : ℕ) → slice_get rows k ≡ Some row
-    → DivideAll g (slice_set (replicate (length rows) (pos 0)) k (pos 1)) → g ≤ 1
+    → DividesAll g (slice_set (replicate (length rows) (pos 0)) k (pos 1)) → g ≤ 1
 unit_primitive [] k row g e h = absurd cc
 unit_primitive (x ∷ rows) zero row g e h = le_of_dvd (omega arith) h.0
 unit_primitive (x ∷ rows) (suc k) row g e h = unit_primitive rows k row g e h.1
 
-divides_right : (g : ℕ) (xs ys : List ℤ) → DivideAll g (xs ++ ys) → DivideAll g ys
+divides_right : (g : ℕ) (xs ys : List ℤ) → DividesAll g (xs ++ ys) → DividesAll g ys
 divides_right g [] ys h = h
 divides_right g (x ∷ xs) ys h = divides_right g xs ys h.1
 
@@ -127,7 +128,7 @@ zeros_below (negsuc m ∷ xs) e = absurd cc
 pub product_of_zeros : (xs ys : List ℤ) → AllZero xs → product_of xs ys ≡ pos 0
 product_of_zeros [] ys h = refl
 product_of_zeros (x ∷ xs) [] h = refl
-product_of_zeros (x ∷ xs) (y ∷ ys) h = rw h.0 (omega (arith, linear, zero_mul y, product_of_zeros xs ys h.1))
+product_of_zeros (x ∷ xs) (y ∷ ys) h = rw h.0 (omega (arith, linear, zero-mul_ℤ y, product_of_zeros xs ys h.1))
 
 pub no_variable : (n : ℕ) (line : Line) → has_variable n line ≡ false → AllZero (take n line.numbers)
 unfolding has_variable
@@ -138,7 +139,7 @@ no_variable n line e = zeros_below (take n line.numbers) e
 product_neg : (ms zs : List ℤ) → product_of (map neg_ℤ ms) zs ≡ neg_ℤ (product_of ms zs)
 product_neg [] zs = refl
 product_neg (m ∷ ms) [] = refl
-product_neg (m ∷ ms) (z ∷ zs) = omega (arith, linear, neg_mul m z, product_neg ms zs)
+product_neg (m ∷ ms) (z ∷ zs) = omega (arith, linear, neg-mul_ℤ m z, product_neg ms zs)
 
 refutes_by : (system : System) (equal : Bool) (ms : List ℤ) → Signs equal system.rows ms
     → ((y : List ℤ) → product_of ms (values_at y system.rows) ≡ pos 0) → product_of ms (bounds_of system.rows) <ℤ pos 0 → Refutes system (listed 1 ms)
@@ -150,7 +151,7 @@ refutes_by system equal ms s c b = record {
   };
 }
 
-zeros_divide : (g : ℕ) (xs : List ℤ) → AllZero xs → DivideAll g xs
+zeros_divide : (g : ℕ) (xs : List ℤ) → AllZero xs → DividesAll g xs
 zeros_divide g [] h = tt
 zeros_divide g (x ∷ xs) h = (rw h.0 (dvd-zero g), zeros_divide g xs h.1)
 
@@ -161,7 +162,7 @@ zero_at (suc n) (x ∷ xs) h = zero_at n xs h.1
 
 -- The multipliers of a line without a variable and with a bound other than 0 have no common divisor.
 reduced_by : (system : System) (line : Line) → IsDerived system line → AllZero (take system.columns line.numbers)
-    → ¬ (bound_of system.columns line ≡ pos 0) → (g : ℕ) → DivideAll g (multipliers_of system.columns line) → g ≤ 1
+    → ¬ (bound_of system.columns line ≡ pos 0) → (g : ℕ) → DividesAll g (multipliers_of system.columns line) → g ≤ 1
 reduced_by system line h z b g d =
     let bound : g ∣ unsigned_abs (bound_of system.columns line) =
     divides_from_multiple g (bound_of system.columns line) (rw h.bound (multiple_product g (multipliers_of system.columns line) (bounds_of system.rows) d)) in

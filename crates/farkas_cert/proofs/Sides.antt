@@ -3,15 +3,17 @@ use Rattle.std.proofs.Common.{◌≡◌, ℕ, zero, suc, ◌<◌, refl, sym, ap,
 use Rattle.std.specs.Prelude.{ℤ, pos, negsuc, neg_ℤ, ◌+ℤ◌, ◌-ℤ◌, ◌*ℤ◌, ◌≤ℤ◌, ◌<ℤ◌, unsigned_abs}
 use Rattle.std.specs.Int.{int_signum, IsGcd}
 use Rattle.std.proofs.lemmas.List.{get_or-take}
-use Rattle.farkas_cert.specs.Divisor.{gcd, over, reduced}
+use Rattle.lin_rows.specs.Gcd.{gcd}
+use Rattle.farkas_cert.specs.Divided.{over, divided}
 use Rattle.farkas_cert.specs.Line.{Line, coefficient_at, is_nonzero, combination, made_line}
 use Rattle.farkas_cert.specs.BackSubstitution.{RationalPoint, Fraction, bound_on}
 use Rattle.farkas_cert.specs.Elimination.{paired, substituted}
 use Rattle.farkas_cert.proofs.Divisors.{gcd-IsGcd, over-exact}
 use Rattle.farkas_cert.proofs.Eliminates.{gcd_positive_left, positive_abs, nonzero_abs}
-use Rattle.farkas_cert.proofs.Fractions.{factors, IsAtMost, IsFractionOf, fraction_is, positive_over, not_negative}
-use Rattle.farkas_cert.proofs.Integers.{linear, mul_add, add_mul, mul_mul, mul_swap, mul_swap_left, mul_neg, neg_mul, mul_zero, zero_mul, mul_at_most, cancel_at_most, mul_positive}
-use Rattle.farkas_cert.proofs.Linear.{IsLinear, of_combination, from_reduced_vanishes, from_reduced_at_most}
+use Rattle.farkas_cert.proofs.Fractions.{IsAtMost, IsFractionOf, fraction_is, positive_over, not_negative}
+use Rattle.lin_rows.proofs.Integers.{mul-add_ℤ, add-mul_ℤ, mul_assoc_ℤ, mul_comm_ℤ, mul-neg_ℤ, neg-mul_ℤ, mul-zero_ℤ, zero-mul_ℤ}
+use Rattle.farkas_cert.proofs.Integers.{linear, mul_left_comm_ℤ, mul_right_le_ℤ, le_of_mul_right_ℤ, mul-positive_ℤ, factors}
+use Rattle.farkas_cert.proofs.Linear.{IsLinear, of_combination, from_divided_vanishes, from_divided_at_most}
 use Rattle.farkas_cert.proofs.Derived.{made_is}
 use Rattle.farkas_cert.proofs.Slack.{slack, slack_linear, Holds, MeetsLine, without_product, rest_of, bound_on_is}
 use Rattle.farkas_cert.proofs.Moves.{Moved, slack_at, holds_cancel}
@@ -20,34 +22,34 @@ use Rattle.farkas_cert.proofs.Moves.{Moved, slack_at, holds_cancel}
 
 upper_side : (s t : ℤ) (f w : Fraction) → pos 0 <ℤ s → IsFractionOf t s f → IsAtMost w f → (s *ℤ w.numerator -ℤ t *ℤ w.denominator) ≤ℤ pos 0
 upper_side s t f w h i k =
-    let wide = mul_at_most (w.numerator *ℤ f.denominator) (f.numerator *ℤ w.denominator) s (not_negative s h) k.le in
+    let wide = mul_right_le_ℤ (w.numerator *ℤ f.denominator) (f.numerator *ℤ w.denominator) s (not_negative s h) k.le in
     let left : (w.numerator *ℤ f.denominator) *ℤ s ≡ (s *ℤ w.numerator) *ℤ f.denominator = simp factors in
     let turn : (f.numerator *ℤ w.denominator) *ℤ s ≡ (f.numerator *ℤ s) *ℤ w.denominator = simp factors in
     let back : (t *ℤ f.denominator) *ℤ w.denominator ≡ (t *ℤ w.denominator) *ℤ f.denominator = simp factors in
     let right = turn ∙ ap (λ x. x *ℤ w.denominator) i.same ∙ back in
-    let l : (s *ℤ w.numerator) ≤ℤ (t *ℤ w.denominator) = cancel_at_most (s *ℤ w.numerator) (t *ℤ w.denominator) f.denominator i.positive (omega (arith, linear)) in
+    let l : (s *ℤ w.numerator) ≤ℤ (t *ℤ w.denominator) = le_of_mul_right_ℤ (s *ℤ w.numerator) (t *ℤ w.denominator) f.denominator i.positive (omega (arith, linear)) in
     omega (arith, linear)
 
 lower_side : (s t : ℤ) (f w : Fraction) → s <ℤ pos 0 → IsFractionOf t s f → IsAtMost f w → (s *ℤ w.numerator -ℤ t *ℤ w.denominator) ≤ℤ pos 0
 lower_side s t f w h i k =
-    let wide = mul_at_most (f.numerator *ℤ w.denominator) (w.numerator *ℤ f.denominator) (neg_ℤ s) (omega (arith, linear)) k.le in
+    let wide = mul_right_le_ℤ (f.numerator *ℤ w.denominator) (w.numerator *ℤ f.denominator) (neg_ℤ s) (omega (arith, linear)) k.le in
     let right : (w.numerator *ℤ f.denominator) *ℤ s ≡ (s *ℤ w.numerator) *ℤ f.denominator = simp factors in
     let turn : (f.numerator *ℤ w.denominator) *ℤ s ≡ (f.numerator *ℤ s) *ℤ w.denominator = simp factors in
     let back : (t *ℤ f.denominator) *ℤ w.denominator ≡ (t *ℤ w.denominator) *ℤ f.denominator = simp factors in
     let left = turn ∙ ap (λ x. x *ℤ w.denominator) i.same ∙ back in
-    let l : (s *ℤ w.numerator) ≤ℤ (t *ℤ w.denominator) = cancel_at_most (s *ℤ w.numerator) (t *ℤ w.denominator) f.denominator i.positive
-    (omega (arith, linear, mul_neg (f.numerator *ℤ w.denominator) s, mul_neg (w.numerator *ℤ f.denominator) s)) in
+    let l : (s *ℤ w.numerator) ≤ℤ (t *ℤ w.denominator) = le_of_mul_right_ℤ (s *ℤ w.numerator) (t *ℤ w.denominator) f.denominator i.positive
+    (omega (arith, linear, mul-neg_ℤ (f.numerator *ℤ w.denominator) s, mul-neg_ℤ (w.numerator *ℤ f.denominator) s)) in
     omega (arith, linear)
 
 same_side : (s t : ℤ) (f : Fraction) → IsFractionOf t s f → s *ℤ f.numerator -ℤ t *ℤ f.denominator ≡ pos 0
-same_side s t f i = omega (arith, linear, i.same, mul_swap s f.numerator)
+same_side s t f i = omega (arith, linear, i.same, mul_comm_ℤ s f.numerator)
 
 negative_product : (a d : ℤ) → a <ℤ pos 0 → pos 0 <ℤ d → (a *ℤ d) <ℤ pos 0
-negative_product a d h k = omega (arith, linear, mul_positive (neg_ℤ a) d (omega (arith, linear)) k, neg_mul a d)
+negative_product a d h k = omega (arith, linear, mul-positive_ℤ (neg_ℤ a) d (omega (arith, linear)) k, neg-mul_ℤ a d)
 
 nonzero_product : (a d : ℤ) → is_nonzero a ≡ true → pos 0 <ℤ d → ¬ (a *ℤ d ≡ pos 0)
 nonzero_product (pos zero) d e h = absurd cc
-nonzero_product (pos (suc a)) d e h = let p = mul_positive (pos (suc a)) d (omega (arith, linear)) h in λ z. absurd (omega (arith, linear))
+nonzero_product (pos (suc a)) d e h = let p = mul-positive_ℤ (pos (suc a)) d (omega (arith, linear)) h in λ z. absurd (omega (arith, linear))
 nonzero_product (negsuc a) d e h = let p = negative_product (negsuc a) d (omega (arith, linear)) h in λ z. absurd (omega (arith, linear))
 
 -- the bound of a line with the column, as a fraction
@@ -82,7 +84,7 @@ pub upper_meets : (n c : ℕ) (point : RationalPoint) (w : Fraction) (next : Rat
     → IsAtMost w f → MeetsLine n next line
 upper_meets n c point w next line f m l h d t a i k =
     let s = coefficient_at c line *ℤ point.denominator in
-    let side = upper_side s (rest_of n c point line) f w (mul_positive (coefficient_at c line) point.denominator a d) i k in
+    let side = upper_side s (rest_of n c point line) f w (mul-positive_ℤ (coefficient_at c line) point.denominator a d) i k in
     holds_below line.equal m.divisor (slack n next line.numbers) m.divisor_positive t (omega (arith, linear, slack_at n c point w next line m l h))
 
 pub lower_meets : (n c : ℕ) (point : RationalPoint) (w : Fraction) (next : RationalPoint) (line : Line) (f : Fraction) → Moved c point w next → c < n
@@ -99,16 +101,16 @@ lower_meets n c point w next line f m l h d t a i k =
 pair_bounds : (p q d u v fn fd gn gd : ℤ) → pos 0 <ℤ p → pos 0 <ℤ q → pos 0 <ℤ d → pos 0 <ℤ fd → pos 0 <ℤ gd
     → fn *ℤ (p *ℤ d) ≡ u *ℤ fd → gn *ℤ (neg_ℤ q *ℤ d) ≡ v *ℤ gd → pos 0 ≤ℤ (q *ℤ u +ℤ p *ℤ v) → (gn *ℤ fd) ≤ℤ (fn *ℤ gd)
 pair_bounds p q d u v fn fd gn gd hp hq hd hf hg e k s =
-    let wide = mul_at_most (neg_ℤ (p *ℤ v)) (q *ℤ u) (gd *ℤ fd) (not_negative (gd *ℤ fd) (mul_positive gd fd hg hf)) (omega (arith, linear)) in
+    let wide = mul_right_le_ℤ (neg_ℤ (p *ℤ v)) (q *ℤ u) (gd *ℤ fd) (not_negative (gd *ℤ fd) (mul-positive_ℤ gd fd hg hf)) (omega (arith, linear)) in
     let turn : (gn *ℤ fd) *ℤ (p *ℤ (q *ℤ d)) ≡ (gn *ℤ (q *ℤ d)) *ℤ (fd *ℤ p) = simp factors in
     let back : (v *ℤ gd) *ℤ (fd *ℤ p) ≡ (p *ℤ v) *ℤ (gd *ℤ fd) = simp factors in
-    let negated : gn *ℤ (q *ℤ d) ≡ neg_ℤ (v *ℤ gd) = omega (arith, linear, ap (λ t. gn *ℤ t) (neg_mul q d), mul_neg gn (q *ℤ d)) in
-    let left = turn ∙ ap (λ t. t *ℤ (fd *ℤ p)) negated ∙ neg_mul (v *ℤ gd) (fd *ℤ p) ∙ ap neg_ℤ back in
+    let negated : gn *ℤ (q *ℤ d) ≡ neg_ℤ (v *ℤ gd) = omega (arith, linear, ap (λ t. gn *ℤ t) (neg-mul_ℤ q d), mul-neg_ℤ gn (q *ℤ d)) in
+    let left = turn ∙ ap (λ t. t *ℤ (fd *ℤ p)) negated ∙ neg-mul_ℤ (v *ℤ gd) (fd *ℤ p) ∙ ap neg_ℤ back in
     let turn_f : (fn *ℤ gd) *ℤ (p *ℤ (q *ℤ d)) ≡ (fn *ℤ (p *ℤ d)) *ℤ (gd *ℤ q) = simp factors in
     let back_f : (u *ℤ fd) *ℤ (gd *ℤ q) ≡ (q *ℤ u) *ℤ (gd *ℤ fd) = simp factors in
     let right = turn_f ∙ ap (λ t. t *ℤ (gd *ℤ q)) e ∙ back_f in
-    cancel_at_most (gn *ℤ fd) (fn *ℤ gd) (p *ℤ (q *ℤ d)) (mul_positive p (q *ℤ d) hp (mul_positive q d hq hd))
-    (omega (arith, linear, neg_mul (p *ℤ v) (gd *ℤ fd)))
+    le_of_mul_right_ℤ (gn *ℤ fd) (fn *ℤ gd) (p *ℤ (q *ℤ d)) (mul-positive_ℤ p (q *ℤ d) hp (mul-positive_ℤ q d hq hd))
+    (omega (arith, linear, neg-mul_ℤ (p *ℤ v) (gd *ℤ fd)))
 
 -- the slack of a line by its column c
 slack_split : (n c : ℕ) (point : RationalPoint) (line : Line) → c < n
@@ -116,9 +118,9 @@ slack_split : (n c : ℕ) (point : RationalPoint) (line : Line) → c < n
 slack_split n c point line l =
     omega (arith, linear, without_product (take n line.numbers) point.numerators c, ap (λ t. t *ℤ get_or point.numerators c (pos 0)) (get_or-take n line.numbers c (pos 0) l))
 
-holds_unreduced : (equal : Bool) (f : List ℤ → ℤ) → IsLinear f → (xs : List ℤ) → Holds equal (f (reduced xs)) → Holds equal (f xs)
-holds_unreduced true f l xs h = from_reduced_vanishes f l xs h
-holds_unreduced false f l xs h = from_reduced_at_most f l xs h
+holds_unreduced : (equal : Bool) (f : List ℤ → ℤ) → IsLinear f → (xs : List ℤ) → Holds equal (f (divided xs)) → Holds equal (f xs)
+holds_unreduced true f l xs h = from_divided_vanishes f l xs h
+holds_unreduced false f l xs h = from_divided_at_most f l xs h
 
 -- what holds of the made line holds of the combination
 unreduced : (n : ℕ) (point : RationalPoint) (equal : Bool) (a : ℤ) (left : Line) (b : ℤ) (right next : Line)
@@ -126,7 +128,7 @@ unreduced : (n : ℕ) (point : RationalPoint) (equal : Bool) (a : ℤ) (left : L
     → Holds equal (a *ℤ slack n point left.numbers +ℤ b *ℤ slack n point right.numbers)
 unreduced n point equal a left b right next e h =
     let xs = combination a left.numbers b right.numbers in
-    let here : Holds equal (slack n point (reduced xs)) = subst (λ (line : Line). MeetsLine n point line) (sym (made_is equal a left.numbers b right.numbers next e)) h in
+    let here : Holds equal (slack n point (divided xs)) = subst (λ (line : Line). MeetsLine n point line) (sym (made_is equal a left.numbers b right.numbers next e)) h in
     subst (λ t. Holds equal t) (of_combination (slack n point) (slack_linear n point) a left.numbers b right.numbers) (holds_unreduced equal (slack n point) (slack_linear n point) xs here)
 
 pub substituted_back : (n c : ℕ) (point : RationalPoint) (equality line next : Line) → is_nonzero (coefficient_at c equality) ≡ true
@@ -160,7 +162,7 @@ substituted_back n c point equality line next z t m e h = at (is_nonzero q) refl
   at true w e =
       let sum = unreduced n point line.equal a line b equality next e h in
       let only : a *ℤ slack n point line.numbers +ℤ b *ℤ slack n point equality.numbers ≡ a *ℤ slack n point line.numbers =
-      omega (arith, linear, ap (λ t. b *ℤ t) vanishes, mul_zero b) in
+      omega (arith, linear, ap (λ t. b *ℤ t) vanishes, mul-zero_ℤ b) in
       holds_cancel line.equal a (slack n point line.numbers) positive (subst (λ t. Holds line.equal t) only sum)
   at false w e = let same : line ≡ next = cc in subst (λ (l : Line). MeetsLine n point l) (sym same) h
 
@@ -170,11 +172,11 @@ pair_sum : (g a b p q u v x : ℤ) → pos 0 <ℤ g → g *ℤ a ≡ q → g *�
 pair_sum g a b p q u v x hg e k h =
     let sl = p *ℤ x -ℤ u in
     let sr = neg_ℤ q *ℤ x -ℤ v in
-    let wide = mul_at_most (a *ℤ sl +ℤ b *ℤ sr) (pos 0) g (not_negative g hg) h in
-    let left : (a *ℤ sl) *ℤ g ≡ q *ℤ sl = mul_swap (a *ℤ sl) g ∙ sym (mul_mul g a sl) ∙ ap (λ t. t *ℤ sl) e in
-    let right : (b *ℤ sr) *ℤ g ≡ p *ℤ sr = mul_swap (b *ℤ sr) g ∙ sym (mul_mul g b sr) ∙ ap (λ t. t *ℤ sr) k in
-    let meet : p *ℤ (q *ℤ x) ≡ q *ℤ (p *ℤ x) = mul_swap_left p q x in
-    omega (arith, linear, add_mul (a *ℤ sl) (b *ℤ sr) g, zero_mul g, mul_add q (p *ℤ x) (neg_ℤ u), mul_neg q u, mul_add p (neg_ℤ q *ℤ x) (neg_ℤ v), mul_neg p v, ap (λ t. p *ℤ t) (neg_mul q x), mul_neg p (q *ℤ x))
+    let wide = mul_right_le_ℤ (a *ℤ sl +ℤ b *ℤ sr) (pos 0) g (not_negative g hg) h in
+    let left : (a *ℤ sl) *ℤ g ≡ q *ℤ sl = mul_comm_ℤ (a *ℤ sl) g ∙ sym (mul_assoc_ℤ g a sl) ∙ ap (λ t. t *ℤ sl) e in
+    let right : (b *ℤ sr) *ℤ g ≡ p *ℤ sr = mul_comm_ℤ (b *ℤ sr) g ∙ sym (mul_assoc_ℤ g b sr) ∙ ap (λ t. t *ℤ sr) k in
+    let meet : p *ℤ (q *ℤ x) ≡ q *ℤ (p *ℤ x) = mul_left_comm_ℤ p q x in
+    omega (arith, linear, add-mul_ℤ (a *ℤ sl) (b *ℤ sr) g, zero-mul_ℤ g, mul-add_ℤ q (p *ℤ x) (neg_ℤ u), mul-neg_ℤ q u, mul-add_ℤ p (neg_ℤ q *ℤ x) (neg_ℤ v), mul-neg_ℤ p v, ap (λ t. p *ℤ t) (neg-mul_ℤ q x), mul-neg_ℤ p (q *ℤ x))
 
 pub paired_bounds : (n c : ℕ) (point : RationalPoint) (positive negative next : Line) (f g : Fraction) → c < n → pos 0 <ℤ point.denominator
     → pos 0 <ℤ coefficient_at c positive → coefficient_at c negative <ℤ pos 0

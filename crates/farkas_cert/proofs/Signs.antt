@@ -4,9 +4,10 @@ use Rattle.std.specs.Prelude.{ℤ, pos, negsuc, neg_ℤ, ◌+ℤ◌, ◌*ℤ◌,
 use Rattle.std.proofs.Math.Nat.{zero-div}
 use Rattle.lin_rows.specs.Row.{Row, scaled, sum_of}
 use Rattle.farkas_cert.specs.Cert.{InOrder, AllowsAt, Allows, row_numbered}
-use Rattle.farkas_cert.specs.Divisor.{over}
+use Rattle.farkas_cert.specs.Divided.{over}
 use Rattle.farkas_cert.specs.Line.{listed}
-use Rattle.farkas_cert.proofs.Integers.{linear, mul_zero, mul_not_negative}
+use Rattle.lin_rows.proofs.Integers.{mul-zero_ℤ}
+use Rattle.farkas_cert.proofs.Integers.{linear, mul-not_negative_ℤ}
 
 -- what the multiplier of a row may be in a line that is an equality or not
 abbrev pub RowSign : Bool → Bool → ℤ → Type 0
@@ -22,8 +23,8 @@ Signs equal (row ∷ rows) (m ∷ ms) = RowSign row.equal equal m × Signs equal
 
 row_scaled : (r equal : Bool) (a m : ℤ) → pos 0 ≤ℤ a → RowSign r equal m → RowSign r equal (a *ℤ m)
 row_scaled true equal a m n h = tt
-row_scaled false true a m n h = ap (λ t. a *ℤ t) h ∙ mul_zero a
-row_scaled false false a m n h = mul_not_negative a m n h
+row_scaled false true a m n h = ap (λ t. a *ℤ t) h ∙ mul-zero_ℤ a
+row_scaled false false a m n h = mul-not_negative_ℤ a m n h
 
 row_sum : (r equal : Bool) (m k : ℤ) → RowSign r equal m → RowSign r equal k → RowSign r equal (m +ℤ k)
 row_sum true equal m k h i = tt
@@ -32,7 +33,7 @@ row_sum false false m k h i = omega (arith, linear)
 
 row_any : (r : Bool) (b m : ℤ) → RowSign r true m → RowSign r true (b *ℤ m)
 row_any true b m h = tt
-row_any false b m h = ap (λ t. b *ℤ t) h ∙ mul_zero b
+row_any false b m h = ap (λ t. b *ℤ t) h ∙ mul-zero_ℤ b
 
 row_weaker : (r equal : Bool) (m : ℤ) → RowSign r true m → RowSign r equal m
 row_weaker true equal m h = tt
@@ -45,7 +46,6 @@ row_false false true m h = omega (arith, linear)
 row_false false false m h = h
 
 row_over : (r equal : Bool) (g : ℕ) (m : ℤ) → RowSign r equal m → RowSign r equal (over g m)
-unfolding over
 row_over true equal g m h = tt
 row_over false true g m h = rw h (ap pos (zero-div g))
 row_over false false g (pos n) h = omega (arith, linear)

@@ -4,9 +4,11 @@ use Rattle.std.specs.Prelude.{ℤ, pos, ◌+ℤ◌, ◌-ℤ◌, ◌*ℤ◌, ◌�
 use Rattle.std.specs.Option.{option_map, option_and_then}
 use Rattle.thr_base.specs.Number.{fits}
 use Rattle.lin_rows.specs.Row.{product_of, scaled}
+use Rattle.lin_rows.specs.Exact.{fitting}
 use Rattle.farkas_cert.specs.Line.{Line, coefficient_at, bound_of}
-use Rattle.farkas_cert.specs.BackSubstitution.{RationalPoint, Fraction, fraction, fitting, minus_products, bound_on}
-use Rattle.farkas_cert.proofs.Integers.{linear, mul_add, add_mul, mul_mul, mul_swap_left, mul_zero, zero_mul}
+use Rattle.farkas_cert.specs.BackSubstitution.{RationalPoint, Fraction, fraction, minus_products, bound_on}
+use Rattle.lin_rows.proofs.Integers.{mul-add_ℤ, add-mul_ℤ, mul_assoc_ℤ, mul-zero_ℤ, zero-mul_ℤ}
+use Rattle.farkas_cert.proofs.Integers.{linear, mul_left_comm_ℤ}
 use Rattle.farkas_cert.proofs.Linear.{IsLinear, product-linear, get-linear, take-linear, difference-linear}
 
 -- ---- the distance
@@ -17,8 +19,8 @@ slack n point xs = product_of (take n xs) point.numerators -ℤ get_or xs n (pos
 
 times_linear : (f : List ℤ → ℤ) (d : ℤ) → IsLinear f → IsLinear (λ xs. f xs *ℤ d)
 times_linear f d h = record {
-  of_sum = λ xs ys. ap (λ t. t *ℤ d) (h.of_sum xs ys) ∙ add_mul (f xs) (f ys) d;
-  of_scaled = λ k xs. ap (λ t. t *ℤ d) (h.of_scaled k xs) ∙ mul_mul k (f xs) d;
+  of_sum = λ xs ys. ap (λ t. t *ℤ d) (h.of_sum xs ys) ∙ add-mul_ℤ (f xs) (f ys) d;
+  of_scaled = λ k xs. ap (λ t. t *ℤ d) (h.of_scaled k xs) ∙ mul_assoc_ℤ k (f xs) d;
 }
 
 pub slack_linear : (n : ℕ) (point : RationalPoint) → IsLinear (slack n point)
@@ -39,23 +41,23 @@ MeetsLine n point line = Holds line.equal (slack n point line.numbers)
 
 pub set_product : (xs ns : List ℤ) (c : ℕ) (y : ℤ) → c < length ns
     → product_of xs (slice_set ns c y) ≡ product_of (slice_set xs c (pos 0)) ns +ℤ get_or xs c (pos 0) *ℤ y
-set_product [] ns c y h = omega (arith, linear, zero_mul y)
+set_product [] ns c y h = omega (arith, linear, zero-mul_ℤ y)
 set_product (x ∷ xs) [] c y h = absurd (omega arith)
-set_product (x ∷ xs) (n ∷ ns) zero y h = omega (arith, linear, zero_mul n)
+set_product (x ∷ xs) (n ∷ ns) zero y h = omega (arith, linear, zero-mul_ℤ n)
 set_product (x ∷ xs) (n ∷ ns) (suc c) y h = omega (arith, linear, set_product xs ns c y (omega arith))
 
 pub without_product : (xs ns : List ℤ) (c : ℕ)
     → product_of xs ns ≡ product_of (slice_set xs c (pos 0)) ns +ℤ get_or xs c (pos 0) *ℤ get_or ns c (pos 0)
-without_product [] ns c = omega (arith, linear, zero_mul (get_or ns c (pos 0)))
-without_product (x ∷ xs) [] zero = omega (arith, linear, mul_zero x)
-without_product (x ∷ xs) [] (suc c) = omega (arith, linear, mul_zero (get_or xs c (pos 0)))
-without_product (x ∷ xs) (n ∷ ns) zero = omega (arith, linear, zero_mul n)
+without_product [] ns c = omega (arith, linear, zero-mul_ℤ (get_or ns c (pos 0)))
+without_product (x ∷ xs) [] zero = omega (arith, linear, mul-zero_ℤ x)
+without_product (x ∷ xs) [] (suc c) = omega (arith, linear, mul-zero_ℤ (get_or xs c (pos 0)))
+without_product (x ∷ xs) (n ∷ ns) zero = omega (arith, linear, zero-mul_ℤ n)
 without_product (x ∷ xs) (n ∷ ns) (suc c) = omega (arith, linear, without_product xs ns c)
 
 pub product-scaled_right : (k : ℤ) (xs ns : List ℤ) → product_of xs (scaled k ns) ≡ k *ℤ product_of xs ns
-product-scaled_right k [] ns = sym (mul_zero k)
-product-scaled_right k (x ∷ xs) [] = sym (mul_zero k)
-product-scaled_right k (x ∷ xs) (n ∷ ns) = omega (arith, linear, product-scaled_right k xs ns, mul_swap_left x k n, mul_add k (x *ℤ n) (product_of xs ns))
+product-scaled_right k [] ns = sym (mul-zero_ℤ k)
+product-scaled_right k (x ∷ xs) [] = sym (mul-zero_ℤ k)
+product-scaled_right k (x ∷ xs) (n ∷ ns) = omega (arith, linear, product-scaled_right k xs ns, mul_left_comm_ℤ x k n, mul-add_ℤ k (x *ℤ n) (product_of xs ns))
 
 -- ---- what a line says of a column
 

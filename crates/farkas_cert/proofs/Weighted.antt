@@ -8,10 +8,12 @@ use Rattle.std.proofs.lemmas.Nat.Gcd.{dvd-zero}
 use Rattle.std.proofs.Math.Nat.{dvd-mul_right}
 use Rattle.lin_rows.specs.Row.{Row, product_of, scaled}
 use Rattle.farkas_cert.specs.Cert.{add_weighted, row_numbered, weighted_sum}
-use Rattle.farkas_cert.specs.Divisor.{over}
+use Rattle.farkas_cert.specs.Divided.{over}
 use Rattle.farkas_cert.specs.Line.{listed}
-use Rattle.farkas_cert.proofs.Divisors.{DivideAll, over-exact}
-use Rattle.farkas_cert.proofs.Integers.{linear, mul_add, mul_mul, zero_mul, mul_zero, mul_one}
+use Rattle.lin_rows.proofs.Divisors.{DividesAll}
+use Rattle.farkas_cert.proofs.Divisors.{over-exact}
+use Rattle.lin_rows.proofs.Integers.{mul-add_ℤ, mul_assoc_ℤ, zero-mul_ℤ, mul-zero_ℤ}
+use Rattle.farkas_cert.proofs.Integers.{linear, mul-one_ℤ}
 use Rattle.farkas_cert.proofs.Linear.{product-sum, product-scaled}
 use Rattle.farkas_cert.proofs.Signs.{Signs, split_at}
 
@@ -42,7 +44,7 @@ unfolding listed
 weighted_coefficients all rows k equal [] y e h = refl
 weighted_coefficients all [] k equal (m ∷ ms) y e h = absurd h
 weighted_coefficients all (row ∷ rows) k equal (pos zero ∷ ms) y e h =
-    omega (arith, linear, weighted_coefficients all rows (suc k) equal ms y (split_at all rows k row e).1 h.1, zero_mul (product_of row.coefficients y))
+    omega (arith, linear, weighted_coefficients all rows (suc k) equal ms y (split_at all rows k row e).1 h.1, zero-mul_ℤ (product_of row.coefficients y))
 weighted_coefficients all (row ∷ rows) k equal (pos (suc m) ∷ ms) y e h =
     let at = split_at all rows k row e in
     added (row_numbered all (suc k)) row (pos (suc m)) (weighted_sum all (listed (suc (suc k)) ms)) y at.0
@@ -58,7 +60,7 @@ unfolding listed
 weighted_bound all rows k equal [] e h = refl
 weighted_bound all [] k equal (m ∷ ms) e h = absurd h
 weighted_bound all (row ∷ rows) k equal (pos zero ∷ ms) e h =
-    omega (arith, linear, weighted_bound all rows (suc k) equal ms (split_at all rows k row e).1 h.1, zero_mul row.bound)
+    omega (arith, linear, weighted_bound all rows (suc k) equal ms (split_at all rows k row e).1 h.1, zero-mul_ℤ row.bound)
 weighted_bound all (row ∷ rows) k equal (pos (suc m) ∷ ms) e h =
     let at = split_at all rows k row e in
     added_bound (row_numbered all (suc k)) row (pos (suc m)) (weighted_sum all (listed (suc (suc k)) ms)) at.0
@@ -76,8 +78,8 @@ product_none (x ∷ xs) = refl
 pub zeros_from_products : (xs : List ℤ) → ((y : List ℤ) → product_of xs y ≡ pos 0) → AllByRecursion (λ a. a ≡ pos 0) xs
 zeros_from_products [] h = tt
 zeros_from_products (x ∷ xs) h = (
-  omega (arith, linear, h (pos 1 ∷ []), mul_one x, product_none xs),
-  zeros_from_products xs (λ y. omega (arith, linear, h (pos 0 ∷ y), mul_zero x)),
+  omega (arith, linear, h (pos 1 ∷ []), mul-one_ℤ x, product_none xs),
+  zeros_from_products xs (λ y. omega (arith, linear, h (pos 0 ∷ y), mul-zero_ℤ x)),
 )
 
 -- ---- divisors
@@ -92,34 +94,34 @@ multiple_from_divides g x h = (over g x, sym (over-exact g x h))
 pub divides_from_multiple : (g : ℕ) (x : ℤ) → IsMultiple g x → g ∣ unsigned_abs x
 divides_from_multiple g x (q, e) = rw (e, unsigned_abs-mul) (dvd-mul_right g (unsigned_abs q))
 
-pub multiple_product : (g : ℕ) (ms ys : List ℤ) → DivideAll g ms → IsMultiple g (product_of ms ys)
-multiple_product g [] ys h = (pos 0, sym (mul_zero (pos g)))
-multiple_product g (m ∷ ms) [] h = (pos 0, sym (mul_zero (pos g)))
+pub multiple_product : (g : ℕ) (ms ys : List ℤ) → DividesAll g ms → IsMultiple g (product_of ms ys)
+multiple_product g [] ys h = (pos 0, sym (mul-zero_ℤ (pos g)))
+multiple_product g (m ∷ ms) [] h = (pos 0, sym (mul-zero_ℤ (pos g)))
 multiple_product g (m ∷ ms) (y ∷ ys) h =
     let here = multiple_from_divides g m h.0 in
     let rest = multiple_product g ms ys h.1 in (
       here.0 *ℤ y +ℤ rest.0,
       ap (λ t. t *ℤ y +ℤ product_of ms ys) here.1 ∙ ap (λ t. (pos g *ℤ here.0) *ℤ y +ℤ t) rest.1
-          ∙ ap (λ t. t +ℤ pos g *ℤ rest.0) (mul_mul (pos g) here.0 y) ∙ sym (mul_add (pos g) (here.0 *ℤ y) rest.0),
+          ∙ ap (λ t. t +ℤ pos g *ℤ rest.0) (mul_assoc_ℤ (pos g) here.0 y) ∙ sym (mul-add_ℤ (pos g) (here.0 *ℤ y) rest.0),
     )
 
 -- What divides the listed multipliers divides them all.
-pub divides_listed : (g k : ℕ) (ms : List ℤ) → AllByRecursion (λ pair. g ∣ unsigned_abs pair.1) (listed k ms) → DivideAll g ms
+pub divides_listed : (g k : ℕ) (ms : List ℤ) → AllByRecursion (λ pair. g ∣ unsigned_abs pair.1) (listed k ms) → DividesAll g ms
 unfolding listed
 divides_listed g k [] h = tt
 divides_listed g k (pos zero ∷ ms) h = (dvd-zero g, divides_listed g (suc k) ms h)
 divides_listed g k (pos (suc m) ∷ ms) h = (h.0, divides_listed g (suc k) ms h.1)
 divides_listed g k (negsuc m ∷ ms) h = (h.0, divides_listed g (suc k) ms h.1)
 
-pub divides_neg : (g : ℕ) (ms : List ℤ) → DivideAll g (map neg_ℤ ms) → DivideAll g ms
+pub divides_neg : (g : ℕ) (ms : List ℤ) → DividesAll g (map neg_ℤ ms) → DividesAll g ms
 divides_neg g [] h = tt
 divides_neg g (pos zero ∷ ms) h = (h.0, divides_neg g ms h.1)
 divides_neg g (pos (suc m) ∷ ms) h = (h.0, divides_neg g ms h.1)
 divides_neg g (negsuc m ∷ ms) h = (h.0, divides_neg g ms h.1)
 
 -- A list is divided where its parts are.
-pub divides_parts : (g n : ℕ) (xs : List ℤ) → DivideAll g (take n xs) → g ∣ unsigned_abs (get_or xs n (pos 0)) → DivideAll g (drop (suc n) xs)
-    → DivideAll g xs
+pub divides_parts : (g n : ℕ) (xs : List ℤ) → DividesAll g (take n xs) → g ∣ unsigned_abs (get_or xs n (pos 0)) → DividesAll g (drop (suc n) xs)
+    → DividesAll g xs
 divides_parts g n [] h b k = tt
 divides_parts g zero (x ∷ xs) h b k = (b, k)
 divides_parts g (suc n) (x ∷ xs) h b k = (h.0, divides_parts g n xs h.1 b k)

@@ -4,8 +4,10 @@ use Rattle.std.specs.Prelude.{ℕ, suc, ℤ, pos, negsuc, neg_ℤ, ◌-ℤ◌, �
 use Rattle.std.specs.Int.{int_div_euclid}
 use Rattle.std.specs.Option.{option_map, option_and_then}
 use Rattle.thr_base.specs.Number.{fits}
+use Rattle.lin_rows.specs.Exact.{fitting}
 use Rattle.lin_rows.specs.Row.{scaled}
-use Rattle.farkas_cert.specs.Divisor.{gcd, over}
+use Rattle.lin_rows.specs.Gcd.{gcd}
+use Rattle.farkas_cert.specs.Divided.{over}
 use Rattle.farkas_cert.specs.Line.{Line, coefficient_at, bound_of, all_fit}
 
 -- numerators, one for each column, over one denominator
@@ -35,10 +37,6 @@ floor_of f = int_div_euclid f.numerator f.denominator
 
 abbrev pub ceiling_of : Fraction → ℤ
 ceiling_of f = neg_ℤ (int_div_euclid (neg_ℤ f.numerator) f.denominator)
-
--- x, where it fits
-abbrev pub fitting : ℤ → Option ℤ
-fitting x = cond (fits x) (Some x) None
 
 -- t minus the products of two lists, one after another; nothing where a product or a difference does not fit
 abbrev pub minus_products : ℤ → List ℤ → List ℤ → Option ℤ

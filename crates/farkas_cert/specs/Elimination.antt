@@ -1,19 +1,15 @@
 -- The elimination: it takes the columns of a system one after another out of its rows, until a row without a variable is false or
 -- no row is left. It computes over unbounded numbers, and looks at whether they fit only to leave.
-use Rattle.std.specs.Prelude.{◌≡◌, ℕ, zero, suc, ◌+◌, ◌*◌, ℤ, pos, neg_ℤ, ◌*ℤ◌, unsigned_abs, Bool, false, cond, not, nat_lt, int_lt, List, [], ◌∷◌, ◌++◌, map, length, filter, flat_map, find, replicate, if◌then◌else◌, Option, Some, None}
+use Rattle.std.specs.Prelude.{ℕ, zero, suc, ◌+◌, ◌*◌, ℤ, pos, neg_ℤ, ◌*ℤ◌, unsigned_abs, Bool, false, cond, not, nat_lt, int_lt, List, [], ◌∷◌, ◌++◌, map, length, filter, flat_map, find, replicate, if◌then◌else◌, Option, Some, None, is_none}
 use Rattle.std.specs.Int.{int_signum}
-use Rattle.std.specs.List.{AllByRecursion}
 use Rattle.std.specs.Option.{option_map}
 use Rattle.lin_rows.specs.System.{System}
 use Rattle.farkas_cert.specs.Cert.{Pairs}
-use Rattle.farkas_cert.specs.Divisor.{gcd, over}
+use Rattle.lin_rows.specs.Gcd.{gcd}
+use Rattle.farkas_cert.specs.Divided.{over}
 use Rattle.farkas_cert.specs.Line.{Line, given_lines, coefficient_at, lowest_column, lowest_of, has_variable, is_false, refuting, listed, is_nonzero, made_line}
-use Rattle.farkas_cert.specs.Overflow.{check_fits}
+use Rattle.farkas_cert.specs.Proof.{overflow_of}
 use Rattle.farkas_cert.specs.BackSubstitution.{RationalPoint, Kept, Solved, Bounded, set_column}
-
--- Each row has one coefficient per column.
-abbrev pub IsRectangular : System → Type 0
-IsRectangular system = AllByRecursion (λ row. length row.coefficients ≡ system.columns) system.rows
 
 -- why the elimination leaves: a number does not fit, or there are too many rows
 pub data LeaveKind : Type 0 where
@@ -53,11 +49,11 @@ every (Some x ∷ xs) = option_map (λ ys. x ∷ ys) (every xs)
 
 -- ---- the constant test
 
--- Multipliers refute, where the check of the certificate keeps to numbers that fit.
+-- Multipliers refute, where each product and partial sum of the check fits.
 abbrev pub refuted : System → ℕ → List ℤ → Outcome
 refuted system number ms =
     let pairs = listed 1 ms in
-    if check_fits system.rows pairs then Refuted pairs else Leaves number Overflow
+    if is_none (overflow_of system.rows pairs) then Refuted pairs else Leaves number Overflow
 
 -- The first false line without a variable ends the work as refuted; the other lines without a variable are removed.
 abbrev pub tested_by : System → ℕ → Work → Option Line → Next

@@ -1,7 +1,11 @@
-pub mod BackSubstitution
 pub mod Cert
-pub mod Divisor
-pub mod Elimination
-pub mod Line
-pub mod Overflow
+pub mod Proof
+pub mod Point
+pub mod Answer
+pub mod Columns
+pub mod Weighing
 pub mod Reduced
+pub mod Divided
+pub mod Line
+pub mod BackSubstitution
+pub mod Elimination

@@ -3,7 +3,7 @@ use Rattle.std.specs.Prelude.{ℕ, zero, suc, min, ℤ, pos, negsuc, neg_ℤ, Bo
 use Rattle.std.specs.List.{list_all, list_any, position_or_len}
 use Rattle.thr_base.specs.Number.{fits}
 use Rattle.lin_rows.specs.Row.{Row, scaled, sum_of}
-use Rattle.farkas_cert.specs.Divisor.{reduced}
+use Rattle.farkas_cert.specs.Divided.{divided}
 use Rattle.farkas_cert.specs.Cert.{Pairs}
 
 pub record Line : Type 0 where
@@ -80,4 +80,4 @@ combination_fits a xs b ys = all_fit (scaled a xs) && (all_fit (scaled b ys) && 
 
 -- A made line is divided by the greatest common divisor of its numbers. None is made where a product or a sum does not fit.
 unfoldable pub made_line : Bool → ℤ → List ℤ → ℤ → List ℤ → Option Line
-made_line equal a xs b ys = cond (combination_fits a xs b ys) (Some (record { equal = equal; numbers = reduced (combination a xs b ys) })) None
+made_line equal a xs b ys = cond (combination_fits a xs b ys) (Some (record { equal = equal; numbers = divided (combination a xs b ys) })) None

@@ -1,20 +1,20 @@
-ghost use Rattle.std.specs.Prelude.{◌≡◌, ℕ, ◌≤◌, ℤ, true, List};
+ghost use Rattle.std.specs.Prelude.{◌≡◌, ℕ, ◌≤◌, ℤ, List};
 ghost use Rattle.lin_rows.specs.System.{System, IsRationalPoint};
-ghost use Rattle.farkas_cert.specs.Cert.{Pairs, Refutes};
-ghost use Rattle.farkas_cert.specs.Elimination.{IsRectangular, Refuted, Point, outcome_of, outcome_within};
-ghost use Rattle.farkas_cert.specs.Overflow.{check_fits};
+ghost use Rattle.farkas_cert.specs.Cert.{Pairs};
+ghost use Rattle.farkas_cert.specs.Columns.{HasWidths};
+ghost use Rattle.farkas_cert.specs.Elimination.{Refuted, Point, outcome_of, outcome_within};
+ghost use Rattle.farkas_cert.specs.Proof.{Proves};
 ghost use Rattle.farkas_cert.specs.Reduced.{IsReduced};
 
-/// What the elimination gives as a certificate is one, without a common divisor, and its check overflows nowhere.
-pub fn certificate_refutes()
-    ensures refutes { (system : System) (pairs : Pairs) → IsRectangular system → outcome_of system ≡ Refuted pairs → Refutes system pairs }
-    ensures reduced { (system : System) (pairs : Pairs) → IsRectangular system → outcome_of system ≡ Refuted pairs → IsReduced pairs }
-    ensures fits { (system : System) (pairs : Pairs) → IsRectangular system → outcome_of system ≡ Refuted pairs → check_fits system.rows pairs ≡ true }
+/// A certificate with which the elimination ends proves, and has no common divisor.
+pub fn certificate_proves()
+    ensures proves { (system : System) (pairs : Pairs) → HasWidths system → outcome_of system ≡ Refuted pairs → Proves system pairs }
+    ensures reduced { (system : System) (pairs : Pairs) → HasWidths system → outcome_of system ≡ Refuted pairs → IsReduced pairs }
 {}
 
-/// What the elimination gives as a point is a rational point of the system.
+/// A point with which the elimination ends is one of the system.
 pub fn point_is_a_point()
-    ensures { (system : System) (x : List ℤ) (d : ℤ) → IsRectangular system → outcome_of system ≡ Point x d → IsRationalPoint system x d }
+    ensures { (system : System) (x : List ℤ) (d : ℤ) → HasWidths system → outcome_of system ≡ Point x d → IsRationalPoint system x d }
 {}
 
 /// The elimination has ended after as many stages as there are columns.

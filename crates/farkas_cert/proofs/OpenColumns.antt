@@ -8,11 +8,12 @@ use Rattle.std.proofs.lemmas.Bool.{eqb-true, eqb-false, cases_lt}
 use Rattle.std.proofs.Math.Nat.{min-eq_left, min-eq_right}
 use Rattle.std.proofs.lemmas.Int.{ints}
 use Rattle.lin_rows.specs.System.{System}
-use Rattle.farkas_cert.specs.Divisor.{gcd, over}
+use Rattle.lin_rows.specs.Gcd.{gcd}
+use Rattle.farkas_cert.specs.Divided.{over}
 use Rattle.farkas_cert.specs.Line.{Line, coefficient_at, has_variable, is_nonzero, combination, made_line, lowest_column, lowest_of}
 use Rattle.farkas_cert.specs.BackSubstitution.{Kept, Solved, Bounded}
 use Rattle.farkas_cert.specs.Elimination.{Leaves, Rows, Work, Next, Goes, Ends, every, follows, without_equality, substituted, equality_stage, paired, positives, negatives, with_column, without_column, pairs_at, are_too_many, pair_stage}
-use Rattle.farkas_cert.proofs.Linear.{get-linear, of_combination, reduced_vanishes}
+use Rattle.farkas_cert.proofs.Linear.{get-linear, of_combination, divided_vanishes}
 use Rattle.farkas_cert.proofs.Derived.{made_is, made_vanishes}
 use Rattle.farkas_cert.proofs.Eliminates.{substitution_cancels, pairing_cancels}
 use Rattle.farkas_cert.proofs.Lists.{all_filter, all_both, all_append, all_from, all_map, all_flat_map, all_every}
@@ -176,7 +177,7 @@ made_loses : (c : ℕ) (equal : Bool) (a : ℤ) (left : Line) (b : ℤ) (right l
     → coefficient_at c line ≡ pos 0
 made_loses c equal a left b right line h e =
     subst (λ (next : Line). coefficient_at c next ≡ pos 0) (made_is equal a left.numbers b right.numbers line e)
-    (reduced_vanishes (λ xs. get_or xs c (pos 0)) (get-linear c) (combination a left.numbers b right.numbers)
+    (divided_vanishes (λ xs. get_or xs c (pos 0)) (get-linear c) (combination a left.numbers b right.numbers)
     (of_combination (λ xs. get_or xs c (pos 0)) (get-linear c) a left.numbers b right.numbers ∙ h))
 
 pub substituted_closes : (n c : ℕ) (f : ℕ → Bool) (equality line next : Line) → IsWithin n f equality → IsWithin n f line
