@@ -1,5 +1,5 @@
 -- The sum of a column, pair by pair.
-use Rattle.std.proofs.Common.{◌≡◌, ℕ, zero, suc, ◌+◌, ◌<◌, List, [], ◌∷◌, length, drop, get_or, Option, Some, None, Err, IsSome, Bool, true, false, ◌&&◌, if◌then◌else◌, ◌^◌, ℤ, pos, negsuc, ◌+ℤ◌, ◌*ℤ◌, refl, sym, ◌∙◌, ap, subst, drop-cons, add-one, true≢false, ltb-true, lt-ltb, arith}
+use Rattle.std.proofs.Common.{◌≡◌, ℕ, zero, suc, ◌+◌, ◌<◌, ◌≤◌, ◌-◌, List, [], ◌∷◌, ◌++◌, length, take, drop, get_or, map, Option, Some, None, Result, Ok, Err, IsSome, Bool, true, false, ◌&&◌, if◌then◌else◌, ◌^◌, ℤ, pos, negsuc, ◌+ℤ◌, ◌*ℤ◌, refl, sym, ◌∙◌, ap, subst, drop-cons, add-one, true≢false, ltb-true, lt-ltb, arith}
 use Rattle.std.specs.Option.{option_map_or}
 use Rattle.thr_base.specs.Number.{Fits, fits}
 use Rattle.lin_rows.specs.Row.{Row, scaled}
@@ -20,15 +20,15 @@ IsSome-AllowsAt (Some row) m h = refl
 
 pub IsSome-InOrder : (rows : List Row) (last : ℕ) (pairs : Pairs) (n : ℕ) (d : ℕ × ℤ) → InOrder rows last pairs → n < length pairs → IsSome (row_numbered rows (get_or pairs n d).0)
 IsSome-InOrder rows last [] n d h below = absurd (omega arith)
-IsSome-InOrder rows last ((k, m) ∷ pairs) zero d h below = IsSome-AllowsAt (row_numbered rows k) m h.1
-IsSome-InOrder rows last ((k, m) ∷ pairs) (suc n) d h below = IsSome-InOrder rows k pairs n d h.2 (omega arith)
+IsSome-InOrder rows last ((k , m) ∷ pairs) zero d h below = IsSome-AllowsAt (row_numbered rows k) m h.1
+IsSome-InOrder rows last ((k , m) ∷ pairs) (suc n) d h below = IsSome-InOrder rows k pairs n d h.2 (omega arith)
 
 -- ---- one more pair
 column_from-step : (rows : List Row) (sum : ℤ) (column : ℕ) (p : ℕ × ℤ) (pairs : Pairs) (sum' : Option ℤ) → sum' ≡ added sum (p.1 *ℤ number_at (row_numbered rows p.0) column)
     → column_from sum column (products rows (p ∷ pairs)) ≡ option_map_or (λ more. column_from more column (products rows pairs)) sum' (Err p.0)
-column_from-step rows sum column (k, m) pairs sum' e =
+column_from-step rows sum column (k , m) pairs sum' e =
     ap (λ v. option_map_or (λ more. column_from more column (products rows pairs)) v (Err k))
-    (ap (added sum) (get_or-scaled m (numbers_of (row_numbered rows k)) column) ∙ sym e)
+      (ap (added sum) (get_or-scaled m (numbers_of (row_numbered rows k)) column) ∙ sym e)
 
 pub column_from-at : (rows : List Row) (sum : ℤ) (column : ℕ) (pairs : Pairs) (n : ℕ) (d : ℕ × ℤ) (sum' : Option ℤ) → n < length pairs
     → sum' ≡ added sum ((get_or pairs n d).1 *ℤ number_at (row_numbered rows (get_or pairs n d).0) column)

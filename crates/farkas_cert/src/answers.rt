@@ -14,3 +14,4 @@ pub enum PointAnswer {
     Fails { row: u32 },
     Overflow { row: u32, column: u32 },
 }
+
