@@ -60,7 +60,10 @@ pub record Bounds : Type 0 where
 
 -- whether f is below g, by cross products that fit
 abbrev pub is_below : Fraction → Fraction → Option Bool
-is_below f g = cond (fits (f.numerator *ℤ g.denominator) && fits (g.numerator *ℤ f.denominator)) (Some (int_lt (f.numerator *ℤ g.denominator) (g.numerator *ℤ f.denominator))) None
+is_below f g =
+    let left = f.numerator *ℤ g.denominator in
+    let right = g.numerator *ℤ f.denominator in
+    cond (fits left && fits right) (Some (int_lt left right)) None
 
 -- the greater, or the lesser, of what stood so far and f; the first is compared with nothing
 abbrev pub greater_of : Option Fraction → Fraction → Option Fraction
@@ -91,13 +94,14 @@ chosen (Some low) None = whole (ceiling_of low)
 chosen None (Some high) = whole (floor_of high)
 chosen None None = whole (pos 0)
 
--- Column c gets the value v / q, and all columns a common denominator; nothing where one of the products does not fit.
+-- Column c gets v times the share, and the others and the denominator are multiplied by the scale; nothing where a product does not fit.
 abbrev pub assigned_by : ℕ → RationalPoint → ℤ → ℤ → ℤ → Option RationalPoint
-assigned_by c point v d q =
-    let numerators = slice_set (scaled q point.numerators) c (v *ℤ d) in
-    let denominator = point.denominator *ℤ q in
+assigned_by c point v share scale =
+    let numerators = slice_set (scaled scale point.numerators) c (v *ℤ share) in
+    let denominator = point.denominator *ℤ scale in
     cond (all_fit numerators && fits denominator) (Some (record { numerators = numerators; denominator = denominator })) None
 
+-- Column c gets the value f, over the least denominator that it has in common with the point.
 unfoldable pub assigned : ℕ → RationalPoint → Fraction → Option RationalPoint
 assigned c point f =
     let g = gcd (unsigned_abs point.denominator) (unsigned_abs f.denominator) in
@@ -112,4 +116,5 @@ pub data Kept : Type 0 where
 unfoldable pub set_column : ℕ → RationalPoint → Kept → Option RationalPoint
 set_column n point (Solved c line) = option_and_then (assigned c point) (bound_on n c point line)
 set_column n point (Bounded c lines) =
-    option_and_then (λ b. assigned c point (chosen b.lower b.upper)) (bounds_from n c point (record { lower = None; upper = None }) lines)
+    let none : Bounds = record { lower = None; upper = None } in
+    option_and_then (λ b. assigned c point (chosen b.lower b.upper)) (bounds_from n c point none lines)
