@@ -2,3 +2,4 @@ pub mod NamedRowsLemmas
 pub mod ColumnSums
 pub mod Overflows
 pub mod Totals
+pub mod Refutations

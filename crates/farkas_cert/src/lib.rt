@@ -4,5 +4,13 @@
 #![tactic(auto)]
 
 mod answers;
+mod cert;
 mod columns;
+mod laws;
 mod named_rows;
+mod point;
+
+pub use answers::{CertAnswer, Decided, LeaveKind, PointAnswer};
+pub use cert::{Cert, check_cert, check_entails};
+pub use laws::{points_meet_entailed, refuted_has_no_point};
+pub use point::{Coordinates, check_point};
