@@ -3,3 +3,4 @@ pub mod ColumnSums
 pub mod Overflows
 pub mod Totals
 pub mod Refutations
+pub mod PointSums

@@ -34,9 +34,9 @@ weighted-more x d m row ws is rest =
     let p = product_of row.coefficients x in
     let here = weighted-row m p (row.bound *ℤ d) row.equal is.meets is.allows in
     let left : product_of (sum_of (scaled m row.coefficients) ws.coefficients) x ≡ m *ℤ p +ℤ product_of ws.coefficients x =
-      product_of-sum_of (scaled m row.coefficients) ws.coefficients x ∙ ap (λ v. v +ℤ product_of ws.coefficients x) (product_of-scaled m row.coefficients x) in
+    product_of-sum_of (scaled m row.coefficients) ws.coefficients x ∙ ap (λ v. v +ℤ product_of ws.coefficients x) (product_of-scaled m row.coefficients x) in
     let right : (m *ℤ row.bound +ℤ ws.bound) *ℤ d ≡ m *ℤ (row.bound *ℤ d) +ℤ ws.bound *ℤ d =
-      add-mul_ℤ (m *ℤ row.bound) ws.bound d ∙ ap (λ v. v +ℤ ws.bound *ℤ d) (mul_assoc_ℤ m row.bound d) in
+    add-mul_ℤ (m *ℤ row.bound) ws.bound d ∙ ap (λ v. v +ℤ ws.bound *ℤ d) (mul_assoc_ℤ m row.bound d) in
     at_most (product_of (sum_of (scaled m row.coefficients) ws.coefficients) x) ((m *ℤ row.bound +ℤ ws.bound) *ℤ d) (m *ℤ p) (m *ℤ (row.bound *ℤ d)) (product_of ws.coefficients x) (ws.bound *ℤ d) left right here rest
   where
     at_most : (l r a b c e : ℤ) → l ≡ a +ℤ c → r ≡ b +ℤ e → a ≤ℤ b → c ≤ℤ e → l ≤ℤ r
@@ -46,7 +46,7 @@ weighted-more x d m row ws is rest =
 pub weighted_sum-meets : (x : List ℤ) (d : ℤ) (rows : List Row) (last : ℕ) (pairs : Pairs) → AllByRecursion (λ row. MeetsOver row x d) rows → InOrder rows last pairs
     → product_of (weighted_sum rows pairs).coefficients x ≤ℤ ((weighted_sum rows pairs).bound *ℤ d)
 weighted_sum-meets x d rows last [] all h = omega (arith, ints)
-weighted_sum-meets x d rows last ((k , m) ∷ pairs) all h =
+weighted_sum-meets x d rows last ((k, m) ∷ pairs) all h =
     let row = named x d rows k m all h.1 in
     let ws = weighted_sum rows pairs in
     let P : Option Row → Type 0 = λ r. product_of (add_weighted r m ws).coefficients x ≤ℤ ((add_weighted r m ws).bound *ℤ d) in
@@ -76,13 +76,13 @@ pub points-meet-entailed : PointsMeetEntailed
 points-meet-entailed system atom z is_atom entails point =
     let at_atom = Meets-inequality atom z is_atom.no_equality in
     let denied : (Meets atom z → ⊥) → ⊥ = λ fails.
-      let negated = MeetsOver-one (negation atom) z ((Meets-negation atom z is_atom.no_equality).1 fails) in
-      let rows = AllByRecursion-weaken (λ row. Meets row z) (λ row. MeetsOver row z (pos 1)) (λ row h. MeetsOver-one row z h) system.rows point.meets in
-      refuted-has-no-point (denying system atom) z (pos 1) entails record {
-        whole = point.whole;
-        positive = omega (arith, ints);
-        meets = AllByRecursion-append (λ row. MeetsOver row z (pos 1)) system.rows (negation atom ∷ []) rows (negated, tt);
-      } in
+    let negated = MeetsOver-one (negation atom) z ((Meets-negation atom z is_atom.no_equality).1 fails) in
+    let rows = AllByRecursion-weaken (λ row. Meets row z) (λ row. MeetsOver row z (pos 1)) (λ row h. MeetsOver-one row z h) system.rows point.meets in
+    refuted-has-no-point (denying system atom) z (pos 1) entails record {
+      whole = point.whole;
+      positive = omega (arith, ints);
+      meets = AllByRecursion-append (λ row. MeetsOver row z (pos 1)) system.rows (negation atom ∷ []) rows (negated, tt);
+    } in
     by_lt_z atom.bound (product_of atom.coefficients z)
-      (λ above. absurd (denied (λ meets. let low = at_atom.0 meets in omega (arith, ints))))
-      (λ low. at_atom.1 low)
+    (λ above. absurd (denied (λ meets. let low = at_atom.0 meets in omega (arith, ints))))
+    (λ low. at_atom.1 low)

@@ -3,12 +3,11 @@ ghost use Rattle.farkas_cert.specs.Cert.{InOrder, AllowsAt, row_numbered};
 ghost use Rattle.farkas_cert.specs.Proof.{Entails, denying};
 ghost use Rattle.farkas_cert.specs.Answer.{IsCertAnswer};
 
-use lin_rows::{Atom, RowsView};
-use std::marker::Model;
-
 use crate::answers::CertAnswer;
 use crate::columns::weigh;
 use crate::named_rows::NamedRows;
+use lin_rows::{Atom, RowsView};
+use std::marker::Model;
 
 /// Numbers of rows, from 1, with their multipliers. Rows that are not listed have 0.
 #[derive(Debug, Drop)]

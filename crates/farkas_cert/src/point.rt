@@ -1,4 +1,4 @@
-ghost use Rattle.std.specs.Prelude.{◌≡◌, pos, ◌*ℤ◌, ◌<◌, ◌≤ℤ◌, ◌<ℤ◌, ◌^◌, ◌↔◌, length, None, Some, IfOk, IfErr, IsTrue, MatchBool};
+ghost use Rattle.std.specs.Prelude.{◌≡◌, pos, ◌*ℤ◌, ◌<◌, ◌≤ℤ◌, ◌<ℤ◌, ◌^◌, ◌↔◌, length, slice_index_or, None, Some, IfOk, IfErr, IsTrue, MatchBool};
 ghost use Rattle.lin_rows.specs.Row.{product_of};
 ghost use Rattle.lin_rows.specs.System.{IsRationalPoint};
 ghost use Rattle.lin_rows.specs.View.{row_of};
@@ -6,10 +6,9 @@ ghost use Rattle.farkas_cert.specs.Point.{sum_overflow, summed};
 ghost use Rattle.farkas_cert.specs.Answer.{IsPointAnswer};
 ghost use Rattle.farkas_cert.specs.RowAnswer.{IsRowAnswer};
 
+use crate::answers::PointAnswer;
 use lin_rows::{RowView, RowsView, product_if_fits, sum_if_fits};
 use std::marker::Model;
-
-use crate::answers::PointAnswer;
 
 /// The numerators of a point, which contracts see as their list.
 #[derive(Debug, Drop)]
@@ -53,11 +52,13 @@ enum RowAnswer {
     Overflow(u32),
 }
 
-/// The sum with one more product, where both fit.
-fn add_product(sum: i128, coefficient: i128, coordinate: i128) -> Option<i128>
-    ensures { result ≡ summed sum (coefficient *ℤ coordinate) }
+/// The sum with the product at a place added, where both fit.
+fn add_product(coefficients: &[i128], x: &[i128], place: usize, sum: i128) -> Option<i128>
+    requires lengths { length coefficients.now ≡ length x.now }
+    requires within { place < length coefficients.now }
+    ensures { result ≡ summed sum (slice_index_or coefficients.now place (pos 0) *ℤ slice_index_or x.now place (pos 0)) }
 {
-    let product = product_if_fits(coefficient, coordinate)?;
+    let product = product_if_fits(coefficients[place], x[place])?;
     sum_if_fits(sum, product)
 }
 
@@ -70,8 +71,8 @@ fn sum_of_products(coefficients: &[i128], x: &[i128]) -> Result<i128, u32>
     ensures overflow { IfErr result (λ place. sum_overflow (pos 0) coefficients.now x.now ≡ Some place) }
 {
     let mut sum = 0;
-    'places: for (place, coefficient) in coefficients.iter().enumerate() {
-        match add_product(sum, *coefficient, x[place]) {
+    'places: for place in 0..coefficients.len() {
+        match add_product(coefficients, x, place, sum) {
             Some(more) => sum = more,
             None => return Err(place as u32),
         }
@@ -94,10 +95,13 @@ fn row_answer(row: &RowView<'_>, x: &[i128], d: i128) -> RowAnswer
         Ok(sum) => sum,
         Err(column) => return RowAnswer::Overflow(column),
     };
-    match product_if_fits(row.bound, d) {
-        None => RowAnswer::Overflow(row.coefficients.len() as u32),
-        Some(bound) if holds(row.equal, sum, bound) => RowAnswer::Passes,
-        Some(_) => RowAnswer::Breaks,
+    let Some(bound) = product_if_fits(row.bound, d) else {
+        return RowAnswer::Overflow(row.coefficients.len() as u32);
+    };
+    if holds(row.equal, sum, bound) {
+        RowAnswer::Passes
+    } else {
+        RowAnswer::Breaks
     }
 }
 

@@ -5,6 +5,6 @@ use Rattle.farkas_cert.proofs.point.sum_of_products.Given as goal
 
 abbrev pub invariant-places : goal.invariant-places
 invariant-places l = record {
-    sum : product_of l.coefficients l.x ≡ l.sum +ℤ product_of (drop l.place l.coefficients) (drop l.place l.x);
-    overflow : sum_overflow (pos 0) l.coefficients l.x ≡ option_map (λ n. l.place + n) (sum_overflow l.sum (drop l.place l.coefficients) (drop l.place l.x));
-  }
+  sum : product_of l.coefficients l.x ≡ l.sum +ℤ product_of (drop l.place l.coefficients) (drop l.place l.x);
+  overflow : sum_overflow (pos 0) l.coefficients l.x ≡ option_map (λ n. l.place + n) (sum_overflow l.sum (drop l.place l.coefficients) (drop l.place l.x));
+}
