@@ -14,7 +14,8 @@ use Rattle.farkas_cert.specs.Line.{Line, coefficient_at, given_lines, is_false, 
 use Rattle.farkas_cert.specs.Columns.{HasWidths}
 use Rattle.farkas_cert.specs.Proof.{Proves, overflow_of}
 use Rattle.farkas_cert.specs.BackSubstitution.{RationalPoint, Kept, Solved, Bounded, set_column}
-use Rattle.farkas_cert.specs.Elimination.{Outcome, Refuted, Point, Leaves, Overflow, Rows, Work, Next, Goes, Ends, every, refuted, tested, tested_by, follows, without_equality, substituted, equality_stage, paired, positives, negatives, with_column, without_column, pairs_at, are_too_many, pair_stage, taken_out, taken_out_by, stage, then_tested, point_from, or_leaves, or_ends, goes_on, stages, begun, outcome_of, outcome_within}
+use Rattle.farkas_cert.specs.Elimination.{Outcome, Refuted, Point, Leaves, Work, Next, Goes, Ends, every, refuted, tested, tested_by, follows, without_equality, substituted, equality_stage, paired, positives, negatives, with_column, without_column, pairs_at, are_too_many, pair_stage, taken_out, taken_out_by, stage, then_tested, point_from, or_leaves, or_ends, goes_on, stages, begun, outcome_of, outcome_within}
+use Rattle.farkas_cert.specs.declared.answers.LeaveKind.TheVariants.{Overflow, Rows}
 use Rattle.farkas_cert.proofs.Integers.{linear}
 use Rattle.farkas_cert.proofs.Derived.{IsDerived, derived_by_equality, derived_by_pair}
 use Rattle.farkas_cert.proofs.Lists.{all_filter, all_append, all_map, all_flat_map, found, all_every, filter_all, all_both}

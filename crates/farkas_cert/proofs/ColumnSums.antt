@@ -20,15 +20,15 @@ IsSome-AllowsAt (Some row) m h = refl
 
 pub IsSome-InOrder : (rows : List Row) (last : ℕ) (pairs : Pairs) (n : ℕ) (d : ℕ × ℤ) → InOrder rows last pairs → n < length pairs → IsSome (row_numbered rows (get_or pairs n d).0)
 IsSome-InOrder rows last [] n d h below = absurd (omega arith)
-IsSome-InOrder rows last ((k , m) ∷ pairs) zero d h below = IsSome-AllowsAt (row_numbered rows k) m h.1
-IsSome-InOrder rows last ((k , m) ∷ pairs) (suc n) d h below = IsSome-InOrder rows k pairs n d h.2 (omega arith)
+IsSome-InOrder rows last ((k, m) ∷ pairs) zero d h below = IsSome-AllowsAt (row_numbered rows k) m h.1
+IsSome-InOrder rows last ((k, m) ∷ pairs) (suc n) d h below = IsSome-InOrder rows k pairs n d h.2 (omega arith)
 
 -- ---- one more pair
 column_from-step : (rows : List Row) (sum : ℤ) (column : ℕ) (p : ℕ × ℤ) (pairs : Pairs) (sum' : Option ℤ) → sum' ≡ added sum (p.1 *ℤ number_at (row_numbered rows p.0) column)
     → column_from sum column (products rows (p ∷ pairs)) ≡ option_map_or (λ more. column_from more column (products rows pairs)) sum' (Err p.0)
-column_from-step rows sum column (k , m) pairs sum' e =
+column_from-step rows sum column (k, m) pairs sum' e =
     ap (λ v. option_map_or (λ more. column_from more column (products rows pairs)) v (Err k))
-      (ap (added sum) (get_or-scaled m (numbers_of (row_numbered rows k)) column) ∙ sym e)
+    (ap (added sum) (get_or-scaled m (numbers_of (row_numbered rows k)) column) ∙ sym e)
 
 pub column_from-at : (rows : List Row) (sum : ℤ) (column : ℕ) (pairs : Pairs) (n : ℕ) (d : ℕ × ℤ) (sum' : Option ℤ) → n < length pairs
     → sum' ≡ added sum ((get_or pairs n d).1 *ℤ number_at (row_numbered rows (get_or pairs n d).0) column)

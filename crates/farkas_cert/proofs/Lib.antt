@@ -2,6 +2,8 @@ pub mod NamedRowsLemmas
 pub mod ColumnSums
 pub mod Overflows
 pub mod Totals
+pub mod Refutations
+pub mod PointSums
 pub mod Integers
 pub mod Divisors
 pub mod Linear

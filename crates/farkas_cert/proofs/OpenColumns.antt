@@ -12,7 +12,8 @@ use Rattle.lin_rows.specs.Gcd.{gcd}
 use Rattle.farkas_cert.specs.Divided.{over}
 use Rattle.farkas_cert.specs.Line.{Line, coefficient_at, has_variable, is_nonzero, combination, made_line, lowest_column, lowest_of}
 use Rattle.farkas_cert.specs.BackSubstitution.{Kept, Solved, Bounded}
-use Rattle.farkas_cert.specs.Elimination.{Leaves, Rows, Work, Next, Goes, Ends, every, follows, without_equality, substituted, equality_stage, paired, positives, negatives, with_column, without_column, pairs_at, are_too_many, pair_stage}
+use Rattle.farkas_cert.specs.Elimination.{Leaves, Work, Next, Goes, Ends, every, follows, without_equality, substituted, equality_stage, paired, positives, negatives, with_column, without_column, pairs_at, are_too_many, pair_stage}
+use Rattle.farkas_cert.specs.declared.answers.LeaveKind.TheVariants.{Rows}
 use Rattle.farkas_cert.proofs.Linear.{get-linear, of_combination, divided_vanishes}
 use Rattle.farkas_cert.proofs.Derived.{made_is, made_vanishes}
 use Rattle.farkas_cert.proofs.Eliminates.{substitution_cancels, pairing_cancels}

@@ -11,7 +11,8 @@ use Rattle.farkas_cert.specs.Line.{Line, given_line, given_lines, coefficient_at
 use Rattle.farkas_cert.specs.Columns.{HasWidths}
 use Rattle.farkas_cert.specs.Proof.{overflow_of}
 use Rattle.farkas_cert.specs.BackSubstitution.{RationalPoint, Fraction, Kept, Solved, Bounded, bound_on, bounds_from, chosen, assigned, set_column}
-use Rattle.farkas_cert.specs.Elimination.{Outcome, Refuted, Point, Leaves, Overflow, Rows, Work, Next, Goes, Ends, every, refuted, tested, tested_by, follows, without_equality, substituted, equality_stage, with_column, without_column, positives, negatives, pairs_at, are_too_many, pair_stage, taken_out, taken_out_by, stage, then_tested, or_leaves, point_from, point_of, or_ends, goes_on, stages, begun, outcome_of, outcome_within}
+use Rattle.farkas_cert.specs.Elimination.{Outcome, Refuted, Point, Leaves, Work, Next, Goes, Ends, every, refuted, tested, tested_by, follows, without_equality, substituted, equality_stage, with_column, without_column, positives, negatives, pairs_at, are_too_many, pair_stage, taken_out, taken_out_by, stage, then_tested, or_leaves, point_from, point_of, or_ends, goes_on, stages, begun, outcome_of, outcome_within}
+use Rattle.farkas_cert.specs.declared.answers.LeaveKind.TheVariants.{Overflow, Rows}
 use Rattle.lin_rows.proofs.Integers.{zero-mul_ℤ}
 use Rattle.farkas_cert.proofs.Integers.{linear, mul_right_le_ℤ}
 use Rattle.farkas_cert.proofs.Fractions.{not_negative}

@@ -23,7 +23,7 @@ Terms = List (ℕ × List ℤ)
 -- ---- the sum of a column
 abbrev pub total : ℕ → Terms → ℤ
 total c [] = pos 0
-total c ((k , ps) ∷ rest) = get_or ps c (pos 0) +ℤ total c rest
+total c ((k, ps) ∷ rest) = get_or ps c (pos 0) +ℤ total c rest
 
 added-some : (sum p more : ℤ) → added sum p ≡ Some more → more ≡ p +ℤ sum
 added-some sum p more e = only (fits p && fits (p +ℤ sum)) e
@@ -41,13 +41,13 @@ total-some c sum p t rest k after later (Some more) is e =
 
 column_from-total : (c : ℕ) (sum t : ℤ) (terms : Terms) → column_from sum c terms ≡ Ok t → t ≡ sum +ℤ total c terms
 column_from-total c sum t [] e = let same : t ≡ sum = cc in omega (arith, ints)
-column_from-total c sum t ((k , ps) ∷ rest) e =
+column_from-total c sum t ((k, ps) ∷ rest) e =
     total-some c sum (get_or ps c (pos 0)) t (total c rest) k (λ m. column_from m c rest) (λ more h. column_from-total c more t rest h) (added sum (get_or ps c (pos 0))) refl e
 
 -- ---- the shape of the products
 pub Rising-products : (rows : List Row) (last : ℕ) (pairs : Pairs) → InOrder rows last pairs → Rising last (products rows pairs)
 Rising-products rows last [] h = tt
-Rising-products rows last ((k , m) ∷ pairs) h = (h.0, Rising-products rows k pairs h.2)
+Rising-products rows last ((k, m) ∷ pairs) h = (h.0, Rising-products rows k pairs h.2)
 
 length-scaled : (m : ℤ) (xs : List ℤ) → length (scaled m xs) ≡ length xs
 length-scaled m [] = refl
@@ -65,7 +65,7 @@ row_has_width n (row ∷ rows) (suc (suc k)) m widths h = row_has_width n rows (
 
 pub widths-products : (n : ℕ) (rows : List Row) (last : ℕ) (pairs : Pairs) → AllByRecursion (λ row. length row.coefficients ≡ n) rows → InOrder rows last pairs → AllByRecursion (λ t. length t.1 ≡ suc n) (products rows pairs)
 widths-products n rows last [] widths h = tt
-widths-products n rows last ((k , m) ∷ pairs) widths h =
+widths-products n rows last ((k, m) ∷ pairs) widths h =
     (length-scaled m (numbers_of (row_numbered rows k)) ∙ row_has_width n rows k m widths h.1, widths-products n rows k pairs widths h.2)
 
 -- ---- the columns of the weighted sum
@@ -104,7 +104,7 @@ there n (row ∷ rows) (suc (suc k)) m widths h = there n rows (suc k) m widths.
 
 pub total-column : (n c : ℕ) (rows : List Row) (last : ℕ) (pairs : Pairs) → HaveWidth n rows → InOrder rows last pairs → c < n → total c (products rows pairs) ≡ get_or (weighted_sum rows pairs).coefficients c (pos 0)
 total-column n c rows last [] widths h below = refl
-total-column n c rows last ((k , m) ∷ pairs) widths h below =
+total-column n c rows last ((k, m) ∷ pairs) widths h below =
     let row = there n rows k m widths h.1 in
     let rest = total-column n c rows k pairs widths h.2 below in
     let ws = weighted_sum rows pairs in
@@ -113,7 +113,7 @@ total-column n c rows last ((k , m) ∷ pairs) widths h below =
 
 pub total-bound : (n : ℕ) (rows : List Row) (last : ℕ) (pairs : Pairs) → HaveWidth n rows → InOrder rows last pairs → total n (products rows pairs) ≡ (weighted_sum rows pairs).bound
 total-bound n rows last [] widths h = refl
-total-bound n rows last ((k , m) ∷ pairs) widths h =
+total-bound n rows last ((k, m) ∷ pairs) widths h =
     let row = there n rows k m widths h.1 in
     let rest = total-bound n rows k pairs widths h.2 in
     let ws = weighted_sum rows pairs in
@@ -129,7 +129,7 @@ length-sum_of-le (suc n) (x ∷ xs) (y ∷ ys) p q = let h = length-sum_of-le n 
 
 length-weighted_sum : (n : ℕ) (rows : List Row) (last : ℕ) (pairs : Pairs) → HaveWidth n rows → InOrder rows last pairs → length (weighted_sum rows pairs).coefficients ≤ n
 length-weighted_sum n rows last [] widths h = omega arith
-length-weighted_sum n rows last ((k , m) ∷ pairs) widths h =
+length-weighted_sum n rows last ((k, m) ∷ pairs) widths h =
     let row = there n rows k m widths h.1 in
     let rest = length-weighted_sum n rows k pairs widths h.2 in
     let ws = weighted_sum rows pairs in
@@ -150,7 +150,7 @@ AllZero-place (x ∷ xs) zero all = all.0
 AllZero-place (x ∷ xs) (suc i) all = AllZero-place xs i all.1
 
 -- ---- tests
-both_true : (a b : Bool) → (a && b) ≡ true → (a ≡ true) × (b ≡ true)
+pub both_true : (a b : Bool) → (a && b) ≡ true → (a ≡ true) × (b ≡ true)
 both_true true true e = (refl, refl)
 both_true true false e = (refl, e)
 both_true false b e = absurd (true≢false (sym e))
@@ -176,7 +176,7 @@ earlier-some : (o : Option (ℕ × ℕ)) (k c : ℕ) → earlier o k c ≡ None 
 earlier-some None k c e = cc
 earlier-some (Some place) k c e = only (nat_lt k place.0) e
   where
-    only : (b : Bool) → cond b (Some (k , c)) (Some place) ≡ None → ⊥
+    only : (b : Bool) → cond b (Some (k, c)) (Some place) ≡ None → ⊥
     only true e = cc
     only false e = cc
 
@@ -189,7 +189,7 @@ overflow-weighed_to n zero last terms rising widths h = sym (nothing [] terms)
   where
     nothing : (sums : List ℤ) (terms : Terms) → first_unfit sums (fronts 0 terms) ≡ None
     nothing sums [] = refl
-    nothing sums ((k , ps) ∷ rest) = nothing sums rest
+    nothing sums ((k, ps) ∷ rest) = nothing sums rest
 overflow-weighed_to n (suc c) last terms rising widths h =
     weighed (weighed_to c terms) (column_from (pos 0) c terms)
     ∙ ap (λ o. merged o c (column_from (pos 0) c terms)) (overflow-weighed_to n c last terms rising widths (omega arith))
@@ -202,7 +202,7 @@ overflow-weighed_to n (suc c) last terms rising widths h =
 
 fronts_all : (n : ℕ) (terms : Terms) → AllByRecursion (λ t. length t.1 ≡ n) terms → fronts n terms ≡ terms
 fronts_all n [] widths = refl
-fronts_all n ((k , ps) ∷ rest) widths = ap₂ (λ xs ts. (k , xs) ∷ ts) (take_all n ps (omega (arith, widths.0))) (fronts_all n rest widths.1)
+fronts_all n ((k, ps) ∷ rest) widths = ap₂ (λ xs ts. (k, xs) ∷ ts) (take_all n ps (omega (arith, widths.0))) (fronts_all n rest widths.1)
 
 -- where no column overflows, `cancels` says whether all sums are 0
 cancels-step : (c : ℕ) (terms : Terms) (seen : Weighed) (r : Result ℤ ℕ) → column_from (pos 0) c terms ≡ r → (weighed_with seen c r).overflow ≡ None
@@ -210,11 +210,12 @@ cancels-step : (c : ℕ) (terms : Terms) (seen : Weighed) (r : Result ℤ ℕ) �
     → IsTrue (weighed_with seen c r).cancels ↔ ((i : ℕ) → i < suc c → total i terms ≡ pos 0)
 cancels-step c terms seen (Ok sum) is none before =
     let sum_is : sum ≡ total c terms = column_from-total c (pos 0) sum terms is ∙ omega (arith, ints) in
-    let both = before none in
-    (λ yes i below.
-       let parts = both_true seen.cancels (int_eq sum (pos 0)) yes in
-       below_suc c i (λ n. total n terms ≡ pos 0) (both.0 parts.0) (sym sum_is ∙ int_eq-true sum (pos 0) parts.1) below,
-     λ all. true_both seen.cancels (int_eq sum (pos 0)) (both.1 (λ i h. all i (omega arith))) (true-int_eq sum (pos 0) (sum_is ∙ all c (omega arith))))
+    let both = before none in (
+      λ yes i below.
+          let parts = both_true seen.cancels (int_eq sum (pos 0)) yes in
+          below_suc c i (λ n. total n terms ≡ pos 0) (both.0 parts.0) (sym sum_is ∙ int_eq-true sum (pos 0) parts.1) below,
+      λ all. true_both seen.cancels (int_eq sum (pos 0)) (both.1 (λ i h. all i (omega arith))) (true-int_eq sum (pos 0) (sum_is ∙ all c (omega arith))),
+    )
 cancels-step c terms seen (Err k) is none before = absurd (earlier-some seen.overflow k c none)
 
 cancels-weighed_to : (c : ℕ) (terms : Terms) → (weighed_to c terms).overflow ≡ None → IsTrue (weighed_to c terms).cancels ↔ ((i : ℕ) → i < c → total i terms ≡ pos 0)
@@ -243,7 +244,7 @@ overflow-with seen c (Err k) none = absurd (earlier-some seen.overflow k c none)
 
 contradicts-by_columns : (system : System) (pairs : Pairs) → HasWidths system → InOrder system.rows 0 pairs
     → (let n = system.columns in let terms = products system.rows pairs in let r = column_from (pos 0) n terms in let seen = weighed_to n terms in
-      (weighed_with seen n r).overflow ≡ None → IsTrue (seen.cancels && is_below_zero r) ↔ IsContradiction (weighted_sum system.rows pairs))
+    (weighed_with seen n r).overflow ≡ None → IsTrue (seen.cancels && is_below_zero r) ↔ IsContradiction (weighted_sum system.rows pairs))
 contradicts-by_columns system pairs widths in_order none =
     let n = system.columns in
     let rows = system.rows in
@@ -253,17 +254,18 @@ contradicts-by_columns system pairs widths in_order none =
     let parts = overflow-with seen n r none in
     let cancels = cancels-weighed_to n terms parts.0 in
     let negative = bound-below_zero n terms seen.overflow r refl parts.1 in
-    let ws = weighted_sum rows pairs in
-    (λ yes.
-       let both = both_true seen.cancels (is_below_zero r) yes in
-       record {
-         cancels = AllZero-from_places n ws.coefficients (length-weighted_sum n rows 0 pairs widths in_order)
-           (λ i h. sym (total-column n i rows 0 pairs widths in_order h) ∙ cancels.0 both.0 i h);
-         negative = subst (λ v. v <ℤ pos 0) (total-bound n rows 0 pairs widths in_order) (negative.0 both.1);
-       },
-     λ contradiction. true_both seen.cancels (is_below_zero r)
-       (cancels.1 (λ i h. total-column n i rows 0 pairs widths in_order h ∙ AllZero-place ws.coefficients i contradiction.cancels))
-       (negative.1 (subst (λ v. v <ℤ pos 0) (sym (total-bound n rows 0 pairs widths in_order)) contradiction.negative)))
+    let ws = weighted_sum rows pairs in (
+      λ yes.
+          let both = both_true seen.cancels (is_below_zero r) yes in
+          record {
+            cancels = AllZero-from_places n ws.coefficients (length-weighted_sum n rows 0 pairs widths in_order)
+                (λ i h. sym (total-column n i rows 0 pairs widths in_order h) ∙ cancels.0 both.0 i h);
+            negative = subst (λ v. v <ℤ pos 0) (total-bound n rows 0 pairs widths in_order) (negative.0 both.1);
+          },
+      λ contradiction. true_both seen.cancels (is_below_zero r)
+          (cancels.1 (λ i h. total-column n i rows 0 pairs widths in_order h ∙ AllZero-place ws.coefficients i contradiction.cancels))
+          (negative.1 (subst (λ v. v <ℤ pos 0) (sym (total-bound n rows 0 pairs widths in_order)) contradiction.negative)),
+    )
 
 pub IsCertAnswer-answered : (system : System) (pairs : Pairs) → HasWidths system → InOrder system.rows 0 pairs
     → IsCertAnswer system pairs (answered (weighed_to system.columns (products system.rows pairs)) system.columns (column_from (pos 0) system.columns (products system.rows pairs)))

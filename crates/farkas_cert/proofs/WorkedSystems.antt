@@ -6,7 +6,8 @@ use Rattle.lin_rows.specs.System.{System}
 use Rattle.farkas_cert.specs.Divided.{divided}
 use Rattle.farkas_cert.specs.Line.{given_lines, has_variable, lowest_column, lowest_of, is_false, refuting, listed, made_line}
 use Rattle.farkas_cert.specs.BackSubstitution.{fraction, bound_on, bounds_from, assigned, set_column}
-use Rattle.farkas_cert.specs.Elimination.{Refuted, Point, Leaves, Overflow, outcome_of, outcome_within, begun, stages, stage, taken_out, point_from, tested, equality_stage, pair_stage, pairs_at, paired, substituted, without_equality, every}
+use Rattle.farkas_cert.specs.Elimination.{Refuted, Point, Leaves, outcome_of, outcome_within, begun, stages, stage, taken_out, point_from, tested, equality_stage, pair_stage, pairs_at, paired, substituted, without_equality, every}
+use Rattle.farkas_cert.specs.declared.answers.LeaveKind.TheVariants.{Overflow}
 
 abbrev at_most : List ℤ → ℤ → Row
 at_most coefficients bound = record { equal = false; coefficients = coefficients; bound = bound }

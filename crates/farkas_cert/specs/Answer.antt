@@ -16,7 +16,7 @@ IsCertAnswer system pairs certificate.Proves = Proves system pairs
 IsCertAnswer system pairs certificate.Fails =
     (¬ InOrder system.rows 0 pairs) ⊎ ((overflow_of system.rows pairs ≡ None) × (¬ IsContradiction (weighted_sum system.rows pairs)))
 IsCertAnswer system pairs (certificate.Overflow row column) =
-    InOrder system.rows 0 pairs × (overflow_of system.rows pairs ≡ Some (row , column))
+    InOrder system.rows 0 pairs × (overflow_of system.rows pairs ≡ Some (row, column))
 
 -- Row by row; the first that fails or does not fit is named.
 abbrev pub IsPointAnswer : System → List ℤ → ℤ → PointAnswer → Type 0

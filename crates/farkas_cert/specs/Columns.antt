@@ -27,10 +27,10 @@ added sum product = if fits product && fits (product +ℤ sum) then Some (produc
 -- the sum of a column, or the first row at which a product or the sum up to it does not fit
 abbrev pub column_from : ℤ → ℕ → List (ℕ × List ℤ) → Result ℤ ℕ
 column_from sum column [] = Ok sum
-column_from sum column ((k , terms) ∷ rest) =
+column_from sum column ((k, terms) ∷ rest) =
     option_map_or (λ more. column_from more column rest) (added sum (slice_index_or terms column (pos 0))) (Err k)
 
 -- of two overflows the one at the earlier row, or the first where both are at one row
 abbrev pub earlier : Option (ℕ × ℕ) → ℕ → ℕ → Option (ℕ × ℕ)
-earlier None row column = Some (row , column)
-earlier (Some first) row column = if nat_lt row first.0 then Some (row , column) else Some first
+earlier None row column = Some (row, column)
+earlier (Some first) row column = if nat_lt row first.0 then Some (row, column) else Some first

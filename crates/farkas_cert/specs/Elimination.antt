@@ -9,12 +9,9 @@ use Rattle.lin_rows.specs.Gcd.{gcd}
 use Rattle.farkas_cert.specs.Divided.{over}
 use Rattle.farkas_cert.specs.Line.{Line, given_lines, coefficient_at, lowest_column, lowest_of, has_variable, is_false, refuting, listed, is_nonzero, made_line}
 use Rattle.farkas_cert.specs.Proof.{overflow_of}
+use Rattle.farkas_cert.specs.declared.answers.LeaveKind.{LeaveKind}
+use Rattle.farkas_cert.specs.declared.answers.LeaveKind.TheVariants.{Overflow, Rows}
 use Rattle.farkas_cert.specs.BackSubstitution.{RationalPoint, Kept, Solved, Bounded, set_column}
-
--- why the elimination leaves: a number does not fit, or there are too many rows
-pub data LeaveKind : Type 0 where
-  Overflow : LeaveKind
-  Rows : LeaveKind
 
 pub data Outcome : Type 0 where
   -- a certificate

@@ -1,17 +1,20 @@
 -- The order in which a check of a point makes its products and sums.
 use Rattle.std.specs.Prelude.{◌≡◌, ℕ, suc, ◌-◌, ℤ, pos, ◌+ℤ◌, ◌*ℤ◌, List, [], ◌∷◌, length, take, Option, Some, None, option_map, IsSomeAnd, ◌&&◌, if◌then◌else◌}
-use Rattle.std.specs.Option.{option_or}
+use Rattle.std.specs.Option.{option_or, option_map_or}
 use Rattle.std.specs.List.{AllByRecursion}
 use Rattle.thr_base.specs.Number.{fits}
 use Rattle.lin_rows.specs.Row.{Row, MeetsOver}
 use Rattle.farkas_cert.specs.Cert.{row_numbered}
 
+-- the sum with one more product, where both fit
+abbrev pub summed : ℤ → ℤ → Option ℤ
+summed sum product = if fits product && fits (sum +ℤ product) then Some (sum +ℤ product) else None
+
 -- the first place at which a product of two lists, or the sum up to it, does not fit
 abbrev pub sum_overflow : ℤ → List ℤ → List ℤ → Option ℕ
 sum_overflow sum [] ys = None
 sum_overflow sum (x ∷ xs) [] = None
-sum_overflow sum (x ∷ xs) (y ∷ ys) =
-    if fits (x *ℤ y) && fits (sum +ℤ x *ℤ y) then option_map suc (sum_overflow (sum +ℤ x *ℤ y) xs ys) else Some 0
+sum_overflow sum (x ∷ xs) (y ∷ ys) = option_map_or (λ more. option_map suc (sum_overflow more xs ys)) (summed sum (x *ℤ y)) (Some 0)
 
 -- The first column of a row at x / d at which a product or a sum does not fit. The bound times d comes last.
 abbrev pub row_overflow : List ℤ → ℤ → Row → Option ℕ

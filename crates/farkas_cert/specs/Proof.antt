@@ -16,7 +16,7 @@ numbers_of (Some row) = row.coefficients ++ row.bound ∷ []
 -- for each pair its row's number and the products of that row's numbers with the multiplier
 abbrev pub products : List Row → Pairs → List (ℕ × List ℤ)
 products rows [] = []
-products rows ((k , m) ∷ pairs) = (k , scaled m (numbers_of (row_numbered rows k))) ∷ products rows pairs
+products rows ((k, m) ∷ pairs) = (k, scaled m (numbers_of (row_numbered rows k))) ∷ products rows pairs
 
 -- the first place at which one of two lists has a number that does not fit
 abbrev pub unfit_place : List ℤ → List ℤ → Option ℕ
@@ -28,9 +28,9 @@ unfit_place (x ∷ xs) (y ∷ ys) = if fits x && fits y then option_map suc (unf
 -- pair column by column, the bound last. A sum begins at its first product.
 abbrev pub first_unfit : List ℤ → List (ℕ × List ℤ) → Option (ℕ × ℕ)
 first_unfit sums [] = None
-first_unfit sums ((k , terms) ∷ rest) =
+first_unfit sums ((k, terms) ∷ rest) =
     let more = sum_of terms sums in
-    option_or (option_map (λ column. (k , column)) (unfit_place terms more)) (first_unfit more rest)
+    option_or (option_map (λ column. (k, column)) (unfit_place terms more)) (first_unfit more rest)
 
 abbrev pub overflow_of : List Row → Pairs → Option (ℕ × ℕ)
 overflow_of rows pairs = first_unfit [] (products rows pairs)

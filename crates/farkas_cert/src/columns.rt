@@ -5,10 +5,9 @@ ghost use Rattle.farkas_cert.specs.Columns.{added, column_from, earlier, number_
 ghost use Rattle.farkas_cert.specs.Weighing.{weighed_with, weighed_to, answered};
 ghost use Rattle.farkas_cert.specs.Answer.{IsCertAnswer};
 
-use lin_rows::{product_if_fits, sum_if_fits};
-
 use crate::answers::CertAnswer;
 use crate::named_rows::NamedRows;
+use lin_rows::{product_if_fits, sum_if_fits};
 
 /// The sum of a column with one more product, where both fit.
 fn add_product(rows: &NamedRows<'_>, pair: (u32, i128), column: u32, sum: i128) -> Option<i128>

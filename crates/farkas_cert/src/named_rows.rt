@@ -9,6 +9,7 @@ use lin_rows::{Atom, RowView, RowsView};
 use std::marker::Model;
 
 /// The rows that a certificate can name: those of a system and, where an atom is denied, its negation.
+#[derive(Drop)]
 pub(crate) struct NamedRows<'a> {
     rows: &'a RowsView<'a>,
     denied: Option<&'a Atom>,
