@@ -14,3 +14,6 @@ pub use answers::{CertAnswer, Decided, LeaveKind, PointAnswer};
 pub use cert::{Cert, check_cert, check_entails};
 pub use laws::{points_meet_entailed, refuted_has_no_point};
 pub use point::{Coordinates, check_point};
+
+#[cfg(test)]
+mod tests;
