@@ -1,5 +1,5 @@
 -- The sum of a column, pair by pair.
-use Rattle.std.proofs.Common.{◌≡◌, ℕ, zero, suc, ◌+◌, ◌<◌, ◌≤◌, ◌-◌, List, [], ◌∷◌, ◌++◌, length, take, drop, get_or, map, Option, Some, None, Result, Ok, Err, IsSome, Bool, true, false, ◌&&◌, if◌then◌else◌, ◌^◌, ℤ, pos, negsuc, ◌+ℤ◌, ◌*ℤ◌, refl, sym, ◌∙◌, ap, subst, drop-cons, add-one, true≢false, ltb-true, lt-ltb, arith}
+use Rattle.std.proofs.Common.{◌≡◌, ℕ, zero, suc, ◌+◌, ◌<◌, List, [], ◌∷◌, length, drop, get_or, Option, Some, None, Err, IsSome, Bool, true, false, ◌&&◌, if◌then◌else◌, ◌^◌, ℤ, pos, negsuc, ◌+ℤ◌, ◌*ℤ◌, refl, sym, ◌∙◌, ap, subst, drop-cons, add-one, true≢false, ltb-true, lt-ltb, arith}
 use Rattle.std.specs.Option.{option_map_or}
 use Rattle.thr_base.specs.Number.{Fits, fits}
 use Rattle.lin_rows.specs.Row.{Row, scaled}

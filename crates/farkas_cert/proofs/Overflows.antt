@@ -1,5 +1,5 @@
 -- The first overflow, pair by pair, is the earliest of those of the columns.
-use Rattle.std.proofs.Common.{◌≡◌, ℕ, zero, suc, ◌+◌, ◌<◌, ◌≤◌, List, [], ◌∷◌, ◌++◌, length, take, get_or, map, Option, Some, None, option_map, Result, Ok, Err, Bool, true, false, cond, ◌&&◌, nat_lt, ℤ, pos, ◌+ℤ◌, refl, sym, ◌∙◌, ap, ap₂, subst, take_all, le_refl, lt_trans, lt-ltb, le-ltb, arith}
+use Rattle.std.proofs.Common.{◌≡◌, ℕ, zero, suc, ◌<◌, ◌≤◌, List, [], ◌∷◌, length, take, get_or, map, Option, Some, None, option_map, Result, Ok, Err, Bool, true, false, cond, ◌&&◌, ℤ, pos, ◌+ℤ◌, refl, sym, ◌∙◌, ap, ap₂, le_refl, lt-ltb, le-ltb, arith}
 use Rattle.std.proofs.lemmas.Int.{ints}
 use Rattle.std.specs.Option.{option_or, option_map_or}
 use Rattle.std.specs.List.{AllByRecursion}
@@ -7,7 +7,6 @@ use Rattle.thr_base.specs.Number.{fits}
 use Rattle.lin_rows.specs.Row.{sum_of}
 use Rattle.farkas_cert.specs.Proof.{unfit_place, first_unfit}
 use Rattle.farkas_cert.specs.Columns.{added, column_from, earlier}
-use Rattle.farkas_cert.specs.Weighing.{weighed_with, weighed_to}
 
 abbrev Terms : Type 0
 Terms = List (ℕ × List ℤ)

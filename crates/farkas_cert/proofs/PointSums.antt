@@ -10,7 +10,6 @@ use Rattle.lin_rows.proofs.Lists.{AllByRecursion-weaken}
 use Rattle.farkas_cert.specs.Cert.{row_numbered}
 use Rattle.farkas_cert.specs.Point.{summed, sum_overflow, Passes, IsFirst}
 use Rattle.farkas_cert.proofs.ColumnSums.{fits-true}
-use Rattle.farkas_cert.proofs.Totals.{both_true}
 
 summed-some : (sum t more : ℤ) → Some more ≡ summed sum t → (more ≡ sum +ℤ t) × Fits more
 summed-some sum t more e = only (fits t) (fits (sum +ℤ t)) refl e

@@ -1,16 +1,15 @@
 -- What a refutation says of points.
-use Rattle.std.proofs.Common.{◌≡◌, ℕ, zero, suc, ◌<◌, List, [], ◌∷◌, ◌++◌, Option, Some, None, Bool, true, false, MatchBool, ℤ, pos, ◌+ℤ◌, ◌*ℤ◌, ◌≤ℤ◌, ◌<ℤ◌, refl, sym, ◌∙◌, ap, subst, arith}
+use Rattle.std.proofs.Common.{◌≡◌, ℕ, zero, suc, List, [], ◌∷◌, Option, Some, Bool, true, false, MatchBool, ℤ, pos, ◌+ℤ◌, ◌*ℤ◌, ◌≤ℤ◌, ◌<ℤ◌, refl, sym, ◌∙◌, ap, subst, arith}
 use Rattle.std.proofs.lemmas.Int.{ints, by_lt_z}
 use Rattle.std.specs.List.{AllByRecursion}
 use Rattle.lin_rows.specs.Row.{Row, Meets, MeetsOver, product_of, scaled, sum_of}
-use Rattle.lin_rows.specs.System.{System, IsPoint, IsRationalPoint}
-use Rattle.lin_rows.specs.Atom.{IsAtom, negation}
+use Rattle.lin_rows.specs.Atom.{negation}
 use Rattle.lin_rows.proofs.Integers.{mul-le-mul_ℤ, mul-lt-mul_ℤ, mul_assoc_ℤ, add-mul_ℤ, mul_comm_ℤ, mul-zero_ℤ}
 use Rattle.lin_rows.proofs.Lists.{AllByRecursion-append, AllByRecursion-weaken}
 use Rattle.lin_rows.proofs.Points.{product_of-scaled, product_of-sum_of, product_of-AllZero}
 use Rattle.lin_rows.proofs.Atoms.{Meets-inequality, Meets-negation}
-use Rattle.farkas_cert.specs.Cert.{Pairs, InOrder, Allows, AllowsAt, Refutes, row_numbered, add_weighted, weighted_sum}
-use Rattle.farkas_cert.specs.Proof.{RefutedHasNoPoint, PointsMeetEntailed, Entails, denying}
+use Rattle.farkas_cert.specs.Cert.{Pairs, InOrder, Allows, AllowsAt, row_numbered, add_weighted, weighted_sum}
+use Rattle.farkas_cert.specs.Proof.{RefutedHasNoPoint, PointsMeetEntailed, denying}
 
 -- what is known of the row that a pair names
 record IsWeighed (x : List ℤ) (d m : ℤ) (row : Row) : Type 0 where

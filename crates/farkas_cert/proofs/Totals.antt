@@ -1,5 +1,5 @@
 -- The sums of the columns are the weighted sum, and what is known of all columns is the answer.
-use Rattle.std.proofs.Common.{◌≡◌, ◌↔◌, ◌⊎◌, inl, inr, ℕ, zero, suc, ◌+◌, ◌<◌, ◌≤◌, List, [], ◌∷◌, ◌++◌, length, take, get_or, map, Option, Some, None, Result, Ok, Err, Bool, true, false, cond, ◌&&◌, nat_lt, int_lt, IsTrue, ℤ, pos, negsuc, ◌+ℤ◌, ◌*ℤ◌, ◌<ℤ◌, refl, sym, ◌∙◌, ap, ap₂, subst, take_all, le_refl, true≢false, ⊎_elim, eq-or-lt_of_le, arith}
+use Rattle.std.proofs.Common.{◌≡◌, ◌↔◌, inr, ℕ, zero, suc, ◌<◌, ◌≤◌, List, [], ◌∷◌, ◌++◌, length, get_or, Option, Some, None, Result, Ok, Err, Bool, true, false, cond, ◌&&◌, nat_lt, int_lt, IsTrue, ℤ, pos, ◌+ℤ◌, ◌*ℤ◌, ◌<ℤ◌, refl, sym, ◌∙◌, ap, ap₂, subst, take_all, le_refl, true≢false, ⊎_elim, eq-or-lt_of_le, arith}
 use Rattle.std.proofs.lemmas.Int.{ints}
 use Rattle.std.proofs.lemmas.Bool.Decides.{Decides-int_eq}
 use Rattle.std.specs.Ordering.{int_eq}
@@ -8,8 +8,8 @@ use Rattle.std.specs.List.{AllByRecursion}
 use Rattle.thr_base.specs.Number.{fits}
 use Rattle.lin_rows.specs.Row.{Row, scaled, sum_of}
 use Rattle.lin_rows.specs.System.{System}
-use Rattle.farkas_cert.specs.Cert.{Pairs, InOrder, AllowsAt, IsContradiction, Refutes, row_numbered, add_weighted, weighted_sum}
-use Rattle.farkas_cert.specs.Proof.{Proves, products, numbers_of, first_unfit, overflow_of}
+use Rattle.farkas_cert.specs.Cert.{Pairs, InOrder, AllowsAt, IsContradiction, row_numbered, add_weighted, weighted_sum}
+use Rattle.farkas_cert.specs.Proof.{products, numbers_of, first_unfit, overflow_of}
 use Rattle.farkas_cert.specs.Columns.{added, column_from, earlier, HasWidths}
 use Rattle.farkas_cert.specs.Weighing.{weighed_with, weighed_to, is_below_zero, answer_of, answered}
 use Rattle.farkas_cert.specs.Answer.{IsCertAnswer}

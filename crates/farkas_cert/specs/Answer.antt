@@ -1,5 +1,5 @@
 -- When each answer of a check comes.
-use Rattle.std.specs.Prelude.{◌≡◌, ◌⊎◌, ℕ, ℤ, List, Some, None}
+use Rattle.std.specs.Prelude.{◌≡◌, ◌⊎◌, ℤ, List, Some, None}
 use Rattle.std.specs.List.{AllByRecursion}
 use Rattle.lin_rows.specs.System.{System}
 use Rattle.farkas_cert.specs.Cert.{Pairs, InOrder, IsContradiction, weighted_sum}

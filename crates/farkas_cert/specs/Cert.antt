@@ -1,5 +1,5 @@
 -- Certificates: multipliers of a system's rows whose weighted sum is a contradiction.
-use Rattle.std.specs.Prelude.{◌≡◌, ℕ, zero, suc, ◌<◌, ℤ, pos, ◌+ℤ◌, ◌*ℤ◌, ◌≤ℤ◌, ◌<ℤ◌, Bool, false, List, [], ◌∷◌, Option, Some, None, slice_get, MatchBool, ⊤}
+use Rattle.std.specs.Prelude.{◌≡◌, ℕ, zero, suc, ◌<◌, ℤ, pos, ◌+ℤ◌, ◌*ℤ◌, ◌≤ℤ◌, ◌<ℤ◌, false, List, [], ◌∷◌, Option, Some, None, slice_get, MatchBool, ⊤}
 use Rattle.std.specs.List.{AllByRecursion}
 use Rattle.lin_rows.specs.Row.{Row, scaled, sum_of}
 use Rattle.lin_rows.specs.System.{System}

@@ -1,4 +1,4 @@
--- How the checks go over the rows that a certificate can name: column by column, since that takes no memory.
+-- How the check of a certificate goes: column by column, since that takes no memory. No public clause cites this file.
 use Rattle.std.specs.Prelude.{◌≡◌, ℕ, ℤ, pos, ◌+ℤ◌, List, [], ◌∷◌, ◌&&◌, Option, Some, None, Result, Ok, Err, length, slice_index_or, nat_lt, if◌then◌else◌}
 use Rattle.std.specs.Option.{option_map_or}
 use Rattle.std.specs.List.{AllByRecursion}

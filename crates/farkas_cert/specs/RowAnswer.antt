@@ -1,5 +1,5 @@
--- What a check finds of one row.
-use Rattle.std.specs.Prelude.{◌≡◌, ℕ, ℤ, List, Some}
+-- What the check of a point finds of one row. No public clause cites this file.
+use Rattle.std.specs.Prelude.{◌≡◌, ℤ, List, Some}
 use Rattle.lin_rows.specs.Row.{Row}
 use Rattle.farkas_cert.specs.Point as point
 use Rattle.farkas_cert.specs.declared.point.RowAnswer.{RowAnswer}

@@ -1,6 +1,6 @@
 ghost use Rattle.std.specs.Prelude.{◌≡◌, ◌<◌, ◌↔◌, length, IsTrue};
 ghost use Rattle.farkas_cert.specs.Cert.{InOrder, AllowsAt, row_numbered};
-ghost use Rattle.farkas_cert.specs.Proof.{Entails, denying};
+ghost use Rattle.farkas_cert.specs.Proof.{Entails, Proves, denying};
 ghost use Rattle.farkas_cert.specs.Answer.{IsCertAnswer};
 
 use crate::answers::CertAnswer;
@@ -59,7 +59,8 @@ fn is_in_order(rows: &NamedRows<'_>, cert: &[(u32, i128)]) -> bool
 }
 
 fn check(rows: &NamedRows<'_>, cert: &[(u32, i128)]) -> CertAnswer
-    ensures { IsCertAnswer rows.now cert.now result }
+    ensures answer { IsCertAnswer rows.now cert.now result }
+    ensures proves { (result ≡ CertAnswer.Proves) ↔ Proves rows.now cert.now }
 {
     if is_in_order(rows, cert) {
         weigh(rows, cert)
@@ -70,7 +71,8 @@ fn check(rows: &NamedRows<'_>, cert: &[(u32, i128)]) -> CertAnswer
 
 /// Whether a certificate refutes the rows, by products and sums that fit.
 pub fn check_cert(rows: &RowsView<'_>, cert: &[(u32, i128)]) -> CertAnswer
-    ensures { IsCertAnswer rows.now cert.now result }
+    ensures answer { IsCertAnswer rows.now cert.now result }
+    ensures proves { (result ≡ CertAnswer.Proves) ↔ Proves rows.now cert.now }
 {
     check(&NamedRows::of(rows), cert)
 }
@@ -80,6 +82,7 @@ pub fn check_cert(rows: &RowsView<'_>, cert: &[(u32, i128)]) -> CertAnswer
 pub fn check_entails(rows: &RowsView<'_>, atom: &Atom, cert: &[(u32, i128)]) -> CertAnswer
     requires { length atom.now.coefficients ≡ rows.now.columns }
     ensures answer { IsCertAnswer (denying rows.now atom.now) cert.now result }
+    ensures proves { (result ≡ CertAnswer.Proves) ↔ Proves (denying rows.now atom.now) cert.now }
     ensures entailed { result ≡ CertAnswer.Proves → Entails rows.now atom.now }
 {
     check(&NamedRows::denying(rows, atom), cert)

@@ -16,3 +16,6 @@ pub use cert::{Cert, check_cert, check_entails};
 pub use elimination_laws::{certificate_proves, more_stages_change_nothing, point_is_a_point};
 pub use laws::{points_meet_entailed, refuted_has_no_point};
 pub use point::{Coordinates, check_point};
+
+#[cfg(test)]
+mod tests;

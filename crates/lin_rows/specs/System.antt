@@ -16,7 +16,7 @@ pub record IsRowOver (columns : ℕ) (row : Row) : Type 0 where
   pub width : length row.coefficients ≡ columns
   pub fits : RowFits row
 
--- what is known of each system that a program holds.
+-- What is known of each system that a program holds: its rows are over its columns, and no count is too great.
 pub record IsWellFormed (system : System) : Type 0 where
   pub columns : system.columns < 2 ^ 32
   pub count : length system.rows < 2 ^ 32 - 1

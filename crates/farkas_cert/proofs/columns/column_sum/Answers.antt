@@ -1,11 +1,9 @@
-use Rattle.std.proofs.Common.{◌≡◌, ℕ, ℤ, pos, Option, Some, None, Err, sym, ◌∙◌, ap, to_z, get_or, ◌*ℤ◌}
+use Rattle.std.proofs.Common.{pos, Some, None, sym, ◌∙◌, to_z, get_or, ◌*ℤ◌}
 use Rattle.std.specs.Int.{w128}
-use Rattle.std.specs.Option.{option_map_or}
 use Rattle.thr_base.specs.Number.{Fits}
 use Rattle.lin_rows.proofs.Numbers.{read_back}
 use Rattle.farkas_cert.specs.Cert.{row_numbered}
-use Rattle.farkas_cert.specs.Proof.{products}
-use Rattle.farkas_cert.specs.Columns.{column_from, number_at}
+use Rattle.farkas_cert.specs.Columns.{number_at}
 use Rattle.farkas_cert.proofs.ColumnSums.{IsSome-InOrder, column_from-at, Fits-added}
 use Rattle.farkas_cert.proofs.columns.column_sum.Goals as goal
 

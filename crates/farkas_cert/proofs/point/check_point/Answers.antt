@@ -1,7 +1,6 @@
-use Rattle.std.proofs.Common.{◌≡◌, suc, ◌≤◌, ℤ, List, Some, length, take, sym, subst, ap, ◌∙◌, to_z-of_z, add-one, take_all, arith}
+use Rattle.std.proofs.Common.{◌≡◌, ◌≤◌, Some, length, subst, to_z-of_z, add-one, take_all, arith}
 use Rattle.std.specs.Int.{w128}
 use Rattle.std.specs.List.{AllByRecursion}
-use Rattle.lin_rows.specs.Row.{Row}
 use Rattle.lin_rows.specs.View.{row_of}
 use Rattle.farkas_cert.specs.Point.{Passes, Breaks, row_overflow}
 use Rattle.farkas_cert.proofs.PointSums.{IsFirst-next, AllByRecursion-take_more, IsRationalPoint-passes}

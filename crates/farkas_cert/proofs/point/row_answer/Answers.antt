@@ -1,5 +1,4 @@
-use Rattle.std.proofs.Common.{◌≡◌, ℤ, ◌*ℤ◌, sym, ◌∙◌, to_z, of_z, rules, arith}
-use Rattle.std.proofs.lemmas.Int.{ints}
+use Rattle.std.proofs.Common.{◌≡◌, ◌*ℤ◌, to_z, of_z, rules}
 use Rattle.std.specs.Int.{w128}
 use Rattle.lin_rows.specs.Row.{product_of}
 use Rattle.farkas_cert.proofs.PointSums.{broken}

@@ -1,4 +1,4 @@
-use Rattle.std.proofs.Common.{◌≡◌, ℤ, pos, ◌*ℤ◌, Some, None, get_or, sym, ◌∙◌, to_z, of_z}
+use Rattle.std.proofs.Common.{pos, ◌*ℤ◌, get_or, sym, ◌∙◌, to_z}
 use Rattle.std.specs.Int.{w128}
 use Rattle.thr_base.specs.Number.{Fits}
 use Rattle.lin_rows.proofs.Numbers.{read_back}

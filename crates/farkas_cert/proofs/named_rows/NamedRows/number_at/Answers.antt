@@ -1,6 +1,5 @@
-use Rattle.std.proofs.Common.{◌≡◌, ℕ, ◌<◌, ◌-◌, Some, None, option_copied, IsSome, length, sym, subst, ap, ◌∙◌, to_z-of_z, arith}
+use Rattle.std.proofs.Common.{◌<◌, ◌-◌, option_copied, IsSome, length, sym, subst, ap, ◌∙◌, to_z-of_z, arith}
 use Rattle.std.specs.Int.{w128}
-use Rattle.lin_rows.specs.System.{System}
 use Rattle.farkas_cert.specs.Cert.{row_numbered}
 use Rattle.farkas_cert.specs.Columns.{number_at, perhaps_denying}
 use Rattle.farkas_cert.proofs.NamedRowsLemmas.{row_numbered-own, row_numbered-denied, row_numbered-none, row_numbered-some}
