@@ -1,5 +1,5 @@
 -- Certificates: multipliers of a system's rows whose weighted sum is a contradiction.
-use Rattle.std.specs.Prelude.{◌≡◌, ℕ, zero, suc, ◌<◌, ℤ, pos, ◌+ℤ◌, ◌*ℤ◌, ◌≤ℤ◌, ◌<ℤ◌, Bool, false, List, [], ◌∷◌, Option, Some, None, slice_get, MatchBool, ⊤}
+use Rattle.std.specs.Prelude.{◌≡◌, ℕ, zero, suc, ◌<◌, ℤ, pos, ◌+ℤ◌, ◌*ℤ◌, ◌≤ℤ◌, ◌<ℤ◌, false, List, [], ◌∷◌, Option, Some, None, slice_get, MatchBool, ⊤}
 use Rattle.std.specs.List.{AllByRecursion}
 use Rattle.lin_rows.specs.Row.{Row, scaled, sum_of}
 use Rattle.lin_rows.specs.System.{System}
@@ -25,21 +25,21 @@ AllowsAt (Some row) m = Allows row m
 -- The numbers rise strictly, from above `last`, and each row allows its multiplier.
 abbrev pub InOrder : List Row → ℕ → Pairs → Type 0
 InOrder rows last [] = Unit {0}
-InOrder rows last ((k , m) ∷ pairs) = (last < k) × AllowsAt (row_numbered rows k) m × InOrder rows k pairs
+InOrder rows last ((k, m) ∷ pairs) = (last < k) × AllowsAt (row_numbered rows k) m × InOrder rows k pairs
 
 -- m times a row, added to a sum
 abbrev pub add_weighted : Option Row → ℤ → Row → Row
 add_weighted None m total = total
 add_weighted (Some row) m total = record {
-    equal = false;
-    coefficients = sum_of (scaled m row.coefficients) total.coefficients;
-    bound = m *ℤ row.bound +ℤ total.bound;
-  }
+  equal = false;
+  coefficients = sum_of (scaled m row.coefficients) total.coefficients;
+  bound = m *ℤ row.bound +ℤ total.bound;
+}
 
 -- the weighted sum of the rows, as one row
 abbrev pub weighted_sum : List Row → Pairs → Row
 weighted_sum rows [] = record { equal = false; coefficients = []; bound = pos 0 }
-weighted_sum rows ((k , m) ∷ pairs) = add_weighted (row_numbered rows k) m (weighted_sum rows pairs)
+weighted_sum rows ((k, m) ∷ pairs) = add_weighted (row_numbered rows k) m (weighted_sum rows pairs)
 
 -- The row says 0 <= c with a negative c.
 pub record IsContradiction (row : Row) : Type 0 where

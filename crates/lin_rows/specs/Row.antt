@@ -1,5 +1,7 @@
 -- Rows of linear constraints, and the points that meet them, over unbounded integers.
 use Rattle.std.specs.Prelude.{◌≡◌, ℤ, pos, ◌+ℤ◌, ◌*ℤ◌, ◌≤ℤ◌, Bool, List, [], ◌∷◌, map, MatchBool}
+use Rattle.std.specs.List.{AllByRecursion}
+use Rattle.thr_base.specs.Number.{Fits}
 
 -- a . z <= b, or a . z = b where it is an equality
 pub record Row : Type 0 where
@@ -30,3 +32,8 @@ Meets row z = MatchBool row.equal (product_of row.coefficients z ≡ row.bound) 
 -- The rational point x / d meets the row.
 abbrev pub MeetsOver : Row → List ℤ → ℤ → Type 0
 MeetsOver row x d = MatchBool row.equal (product_of row.coefficients x ≡ row.bound *ℤ d) (product_of row.coefficients x ≤ℤ (row.bound *ℤ d))
+
+-- All numbers of the row fit.
+pub record RowFits (row : Row) : Type 0 where
+  pub coefficients : AllByRecursion Fits row.coefficients
+  pub bound : Fits row.bound

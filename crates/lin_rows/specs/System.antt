@@ -1,11 +1,26 @@
 -- Systems: lists of rows over the same columns.
-use Rattle.std.specs.Prelude.{◌≡◌, ◌<ℤ◌, ℕ, ℤ, pos, List, length}
+use Rattle.std.specs.Prelude.{◌≡◌, ◌<◌, ◌-◌, ◌^◌, ◌<ℤ◌, ℕ, ℤ, pos, List, [], ◌∷◌, ◌++◌, length}
 use Rattle.std.specs.List.{AllByRecursion}
-use Rattle.lin_rows.specs.Row.{Row, Meets, MeetsOver}
+use Rattle.lin_rows.specs.Row.{Row, RowFits, Meets, MeetsOver}
 
 pub record System : Type 0 where
   pub columns : ℕ
   pub rows : List Row
+
+-- the system with one more row, at its end
+abbrev pub with_row : System → Row → System
+with_row system row = record system { rows = system.rows ++ row ∷ [] }
+
+-- The row has one coefficient per column, and its numbers fit.
+pub record IsRowOver (columns : ℕ) (row : Row) : Type 0 where
+  pub width : length row.coefficients ≡ columns
+  pub fits : RowFits row
+
+-- What is known of each system that a program holds: its rows are over its columns, and no count is too great.
+pub record IsWellFormed (system : System) : Type 0 where
+  pub columns : system.columns < 2 ^ 32
+  pub count : length system.rows < 2 ^ 32 - 1
+  pub rows : AllByRecursion (IsRowOver system.columns) system.rows
 
 -- z is a whole point of the system.
 pub record IsPoint (system : System) (z : List ℤ) : Type 0 where

@@ -1,0 +1,61 @@
+-- The sum of a column, pair by pair.
+use Rattle.std.proofs.Common.{◌≡◌, ℕ, zero, suc, ◌+◌, ◌<◌, List, [], ◌∷◌, length, drop, get_or, Option, Some, None, Err, IsSome, Bool, true, false, ◌&&◌, if◌then◌else◌, ◌^◌, ℤ, pos, negsuc, ◌+ℤ◌, ◌*ℤ◌, refl, sym, ◌∙◌, ap, subst, drop-cons, add-one, true≢false, ltb-true, lt-ltb, arith}
+use Rattle.std.specs.Option.{option_map_or}
+use Rattle.thr_base.specs.Number.{Fits, fits}
+use Rattle.lin_rows.specs.Row.{Row, scaled}
+use Rattle.lin_rows.proofs.Integers.{mul-zero_ℤ}
+use Rattle.farkas_cert.specs.Cert.{Pairs, InOrder, AllowsAt, row_numbered}
+use Rattle.farkas_cert.specs.Proof.{products, numbers_of}
+use Rattle.farkas_cert.specs.Columns.{added, column_from, number_at}
+
+pub get_or-scaled : (m : ℤ) (xs : List ℤ) (n : ℕ) → get_or (scaled m xs) n (pos 0) ≡ m *ℤ get_or xs n (pos 0)
+get_or-scaled m [] n = sym (mul-zero_ℤ m)
+get_or-scaled m (x ∷ xs) zero = refl
+get_or-scaled m (x ∷ xs) (suc n) = get_or-scaled m xs n
+
+-- ---- each pair in order names a row that is there
+IsSome-AllowsAt : (row : Option Row) (m : ℤ) → AllowsAt row m → IsSome row
+IsSome-AllowsAt None m h = absurd h
+IsSome-AllowsAt (Some row) m h = refl
+
+pub IsSome-InOrder : (rows : List Row) (last : ℕ) (pairs : Pairs) (n : ℕ) (d : ℕ × ℤ) → InOrder rows last pairs → n < length pairs → IsSome (row_numbered rows (get_or pairs n d).0)
+IsSome-InOrder rows last [] n d h below = absurd (omega arith)
+IsSome-InOrder rows last ((k, m) ∷ pairs) zero d h below = IsSome-AllowsAt (row_numbered rows k) m h.1
+IsSome-InOrder rows last ((k, m) ∷ pairs) (suc n) d h below = IsSome-InOrder rows k pairs n d h.2 (omega arith)
+
+-- ---- one more pair
+column_from-step : (rows : List Row) (sum : ℤ) (column : ℕ) (p : ℕ × ℤ) (pairs : Pairs) (sum' : Option ℤ) → sum' ≡ added sum (p.1 *ℤ number_at (row_numbered rows p.0) column)
+    → column_from sum column (products rows (p ∷ pairs)) ≡ option_map_or (λ more. column_from more column (products rows pairs)) sum' (Err p.0)
+column_from-step rows sum column (k, m) pairs sum' e =
+    ap (λ v. option_map_or (λ more. column_from more column (products rows pairs)) v (Err k))
+    (ap (added sum) (get_or-scaled m (numbers_of (row_numbered rows k)) column) ∙ sym e)
+
+pub column_from-at : (rows : List Row) (sum : ℤ) (column : ℕ) (pairs : Pairs) (n : ℕ) (d : ℕ × ℤ) (sum' : Option ℤ) → n < length pairs
+    → sum' ≡ added sum ((get_or pairs n d).1 *ℤ number_at (row_numbered rows (get_or pairs n d).0) column)
+    → column_from sum column (products rows (drop n pairs)) ≡ option_map_or (λ more. column_from more column (products rows (drop (n + 1) pairs))) sum' (Err (get_or pairs n d).0)
+column_from-at rows sum column pairs n d sum' below e =
+    ap (λ (ps : Pairs). column_from sum column (products rows ps)) (drop-cons pairs n d below) ∙ column_from-step rows sum column (get_or pairs n d) (drop (suc n) pairs) sum' e
+    ∙ ap (λ i. option_map_or (λ more. column_from more column (products rows (drop i pairs))) sum' (Err (get_or pairs n d).0)) (sym (add-one n))
+
+-- ---- what fits
+pub fits-true : (z : ℤ) → fits z ≡ true → Fits z
+fits-true (pos n) e = ltb-true n (2 ^ 127) e
+fits-true (negsuc n) e = ltb-true (suc n) (2 ^ 127) e
+
+pub true-fits : (z : ℤ) → Fits z → fits z ≡ true
+true-fits (pos n) h = lt-ltb n (2 ^ 127) h
+true-fits (negsuc n) h = lt-ltb (suc n) (2 ^ 127) h
+
+both_true : (a b : Bool) → (a && b) ≡ true → (a ≡ true) × (b ≡ true)
+both_true true true e = (refl, refl)
+both_true true false e = (refl, e)
+both_true false b e = absurd (true≢false (sym e))
+
+given : {A : Type 0} (b : Bool) (x y : A) → (if b then Some x else None) ≡ Some y → (b ≡ true) × (x ≡ y)
+given true x y e = (refl, cc)
+given false x y e = cc
+
+pub Fits-added : (sum product more : ℤ) → added sum product ≡ Some more → Fits more
+Fits-added sum product more e =
+    let parts = given (fits product && fits (product +ℤ sum)) (product +ℤ sum) more e in
+    subst Fits parts.1 (fits-true (product +ℤ sum) (both_true (fits product) (fits (product +ℤ sum)) parts.0).1)

@@ -1,0 +1,52 @@
+-- Division by a common divisor is exact.
+use Rattle.std.proofs.Common.{◌≡◌, ℕ, zero, suc, ◌%◌, ◌<◌, ◌≤◌, refl, sym, ap, ◌∙◌, arith, List, [], ◌∷◌, map}
+use Rattle.std.specs.Prelude.{ℤ, pos, negsuc, ◌*ℤ◌, unsigned_abs}
+use Rattle.std.specs.Int.{IsGcd, ◌∣◌}
+use Rattle.std.proofs.lemmas.Nat.{mod_below}
+use Rattle.std.proofs.lemmas.Nat.Gcd.{IsGcd-from_zero, IsGcd-from_mod}
+use Rattle.std.proofs.Math.Nat.{eq-zero_of_zero-dvd}
+use Rattle.lin_rows.specs.Gcd.{gcd_within, gcd, gcd_of}
+use Rattle.lin_rows.proofs.Divisors.{DividesAll, AllZero, AllZero-from_gcd_of, gcd_of-divides, exact_quotient}
+use Rattle.farkas_cert.specs.Divided.{over, divided}
+use Rattle.lin_rows.proofs.Integers.{zero-mul_ℤ}
+
+gcd_within-IsGcd : (fuel a b : ℕ) → b ≤ fuel → IsGcd a b (gcd_within fuel a b)
+gcd_within-IsGcd zero a b h = IsGcd-from_zero a b (omega arith)
+gcd_within-IsGcd (suc fuel) a zero h = IsGcd-from_zero a zero refl
+gcd_within-IsGcd (suc fuel) a (suc b) h =
+    let falls : a % suc b < suc b = mod_below a (suc b) (omega arith) in
+    IsGcd-from_mod a (suc b) (gcd_within fuel (suc b) (a % suc b)) (gcd_within-IsGcd fuel (suc b) (a % suc b) (omega arith))
+
+pub gcd-IsGcd : (a b : ℕ) → IsGcd a b (gcd a b)
+gcd-IsGcd a b = gcd_within-IsGcd b a b (omega arith)
+
+zero_divides : (x : ℤ) → 0 ∣ unsigned_abs x → x ≡ pos 0
+zero_divides (pos n) h = ap pos (eq-zero_of_zero-dvd h)
+zero_divides (negsuc n) h = let z = eq-zero_of_zero-dvd h in absurd (omega arith)
+
+pub over-exact : (g : ℕ) (x : ℤ) → g ∣ unsigned_abs x → pos g *ℤ over g x ≡ x
+over-exact zero x h = zero-mul_ℤ (over 0 x) ∙ sym (zero_divides x h)
+over-exact (suc g) x h = sym (exact_quotient x (suc g) (omega arith) h)
+
+over_all : (g : ℕ) (xs : List ℤ) → DividesAll g xs → map (λ x. pos g *ℤ x) (map (over g) xs) ≡ xs
+over_all g [] h = refl
+over_all g (x ∷ xs) h =
+    let l = over-exact g x h.0 in
+    let r = over_all g xs h.1 in
+    cc
+
+pub divided-exact : (xs : List ℤ) → map (λ x. pos (gcd_of xs) *ℤ x) (divided xs) ≡ xs
+unfolding divided
+divided-exact xs = over_all (gcd_of xs) xs (gcd_of-divides xs)
+
+zeros_over : (g : ℕ) (xs : List ℤ) → g ≡ 0 → AllZero xs → map (over g) xs ≡ xs
+zeros_over g [] e h = refl
+zeros_over g (x ∷ xs) e h =
+    let here : over g x ≡ x = rw (h.0, e) refl in
+    let rest = zeros_over g xs e h.1 in
+    cc
+
+-- Zeros are divided by nothing.
+pub divided-same : (xs : List ℤ) → gcd_of xs ≡ 0 → divided xs ≡ xs
+unfolding divided
+divided-same xs e = zeros_over (gcd_of xs) xs e (AllZero-from_gcd_of xs e)

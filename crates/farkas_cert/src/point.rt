@@ -1,0 +1,128 @@
+ghost use Rattle.std.specs.Prelude.{◌≡◌, pos, ◌*ℤ◌, ◌<◌, ◌≤ℤ◌, ◌<ℤ◌, ◌^◌, ◌↔◌, length, slice_index_or, None, Some, IfOk, IfErr, IsTrue, MatchBool};
+ghost use Rattle.lin_rows.specs.Row.{product_of};
+ghost use Rattle.lin_rows.specs.System.{IsRationalPoint};
+ghost use Rattle.lin_rows.specs.View.{row_of};
+ghost use Rattle.farkas_cert.specs.Point.{sum_overflow, summed};
+ghost use Rattle.farkas_cert.specs.Answer.{IsPointAnswer};
+ghost use Rattle.farkas_cert.specs.RowAnswer.{IsRowAnswer};
+
+use crate::answers::PointAnswer;
+use lin_rows::{RowView, RowsView, product_if_fits, sum_if_fits};
+use std::marker::Model;
+
+/// The numerators of a point, which contracts see as their list.
+#[derive(Debug, Drop)]
+pub struct Coordinates {
+    numbers: Vec<i128>,
+}
+
+impl Model for Coordinates {
+    ghost use Rattle.std.specs.Prelude.{ℤ, List};
+
+    ghost Value = { List ℤ };
+
+    ghost view = { λ inside. inside.numbers.items };
+}
+
+impl Coordinates {
+    pub fn of(numbers: Vec<i128>) -> Coordinates
+        ensures { result ≡ numbers.items }
+    {
+        Coordinates { numbers }
+    }
+
+    pub fn as_slice(&self) -> &[i128]
+        ensures { result.now ≡ self.now }
+    {
+        self.numbers.as_slice()
+    }
+
+    pub fn into_vec(self) -> Vec<i128>
+        ensures { result.items ≡ self }
+    {
+        self.numbers
+    }
+}
+
+/// What is found of one row.
+#[derive(Clone, Copy)]
+enum RowAnswer {
+    Passes,
+    Breaks,
+    Overflow(u32),
+}
+
+/// The sum with the product at a place added, where both fit.
+fn add_product(coefficients: &[i128], x: &[i128], place: usize, sum: i128) -> Option<i128>
+    requires lengths { length coefficients.now ≡ length x.now }
+    requires within { place < length coefficients.now }
+    ensures { result ≡ summed sum (slice_index_or coefficients.now place (pos 0) *ℤ slice_index_or x.now place (pos 0)) }
+{
+    let product = product_if_fits(coefficients[place], x[place])?;
+    sum_if_fits(sum, product)
+}
+
+/// The sum of the products of two lists, or the first place at which a product or the sum does not fit.
+fn sum_of_products(coefficients: &[i128], x: &[i128]) -> Result<i128, u32>
+    requires lengths { length coefficients.now ≡ length x.now }
+    requires small { length coefficients.now < 2 ^ 32 }
+    ensures sum { IfOk result (λ sum. sum ≡ product_of coefficients.now x.now) }
+    ensures fits { IfOk result (λ _. sum_overflow (pos 0) coefficients.now x.now ≡ None) }
+    ensures overflow { IfErr result (λ place. sum_overflow (pos 0) coefficients.now x.now ≡ Some place) }
+{
+    let mut sum = 0;
+    'places: for place in 0..coefficients.len() {
+        match add_product(coefficients, x, place, sum) {
+            Some(more) => sum = more,
+            None => return Err(place as u32),
+        }
+    }
+    Ok(sum)
+}
+
+fn holds(equal: bool, sum: i128, bound: i128) -> bool
+    ensures { IsTrue result ↔ MatchBool equal (sum ≡ bound) (sum ≤ℤ bound) }
+{
+    if equal { sum == bound } else { sum <= bound }
+}
+
+fn row_answer(row: &RowView<'_>, x: &[i128], d: i128) -> RowAnswer
+    requires lengths { length row.now.coefficients.now ≡ length x.now }
+    requires small { length row.now.coefficients.now < 2 ^ 32 }
+    ensures { IsRowAnswer x.now d (row_of row.now) result }
+{
+    let sum = match sum_of_products(row.coefficients, x) {
+        Ok(sum) => sum,
+        Err(column) => return RowAnswer::Overflow(column),
+    };
+    let Some(bound) = product_if_fits(row.bound, d) else {
+        return RowAnswer::Overflow(row.coefficients.len() as u32);
+    };
+    if holds(row.equal, sum, bound) {
+        RowAnswer::Passes
+    } else {
+        RowAnswer::Breaks
+    }
+}
+
+/// Whether `x / d` is a point of the rows, by products and sums that fit.
+pub fn check_point(rows: &RowsView<'_>, x: &[i128], d: i128) -> PointAnswer
+    requires whole { length x.now ≡ rows.now.columns }
+    requires positive { pos 0 <ℤ d }
+    ensures answer { IsPointAnswer rows.now x.now d result }
+    ensures point { result ≡ PointAnswer.Meets → IsRationalPoint rows.now x.now d }
+{
+    'rows: for place in 0..rows.count() {
+        match row_answer(&rows.row(place), x, d) {
+            RowAnswer::Passes => {}
+            RowAnswer::Breaks => return PointAnswer::Fails { row: place + 1 },
+            RowAnswer::Overflow(column) => {
+                return PointAnswer::Overflow {
+                    row: place + 1,
+                    column,
+                };
+            }
+        }
+    }
+    PointAnswer::Meets
+}

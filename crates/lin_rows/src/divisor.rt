@@ -1,0 +1,45 @@
+ghost use Rattle.std.specs.Prelude.{◌≡◌, pos, ◌<ℤ◌};
+ghost use Rattle.std.specs.Int.{int_div_euclid};
+ghost use Rattle.std.specs.List.{AllByRecursion};
+ghost use Rattle.thr_base.specs.Number.{Fits};
+ghost use Rattle.lin_rows.specs.Gcd.{gcd, gcd_of};
+
+/// Euclid's algorithm.
+fn common_divisor(a: u128, b: u128) -> u128
+    ensures { result ≡ gcd a b }
+{
+    let mut greater = a;
+    let mut lesser = b;
+    'steps: while lesser != 0 {
+        let rest = greater % lesser;
+        greater = lesser;
+        lesser = rest;
+    }
+    greater
+}
+
+/// The greatest common divisor of all numbers; 0 where all are 0.
+fn size_of_divisor(numbers: &[i128]) -> u128
+    ensures { result ≡ gcd_of numbers.now }
+{
+    numbers.iter().fold(
+        0,
+        |divisor, number| common_divisor(number.unsigned_abs(), divisor),
+    )
+}
+
+/// The greatest common divisor as a number that fits, as it does where all numbers do.
+pub fn divisor_of(numbers: &[i128]) -> i128
+    requires { AllByRecursion Fits numbers.now }
+    ensures { result ≡ pos (gcd_of numbers.now) }
+{
+    size_of_divisor(numbers) as i128
+}
+
+/// The quotient, rounded down.
+pub fn floor_of(number: i128, divisor: i128) -> i128
+    requires { pos 0 <ℤ divisor }
+    ensures { result ≡ int_div_euclid number divisor }
+{
+    number.div_euclid(divisor)
+}
