@@ -1,6 +1,5 @@
 -- Why an answer is the one to the bytes of a file.
-use Rattle.std.proofs.Common.{◌≡◌, ◌<◌, ◌≤◌, ◌^◌, ℕ, suc, ◌+◌, Bool, true, false, cond, ◌&&◌, ◌||◌, List, [], ◌∷◌, ◌++◌, map, length, flat_map, filter_map, find, codes, bytes_eq, Option, Some, None, is_some, option_map, IsSome, IsTrue, All, refl, sym, ap, subst, ◌∙◌, arith}
-use Rattle.std.proofs.lemmas.Bool.Decides.{nat_tests}
+use Rattle.std.proofs.Common.{◌≡◌, ℕ, Bool, true, false, cond, ◌&&◌, ◌||◌, List, [], ◌∷◌, ◌++◌, map, flat_map, filter_map, find, codes, bytes_eq, Option, Some, None, is_some, option_map, IsSome, All, refl, ap, subst, ◌∙◌}
 use Rattle.std.proofs.lemmas.List.Elements.{All-nil, All-cons}
 use Rattle.std.specs.List.{list_any, cons_option}
 use Rattle.thr_base.specs.Outside.{StoreMeaning, SinkMeaning}
@@ -9,7 +8,7 @@ use Rattle.threader_cli.proofs.ReadingComplete.{IsAccepted-read}
 use Rattle.threader_cli.proofs.ReadingSound.{program_sound}
 use Rattle.threader_cli.proofs.ReadingSteps.{left_true, right_true}
 use Rattle.threader_cli.specs.Accepted.{IsAccepted, is_allowed, has_few_creations, is_small, text_declares, main_declares, find_function}
-use Rattle.threader_cli.specs.Answer.{Answers, Ends, whole, write_fault, Wrote, all, front, thread_of, threads_of}
+use Rattle.threader_cli.specs.Answer.{Answers, Ends, whole, write_fault, Wrote, all, front, thread_of}
 use Rattle.threader_cli.specs.Graph.{ThreadGraph, graph_of}
 use Rattle.threader_cli.specs.Reach.{HasEnds}
 use Rattle.threader_cli.specs.Reading.{Tokens, program_at}
@@ -83,9 +82,9 @@ spells_main : (p : Program) → list_any is_main (spell_program p) ≡ true
 unfolding spell_program
 spells_main p =
     any-left (flat_map spell_variable p.variables ++ flat_map spell_function p.functions ++ pieces (codes "int main ( ) {") ++ flat_map spell_handle p.handles ++ flat_map spell_creation p.creations) _
-      (any-left (flat_map spell_variable p.variables ++ flat_map spell_function p.functions ++ pieces (codes "int main ( ) {") ++ flat_map spell_handle p.handles) _
-        (any-left (flat_map spell_variable p.variables ++ flat_map spell_function p.functions ++ pieces (codes "int main ( ) {")) _
-          (any-right (flat_map spell_variable p.variables ++ flat_map spell_function p.functions) (pieces (codes "int main ( ) {")) refl)))
+    (any-left (flat_map spell_variable p.variables ++ flat_map spell_function p.functions ++ pieces (codes "int main ( ) {") ++ flat_map spell_handle p.handles) _
+    (any-left (flat_map spell_variable p.variables ++ flat_map spell_function p.functions ++ pieces (codes "int main ( ) {")) _
+    (any-right (flat_map spell_variable p.variables ++ flat_map spell_function p.functions) (pieces (codes "int main ( ) {")) refl)))
 
 found_main : (tokens : List specs.Token) → list_any is_main (map (λ (t : specs.Token). t.text) tokens) ≡ true → is_some (find (λ (t : specs.Token). is_main t.text) tokens) ≡ true
 found_main [] h = h

@@ -1,8 +1,8 @@
 -- Bodies, and what a failed reading says of a longer one.
-use Rattle.std.proofs.Common.{◌≡◌, ℕ, suc, Bool, true, false, not, List, [], ◌∷◌, codes, refl, sym, ap, ◌∙◌, Option, Some, None}
+use Rattle.std.proofs.Common.{◌≡◌, ℕ, suc, Bool, false, not, List, [], ◌∷◌, codes, refl, Option, Some, None}
 use Rattle.thr_base.specs.declared.stops.Stop.{Stop}
 use Rattle.thr_base.specs.declared.stops.Stop.TheVariants.{Refused, Memory}
-use Rattle.threader_cli.specs.Reading.{Tokens, Reading, ◌>>=◌, after, begins, each, assignment_at, body_at, statement_at, statement_by}
+use Rattle.threader_cli.specs.Reading.{Tokens, Reading, after, begins, each, assignment_at, body_at, statement_at, statement_by}
 use Rattle.threader_cli.specs.Refusals.{Fails}
 use Rattle.threader_cli.specs.Tree.{Statement, listed}
 use Rattle.threader_cli.specs.Word.{pieces}

@@ -1,5 +1,5 @@
 -- Actions and edges of the statements of a list, from one end to the other.
-use Rattle.std.proofs.Common.{◌≡◌, ℕ, ◌+◌, ◌<◌, List, [], ◌∷◌, ◌++◌, length, drop, get_or, refl, sym, ap, ◌∙◌, arith, add-one, Vec, Global}
+use Rattle.std.proofs.Common.{◌≡◌, ℕ, ◌+◌, ◌<◌, List, length, drop, get_or, refl, ap, add-one, Vec, Global}
 use Rattle.std.proofs.Math.Seq.{drop-cons}
 use Rattle.threader_cli.proofs.SeenLemmas.{statement_of-Block}
 use Rattle.threader_cli.specs.Graph as specs

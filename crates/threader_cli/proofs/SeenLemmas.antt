@@ -1,5 +1,5 @@
 -- What contracts see of a block.
-use Rattle.std.proofs.Common.{◌≡◌, List, refl, ap, ◌∙◌, Vec, Global}
+use Rattle.std.proofs.Common.{◌≡◌, refl, ap, ◌∙◌, Vec, Global}
 use mathlib.Core.Former.{Count}
 use Rattle.threader_cli.specs.Seen.{statement_of, row_of, statements_of}
 use Rattle.threader_cli.specs.Tree as tree

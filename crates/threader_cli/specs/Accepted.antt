@@ -1,9 +1,9 @@
 -- Which texts are programs of the narrow language.
-use Rattle.std.specs.Prelude.{◌≡◌, ℕ, ◌+◌, Bool, true, false, not, ◌&&◌, ◌||◌, max, List, [], ◌∷◌, ◌++◌, map, length, find, is_some, Option, Some, None, bytes_eq, nat_le, IsTrue}
+use Rattle.std.specs.Prelude.{◌≡◌, ℕ, ◌+◌, Bool, true, false, not, ◌&&◌, max, List, [], ◌∷◌, ◌++◌, map, length, find, is_some, Option, Some, None, bytes_eq, nat_le, IsTrue}
 use Rattle.std.specs.List.{list_any, list_all}
-use Rattle.threader_cli.specs.Graph.{actions_each, graph_of, ThreadGraph}
+use Rattle.threader_cli.specs.Graph.{graph_of}
 use Rattle.threader_cli.specs.Spelling.{spell_program}
-use Rattle.threader_cli.specs.Token.{Token, tokens_of}
+use Rattle.threader_cli.specs.Token.{tokens_of}
 use Rattle.threader_cli.specs.Tree.{Statement, Block, Empty, Assign, AssertFalse, If, IfElse, While, Statements, End, Then, Function, Creation, Program}
 use Rattle.threader_cli.specs.Word.{is_name, is_number}
 

@@ -6,8 +6,8 @@ use Rattle.thr_base.specs.declared.stops.ReadStop.TheVariants.{Fault, TooLong}
 use Rattle.threader_cli.specs.Accepted.{IsAccepted, find_function}
 use Rattle.threader_cli.specs.Graph.{ThreadGraph, graph_of}
 use Rattle.threader_cli.specs.Table.{IsTable}
-use Rattle.threader_cli.specs.Token.{Token, tokens_of}
-use Rattle.threader_cli.specs.Tree.{Program, Creation, Function}
+use Rattle.threader_cli.specs.Token.{tokens_of}
+use Rattle.threader_cli.specs.Tree.{Program, Creation}
 
 -- A word that does not begin with `-`.
 abbrev pub is_operand : List ℕ → Bool

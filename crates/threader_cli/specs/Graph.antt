@@ -1,5 +1,5 @@
 -- The graph of a thread: its actions' locations in text order from 1, the failing location 0, the exit, and the edges.
-use Rattle.std.specs.Prelude.{ℕ, ◌+◌, Bool, List, [], ◌∷◌, ◌++◌, ◌==◌, if◌then◌else◌}
+use Rattle.std.specs.Prelude.{ℕ, ◌+◌, List, [], ◌∷◌, ◌++◌, ◌==◌, if◌then◌else◌}
 use Rattle.threader_cli.specs.Tree.{Statement, Block, Empty, Assign, AssertFalse, If, IfElse, While, Statements, End, Then}
 
 -- how many actions a statement has: an assignment, an assertion and a choice are one each

@@ -1,10 +1,7 @@
 -- The facts of a program that can be derived from nothing by the rely-guarantee rule without predicates: a fact is a home.
-use Rattle.std.specs.Prelude.{◌≡◌, ◌≢◌, ℕ, zero, suc, ◌<◌, List, [], ◌∷◌, Contains, Option, Some, None, slice_get, option_and_then}
-use Rattle.thr_base.specs.declared.names.EdgeNo.{EdgeNo}
+use Rattle.std.specs.Prelude.{◌≡◌, ◌≢◌, ℕ, zero, suc, List, [], ◌∷◌, Contains, Option, Some, None, slice_get, option_and_then}
 use Rattle.thr_base.specs.declared.names.Home.{Home}
 use Rattle.thr_base.specs.declared.names.Home.TheVariants.{State, Env}
-use Rattle.thr_base.specs.declared.names.Loc.{Loc}
-use Rattle.thr_base.specs.declared.names.ThreadNo.{ThreadNo}
 use Rattle.threader_cli.specs.Graph.{Edge, ThreadGraph}
 
 -- the thread at a location

@@ -1,10 +1,7 @@
 -- The text of a set of facts.
 use Rattle.std.specs.Prelude.{◌≡◌, ◌↔◌, ℕ, zero, suc, ◌+◌, Bool, map, List, [], ◌∷◌, ◌++◌, length, flat_map, filter, decimal, codes, IsTrue}
-use Rattle.thr_base.specs.declared.names.EdgeNo.{EdgeNo}
 use Rattle.thr_base.specs.declared.names.Home.{Home}
 use Rattle.thr_base.specs.declared.names.Home.TheVariants.{State, Env}
-use Rattle.thr_base.specs.declared.names.Loc.{Loc}
-use Rattle.thr_base.specs.declared.names.ThreadNo.{ThreadNo}
 use Rattle.threader_cli.specs.Graph.{ThreadGraph}
 use Rattle.threader_cli.specs.Least.{Least, state, environment}
 

@@ -1,5 +1,5 @@
 -- Which tokens are names and numbers.
-use Rattle.std.specs.Prelude.{ℕ, ◌+◌, ◌-◌, ◌*◌, ◌^◌, Bool, true, false, not, ◌&&◌, ◌||◌, List, [], ◌∷◌, ◌++◌, map, fold, nat_lt, ◌==◌, bytes_eq, if◌then◌else◌}
+use Rattle.std.specs.Prelude.{ℕ, ◌+◌, ◌-◌, ◌*◌, ◌^◌, Bool, false, not, ◌&&◌, List, [], ◌∷◌, map, fold, nat_lt, ◌==◌, bytes_eq, if◌then◌else◌}
 use Rattle.std.specs.List.{list_any, list_all}
 use Rattle.threader_cli.specs.declared.word.TheConstants.{RESERVED}
 use Rattle.threader_cli.specs.Token.{is_letter, is_digit, is_word_byte}

@@ -1,13 +1,12 @@
-use Rattle.std.proofs.Common.{rules, ◌≡◌, ℕ, suc, ◌+◌, ◌-◌, ◌*◌, ◌<◌, ◌≤◌, length, map, List, [], ◌∷◌, ◌++◌, Some, None, Ok, Err, true, false, not, sym, ap, ◌∙◌, arith}
+use Rattle.std.proofs.Common.{rules, ◌≡◌, suc, ◌-◌, map, Some, true, false, not, sym, ap, ◌∙◌, arith}
 use Rattle.std.proofs.lemmas.Grind.{common_steps}
 use Rattle.std.proofs.lemmas.List.{map_push}
 use Rattle.std.proofs.lemmas.Result.{err_from_is_err_and}
-use Rattle.threader_cli.proofs.BodyLemmas.{goes_on, body_at-read, body_at-unclosed, body_at-none, Fails-through, statement_at-assignment}
+use Rattle.threader_cli.proofs.BodyLemmas.{goes_on, body_at-read, body_at-none, Fails-through, statement_at-assignment}
 use Rattle.threader_cli.proofs.ManyLemmas.{all_in_front, each-step, each-stop, each-none}
 use Rattle.threader_cli.proofs.ReadingShrinks.{statement_shrinks}
 use Rattle.threader_cli.proofs.SeenLemmas.{statement_of-Block}
 use Rattle.threader_cli.specs.Reading as specs
-use Rattle.threader_cli.specs.Refusals.{Gives, Fails}
 use Rattle.threader_cli.specs.Seen.{statement_of, statements_of}
 use Rattle.threader_cli.specs.Tree as tree
 use Rattle.threader_cli.proofs.statement.+statement.Goals as goal
@@ -17,7 +16,7 @@ body-returns-in_err-statement t c =
     let p = err_from_is_err_and c.from_residual.result c.from_residual.ensures.1 in
     let passes : goes_on c.each.cursor ≡ true = ap not (sym c.begins.ensures ∙ c.each-test.true) in
     rw (p.1, p.2) (Fails-through c.in_err-statement.field-0.0 (specs.statement_at c.args.levels c.each.cursor) (specs.body_at (specs.statement_at c.args.levels) c.args.cursor.now)
-      (λ none. body_at-none _ _ (each-none goes_on (specs.statement_at c.args.levels) (map statement_of c.each.statements.items) _ c.each.cursor passes none c.each.invariant)) c.in_err-statement.ensures)
+    (λ none. body_at-none _ _ (each-none goes_on (specs.statement_at c.args.levels) (map statement_of c.each.statements.items) _ c.each.cursor passes none c.each.invariant)) c.in_err-statement.ensures)
 
 pub body-each-smaller : goal.body-each-smaller
 body-each-smaller t c = statement_shrinks c.args.levels c.each.cursor _ _ c.in_ok-statement.ensures

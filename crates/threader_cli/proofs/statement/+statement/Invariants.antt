@@ -1,4 +1,4 @@
-use Rattle.std.proofs.Common.{◌≡◌, ◌+◌, ◌*◌, map, length, codes, not, suc}
+use Rattle.std.proofs.Common.{◌≡◌, ◌+◌, ◌*◌, map, length, codes, not}
 use Rattle.threader_cli.proofs.ManyLemmas.{all_in_front}
 use Rattle.threader_cli.specs.Reading.{begins, each, statement_at}
 use Rattle.threader_cli.specs.Seen.{statement_of}

@@ -1,4 +1,4 @@
-use Rattle.std.proofs.Common.{◌≡◌, ℕ, true, List, [], ◌∷◌, map, codes, string_bytes, sym, ap, ap₂, ◌∙◌}
+use Rattle.std.proofs.Common.{ℕ, List, [], ◌∷◌, map, codes, string_bytes, sym, ap, ap₂, ◌∙◌}
 use Rattle.threader_cli.proofs.StatementSound.{same_word}
 use Rattle.threader_cli.proofs.WordsLemmas.{two_items}
 use Rattle.threader_cli.specs.Answer as specs

@@ -1,4 +1,4 @@
-use Rattle.std.proofs.Common.{◌≡◌, ℕ, List, Vec, Global, map, bytes_eq, ap, ◌∙◌}
+use Rattle.std.proofs.Common.{ℕ, Vec, Global, bytes_eq, ap, ◌∙◌}
 use Rattle.std.specs.List.{list_any}
 use Rattle.threader_cli.proofs.NameLemmas.{list_any-map}
 use Rattle.threader_cli.proofs.names.Names.contains.Goals as goal
