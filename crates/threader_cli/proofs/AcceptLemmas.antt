@@ -18,7 +18,7 @@ assigns_in_block names body = ap (assigns_among names) (statement_of-Block body)
 pub are_new_append : (before xs ys : List (List ℕ)) → are_new before (xs ++ ys) ≡ are_new before xs && are_new (before ++ xs) ys
 are_new_append before [] ys = ap (λ names. are_new names ys) (sym (append-nil before))
 are_new_append before (x ∷ xs) ys = by_test (list_any (bytes_eq x) before)
-  (are_new_append (before ++ x ∷ []) xs ys ∙ ap (λ names. are_new (before ++ x ∷ []) xs && are_new names ys) (append_assoc before (x ∷ []) xs))
+    (are_new_append (before ++ x ∷ []) xs ys ∙ ap (λ names. are_new (before ++ x ∷ []) xs && are_new names ys) (append_assoc before (x ∷ []) xs))
   where
     by_test : (b : Bool) → are_new (before ++ x ∷ []) (xs ++ ys) ≡ are_new (before ++ x ∷ []) xs && are_new (before ++ x ∷ xs) ys
         → not b && are_new (before ++ x ∷ []) (xs ++ ys) ≡ (not b && are_new (before ++ x ∷ []) xs) && are_new (before ++ x ∷ xs) ys

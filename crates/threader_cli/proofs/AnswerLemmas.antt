@@ -83,9 +83,9 @@ spells_main : (p : Program) → list_any is_main (spell_program p) ≡ true
 unfolding spell_program
 spells_main p =
     any-left (flat_map spell_variable p.variables ++ flat_map spell_function p.functions ++ pieces (codes "int main ( ) {") ++ flat_map spell_handle p.handles ++ flat_map spell_creation p.creations) _
-      (any-left (flat_map spell_variable p.variables ++ flat_map spell_function p.functions ++ pieces (codes "int main ( ) {") ++ flat_map spell_handle p.handles) _
-        (any-left (flat_map spell_variable p.variables ++ flat_map spell_function p.functions ++ pieces (codes "int main ( ) {")) _
-          (any-right (flat_map spell_variable p.variables ++ flat_map spell_function p.functions) (pieces (codes "int main ( ) {")) refl)))
+    (any-left (flat_map spell_variable p.variables ++ flat_map spell_function p.functions ++ pieces (codes "int main ( ) {") ++ flat_map spell_handle p.handles) _
+    (any-left (flat_map spell_variable p.variables ++ flat_map spell_function p.functions ++ pieces (codes "int main ( ) {")) _
+    (any-right (flat_map spell_variable p.variables ++ flat_map spell_function p.functions) (pieces (codes "int main ( ) {")) refl)))
 
 found_main : (tokens : List specs.Token) → list_any is_main (map (λ (t : specs.Token). t.text) tokens) ≡ true → is_some (find (λ (t : specs.Token). is_main t.text) tokens) ≡ true
 found_main [] h = h

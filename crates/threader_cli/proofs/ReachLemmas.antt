@@ -72,7 +72,7 @@ pub explored-first : (edges : List Edge) (n : ℕ) → 1 < n → Explored edges 
 explored-first edges n h =
     let within : 1 < length (replicate n false) = rw length-replicate h in
     let only : (m : ℕ) → get_or (set (replicate n false) 1 true) m false ≡ true → m ≡ 1 =
-        λ m e. ⊎_elim (λ same. same) (λ r. absurd (none_marked n m r)) (marked (replicate n false) 1 m e) in
+    λ m e. ⊎_elim (λ same. same) (λ r. absurd (none_marked n m r)) (marked (replicate n false) 1 m e) in
     record {
       begins = marks_here (replicate n false) 1 within;
       sound = λ m e. subst (Reaches edges) (sym (only m e)) start;
@@ -83,14 +83,14 @@ explored-first edges n h =
 -- the last of the new locations is taken
 pub explores-first : (edges : List Edge) (reached : List Bool) (new : List ℕ) (l : ℕ) → Explored edges reached (new ++ l ∷ []) → Explores edges reached new l 0
 explores-first edges reached new l x = record {
-    begins = x.begins;
-    here = x.queued l (Contains-push new l);
-    sound = x.sound;
-    queued = λ m q. x.queued m (Contains-append_left new (l ∷ []) m q);
-    closed = λ k e found r. ⊎_elim
+  begins = x.begins;
+  here = x.queued l (Contains-push new l);
+  sound = x.sound;
+  queued = λ m q. x.queued m (Contains-append_left new (l ∷ []) m q);
+  closed = λ k e found r. ⊎_elim
       (λ q. ⊎_elim (λ there. inl there) (λ same. inr (inr (sym same, omega arith))) (Contains-push_cases new l e.from q))
       (λ to. inr (inl to)) (x.closed k e found r);
-  }
+}
 
 at_or_above : (k i : ℕ) → i ≤ k → (k ≡ i) ⊎ (i + 1 ≤ k)
 at_or_above zero zero h = inl refl
@@ -105,50 +105,51 @@ same_edge edges i k e f here found at = let there = subst (λ (n : ℕ). slice_g
 pub explores-skip : (edges : List Edge) (reached : List Bool) (new : List ℕ) (l i : ℕ) (e : Edge) → slice_get edges i ≡ Some e
     → ((e.from ≡ l → ⊥) ⊎ (get_or reached e.to false ≡ true)) → Explores edges reached new l i → Explores edges reached new l (i + 1)
 explores-skip edges reached new l i e here why x = record {
-    begins = x.begins;
-    here = x.here;
-    sound = x.sound;
-    queued = x.queued;
-    closed = λ k f found r. ⊎_elim (λ q. inl q) (λ rest. inr (⊎_elim (λ to. inl to) (λ late. later k f found late) rest)) (x.closed k f found r);
-  }
+  begins = x.begins;
+  here = x.here;
+  sound = x.sound;
+  queued = x.queued;
+  closed = λ k f found r. ⊎_elim (λ q. inl q) (λ rest. inr (⊎_elim (λ to. inl to) (λ late. later k f found late) rest)) (x.closed k f found r);
+}
   where
     later : (k : ℕ) (f : Edge) → slice_get edges k ≡ Some f → (f.from ≡ l) × (i ≤ k) → (get_or reached f.to false ≡ true) ⊎ ((f.from ≡ l) × (i + 1 ≤ k))
     later k f found late =
         ⊎_elim (λ at. let same = same_edge edges i k e f here found at in
-            ⊎_elim (λ no. absurd (no (ap (λ (g : Edge). g.from) (sym same) ∙ late.0))) (λ to. inl (ap (λ (g : Edge). get_or reached g.to false) same ∙ to)) why)
-          (λ above. inr (late.0, above)) (at_or_above k i late.1)
+        ⊎_elim (λ no. absurd (no (ap (λ (g : Edge). g.from) (sym same) ∙ late.0))) (λ to. inl (ap (λ (g : Edge). get_or reached g.to false) same ∙ to)) why)
+        (λ above. inr (late.0, above)) (at_or_above k i late.1)
 
 -- the next edge leads to a location that is not reached yet
 pub explores-follow : (edges : List Edge) (reached : List Bool) (new : List ℕ) (l i : ℕ) (e : Edge) → slice_get edges i ≡ Some e → e.from ≡ l
     → e.to < length reached → Explores edges reached new l i → Explores edges (set reached e.to true) (new ++ e.to ∷ []) l (i + 1)
 explores-follow edges reached new l i e here leaves within x = record {
-    begins = marks reached e.to 1 x.begins;
-    here = marks reached e.to l x.here;
-    sound = λ m r. ⊎_elim (λ same. subst (Reaches edges) (sym same) ends) (λ before. x.sound m before) (marked reached e.to m r);
-    queued = λ m q. ⊎_elim (λ before. marks reached e.to m (x.queued m before))
+  begins = marks reached e.to 1 x.begins;
+  here = marks reached e.to l x.here;
+  sound = λ m r. ⊎_elim (λ same. subst (Reaches edges) (sym same) ends) (λ before. x.sound m before) (marked reached e.to m r);
+  queued = λ m q. ⊎_elim (λ before. marks reached e.to m (x.queued m before))
       (λ same. subst (λ (k : ℕ). get_or (set reached e.to true) k false ≡ true) same (marks_here reached e.to within)) (Contains-push_cases new e.to m q);
-    closed = λ k f found r. ⊎_elim (λ same. inl (subst (Contains (new ++ e.to ∷ [])) (sym same) (Contains-push new e.to)))
+  closed = λ k f found r. ⊎_elim (λ same. inl (subst (Contains (new ++ e.to ∷ [])) (sym same) (Contains-push new e.to)))
       (λ before. old k f found before) (marked reached e.to f.from r);
-  }
+}
   where
     ends : Reaches edges e.to
     ends = step i e here (x.sound e.from (ap (λ m. get_or reached m false) leaves ∙ x.here))
+
     old : (k : ℕ) (f : Edge) → slice_get edges k ≡ Some f → get_or reached f.from false ≡ true
         → Contains (new ++ e.to ∷ []) f.from ⊎ ((get_or (set reached e.to true) f.to false ≡ true) ⊎ ((f.from ≡ l) × (i + 1 ≤ k)))
     old k f found before = ⊎_elim (λ q. inl (Contains-append_left new (e.to ∷ []) f.from q))
-      (λ rest. inr (⊎_elim (λ to. inl (marks reached e.to f.to to))
+        (λ rest. inr (⊎_elim (λ to. inl (marks reached e.to f.to to))
         (λ late. ⊎_elim (λ at. let same = same_edge edges i k e f here found at in inl (ap (λ (g : Edge). get_or (set reached e.to true) g.to false) same ∙ marks_here reached e.to within))
-          (λ above. inr (late.0, above)) (at_or_above k i late.1)) rest))
-      (x.closed k f found before)
+        (λ above. inr (late.0, above)) (at_or_above k i late.1)) rest))
+        (x.closed k f found before)
 
 -- all edges were looked at
 pub explores-done : (edges : List Edge) (reached : List Bool) (new : List ℕ) (l done : ℕ) → length edges ≤ done → Explores edges reached new l done → Explored edges reached new
 explores-done edges reached new l done past x = record {
-    begins = x.begins;
-    sound = x.sound;
-    queued = x.queued;
-    closed = λ k e found r. ⊎_elim (λ q. inl q) (λ rest. inr (⊎_elim (λ to. to) (λ late. absurd (let within = slice_get_within edges k e found in omega (arith, late.1))) rest)) (x.closed k e found r);
-  }
+  begins = x.begins;
+  sound = x.sound;
+  queued = x.queued;
+  closed = λ k e found r. ⊎_elim (λ q. inl q) (λ rest. inr (⊎_elim (λ to. to) (λ late. absurd (let within = slice_get_within edges k e found in omega (arith, late.1))) rest)) (x.closed k e found r);
+}
 
 -- none is new any more
 pub explored-all : (edges : List Edge) (reached : List Bool) → Explored edges reached [] → (l : ℕ) → Reaches edges l → get_or reached l false ≡ true
@@ -168,16 +169,22 @@ explores-marks edges reached reached' new new' l i count e here leaves within ma
   where
     same : (reached' ≡ reached) → (new' ≡ new) → get_or reached e.to false ≡ true
         → (length reached' ≡ length reached) × Explores edges reached' new' l (i + 1) × (unreached reached' + length new' ≡ count)
-    same r n is = (ap length r,
-        subst (λ (rs : List Bool). Explores edges rs new' l (i + 1)) (sym r) (subst (λ (ns : List ℕ). Explores edges reached ns l (i + 1)) (sym n) (explores-skip edges reached new l i e here (inr is) x)),
-        ap₂ (λ rs ns. unreached rs + length ns) r n ∙ counted)
+    same r n is = (
+      ap length r,
+      subst (λ (rs : List Bool). Explores edges rs new' l (i + 1)) (sym r) (subst (λ (ns : List ℕ). Explores edges reached ns l (i + 1)) (sym n) (explores-skip edges reached new l i e here (inr is) x)),
+      ap₂ (λ rs ns. unreached rs + length ns) r n ∙ counted,
+    )
+
     more : (reached' ≡ set reached e.to true) → (new' ≡ new ++ e.to ∷ []) → get_or reached e.to false ≡ false
         → (length reached' ≡ length reached) × Explores edges reached' new' l (i + 1) × (unreached reached' + length new' ≡ count)
-    more r n is = (ap length r ∙ length-set reached e.to true,
-        subst (λ (rs : List Bool). Explores edges rs new' l (i + 1)) (sym r)
+    more r n is = (
+      ap length r ∙ length-set reached e.to true,
+      subst (λ (rs : List Bool). Explores edges rs new' l (i + 1)) (sym r)
           (subst (λ (ns : List ℕ). Explores edges (set reached e.to true) ns l (i + 1)) (sym n) (explores-follow edges reached new l i e here leaves within x)),
-        ap₂ (λ rs ns. unreached rs + length ns) r n
-          ∙ (let fewer = unreached-set reached e.to within is in let longer = length_push new e.to in omega (arith, fewer, longer, counted)))
+      ap₂ (λ rs ns. unreached rs + length ns) r n
+          ∙ (let fewer = unreached-set reached e.to within is in let longer = length_push new e.to in omega (arith, fewer, longer, counted)),
+    )
+
     by_mark : (b : Bool) → get_or reached e.to false ≡ b
         → MatchBool b ((reached' ≡ reached) × (new' ≡ new)) ((reached' ≡ set reached e.to true) × (new' ≡ new ++ e.to ∷ []))
         → (length reached' ≡ length reached) × Explores edges reached' new' l (i + 1) × (unreached reached' + length new' ≡ count)

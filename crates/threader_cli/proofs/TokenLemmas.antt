@@ -36,6 +36,7 @@ following_within b bytes = by_tests (is_letter b) (is_digit b)
   where
     run : (p : ℕ → Bool) → length (take_while p bytes) ≤ length bytes
     run p = rw (length-prefix_len p bytes) (prefix_len-le-length p bytes)
+
     by_tests : (l d : Bool) → cond l (length (take_while is_word_byte bytes)) (cond d (length (take_while is_digit bytes)) 0) ≤ length bytes
     by_tests true d = run is_word_byte
     by_tests false true = run is_digit
@@ -64,17 +65,16 @@ pub step-token : (so_far all : List Token) (bytes : List ℕ) (at : ℕ) → at 
 step-token so_far all bytes at h not_blank e =
     let b = get_or bytes at 0 in
     let rest = drop (at + 1) bytes in
-
     let within : following b rest ≤ length rest = following_within b rest in
     let text : take (end_of bytes at - at) (drop at bytes) ≡ b ∷ take (following b rest) rest =
-        ap (λ n. take n (drop at bytes)) (let k : end_of bytes at - at ≡ suc (following b rest) = omega arith in k) ∙ ap (take (suc (following b rest))) (drop-at bytes at h) in
+    ap (λ n. take n (drop at bytes)) (let k : end_of bytes at - at ≡ suc (following b rest) = omega arith in k) ∙ ap (take (suc (following b rest))) (drop-at bytes at h) in
     let token : token_at bytes at ≡ record { from = at; text = b ∷ take (following b rest) rest } = ap (λ t. record { from = at; text = t }) text in
     let after : tokens_from (following b rest) (at + 1) rest ≡ tokens_from 0 (end_of bytes at) (drop (end_of bytes at) bytes) =
-        tokens_from-inside (following b rest) (at + 1) rest within ∙ ap (tokens_from 0 (end_of bytes at)) (drop-drop (following b rest) (at + 1) bytes) in
+    tokens_from-inside (following b rest) (at + 1) rest within ∙ ap (tokens_from 0 (end_of bytes at)) (drop-drop (following b rest) (at + 1) bytes) in
     append_assoc so_far (token_at bytes at ∷ []) _
     ∙ ap (λ ts. so_far ++ ts) (ap (λ t. t ∷ tokens_from 0 (end_of bytes at) (drop (end_of bytes at) bytes)) token
-        ∙ ap (λ ts. record { from = at; text = b ∷ take (following b rest) rest } ∷ ts) (sym after)
-        ∙ sym (tokens_from-first at b rest not_blank) ∙ ap (tokens_from 0 at) (sym (drop-at bytes at h)))
+    ∙ ap (λ ts. record { from = at; text = b ∷ take (following b rest) rest } ∷ ts) (sym after)
+    ∙ sym (tokens_from-first at b rest not_blank) ∙ ap (tokens_from 0 at) (sym (drop-at bytes at h)))
     ∙ e
 
 pub step-pushed : (so_far all : List Token) (bytes : List ℕ) (at n : ℕ) → at < length bytes → is_blank (get_or bytes at 0) ≡ false

@@ -41,11 +41,11 @@ creation_of c = record { handle = c.handle.items; function = c.function.items }
 
 abbrev pub program_of : Program → tree.Program
 program_of p = record {
-    variables = map variable_of p.variables.items;
-    functions = map function_of p.functions.items;
-    handles = map (λ name. name.items) p.handles.items;
-    creations = map creation_of p.creations.items;
-  }
+  variables = map variable_of p.variables.items;
+  functions = map function_of p.functions.items;
+  handles = map (λ name. name.items) p.handles.items;
+  creations = map creation_of p.creations.items;
+}
 
 abbrev pub token_of : Token → specs.Token
 token_of t = record { from = t.from; text = t.text.now }

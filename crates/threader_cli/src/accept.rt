@@ -66,7 +66,11 @@ fn are_small(functions: &[Function]) -> bool
 }
 
 /// Whether the names of variables are new, which they are added to.
-fn add_variables(alloc: Global, names: &mut Names, variables: &[Variable]) -> Result<bool, AllocError>
+fn add_variables(
+    alloc: Global,
+    names: &mut Names,
+    variables: &[Variable],
+) -> Result<bool, AllocError>
     ensures are_new { IfOk result (λ new. new ≡ specs.are_new names.old (map (λ v. v.name) (map variable_of variables.now))) }
     ensures added { IfOk result (λ new. IsTrue new → names.new ≡ names.old ++ map (λ v. v.name) (map variable_of variables.now)) }
 {
@@ -79,7 +83,11 @@ fn add_variables(alloc: Global, names: &mut Names, variables: &[Variable]) -> Re
 }
 
 /// Whether the names of functions are new.
-fn add_functions(alloc: Global, names: &mut Names, functions: &[Function]) -> Result<bool, AllocError>
+fn add_functions(
+    alloc: Global,
+    names: &mut Names,
+    functions: &[Function],
+) -> Result<bool, AllocError>
     ensures { IfOk result (λ new. new ≡ specs.are_new names.old (map (λ f. f.name) (map function_of functions.now))) }
 {
     for function in functions {

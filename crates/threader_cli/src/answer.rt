@@ -17,11 +17,20 @@ use thr_base::{Failed, ReadStop, Sink, Stop, Store, read_all, write_all};
 const TEXT_LIMIT: u32 = 1_048_576;
 
 /// All that the program does for its words: the answer goes to the sink, and the result is the status.
-pub fn threader_serial<S: Store, K: Sink>(alloc: Global, words: &[String], store: &mut S, out: &mut K) -> u8
+pub fn threader_serial<S: Store, K: Sink>(
+    alloc: Global,
+    words: &[String],
+    store: &mut S,
+    out: &mut K,
+) -> u8
     ensures { Ends (map string_bytes words.now) (S.meaning store.old) (S.meaning store.new) (K.meaning out.old) (K.meaning out.new) result }
 {
     let Some(name) = tables_file(words) else {
-        return write(out, 2, b"usage: threader verify|tables|check|replay|generate|bench|help\n");
+        return write(
+            out,
+            2,
+            b"usage: threader verify|tables|check|replay|generate|bench|help\n",
+        );
     };
     let bytes = match read_all(alloc, store, name, TEXT_LIMIT) {
         Ok(bytes) => bytes,

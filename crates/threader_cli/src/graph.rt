@@ -23,7 +23,9 @@ fn actions(statement: &Statement) -> u32
         Statement::Assign(_) => 1,
         Statement::AssertFalse => 1,
         Statement::If(part) => actions(part).saturating_add(1),
-        Statement::IfElse(part, other) => actions(part).saturating_add(actions(other)).saturating_add(1),
+        Statement::IfElse(part, other) => actions(part)
+            .saturating_add(actions(other))
+            .saturating_add(1),
         Statement::While(part) => actions(part).saturating_add(1),
     }
 }
@@ -43,7 +45,12 @@ pub fn actions_each(body: &[Statement]) -> u32
 /// Adds the edges of a statement whose first action stands at `at`, and after which control goes to `next`.
 #[cycle(edges)]
 #[tactic(auto, using(crate::proofs::GraphLemmas::actions_of_block), unfolding(crate::specs::Graph::edges))]
-fn add_edges(edges: &mut Vec<Edge>, statement: &Statement, at: u32, next: u32) -> Result<(), AllocError>
+fn add_edges(
+    edges: &mut Vec<Edge>,
+    statement: &Statement,
+    at: u32,
+    next: u32,
+) -> Result<(), AllocError>
     requires { at + specs.actions (statement_of statement.now) < 2 ^ 32 - 1 }
     ensures { OnOk result (map edge_of edges.new.items ≡ map edge_of edges.old.items ++ specs.edges (statement_of statement.now) at next) }
 {
@@ -75,7 +82,12 @@ fn add_edges(edges: &mut Vec<Edge>, statement: &Statement, at: u32, next: u32) -
 /// Adds the edges of statements, the first of whose actions stands at `at`.
 #[cycle(edges)]
 #[tactic(auto, unfolding(crate::specs::Graph::edges))]
-fn add_edges_each(edges: &mut Vec<Edge>, body: &[Statement], at: u32, next: u32) -> Result<(), AllocError>
+fn add_edges_each(
+    edges: &mut Vec<Edge>,
+    body: &[Statement],
+    at: u32,
+    next: u32,
+) -> Result<(), AllocError>
     requires { at + specs.actions_each (statements_of body.now) < 2 ^ 32 - 1 }
     ensures { OnOk result (map edge_of edges.new.items ≡ map edge_of edges.old.items ++ specs.edges_each (statements_of body.now) at next) }
 {

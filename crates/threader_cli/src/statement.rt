@@ -62,7 +62,12 @@ fn choice(alloc: Global, levels: u32, cursor: &mut Cursor<'_>) -> Result<Box<Sta
 /// What follows the first part of an `if`.
 #[cycle(statement)]
 #[tactic(auto, unfolding(crate::specs::Reading::else_at))]
-fn otherwise(alloc: Global, levels: u32, part: Box<Statement>, cursor: &mut Cursor<'_>) -> Result<Statement, Stop>
+fn otherwise(
+    alloc: Global,
+    levels: u32,
+    part: Box<Statement>,
+    cursor: &mut Cursor<'_>,
+) -> Result<Statement, Stop>
     ensures { Gives (λ found. (statement_of found, cursor.new)) result (specs.else_at (specs.statement_at levels) (statement_of part.value) cursor.old) }
 {
     if !cursor.begins("else") {

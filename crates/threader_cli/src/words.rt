@@ -8,7 +8,9 @@ pub fn tables_file(words: &[String]) -> Option<&str>
     ensures refused { IfNone result ((name : List ℕ) → NamesFile (map string_bytes words.now) name → ⊥) }
 {
     match words {
-        [command, file] if is_tables(command.as_str()) && is_operand(file.as_str()) => Some(file.as_str()),
+        [command, file] if is_tables(command.as_str()) && is_operand(file.as_str()) => Some(
+            file.as_str(),
+        ),
         _ => None,
     }
 }

@@ -47,19 +47,19 @@ no_items (x ∷ xs) h = absurd (omega arith)
 pub main_place-requires : goal.main_place-requires
 main_place-requires c =
     let program = read_accepted c.args.bytes.now c.in_ok-tokens.tokens.items c.deref.result.now (program_of c.in-Ok.program) c.in_ok-is_accepted.field-0 c.deref.ensures.value c.in_ok-tokens.ensures
-        c.in-Ok.ensures c.in_ok-is_accepted.ensures c.if-not-branch.false in
+    c.in-Ok.ensures c.in_ok-is_accepted.ensures c.if-not-branch.false in
     let tokens = ap (map token_of) c.deref-then-is_empty.ensures.value ∙ c.in_ok-tokens.ensures in
     subst (λ (ts : List specs.Token). IsSome (find (λ (token : specs.Token). bytes_eq token.text (codes "main")) ts)) (sym tokens) (main_there c.args.bytes.now (program_of c.in-Ok.program) program)
 
 pub returns-then-is_empty : goal.returns-then-is_empty
 returns-then-is_empty c =
     let program = read_accepted c.args.bytes.now c.in_ok-tokens.tokens.items c.deref.result.now (program_of c.in-Ok.program) c.in_ok-is_accepted.field-0 c.deref.ensures.value c.in_ok-tokens.ensures
-        c.in-Ok.ensures c.in_ok-is_accepted.ensures c.if-not-branch.false in
+    c.in-Ok.ensures c.in_ok-is_accepted.ensures c.if-not-branch.false in
     let tokens = ap (map token_of) c.deref-then-is_empty.ensures.value ∙ c.in_ok-tokens.ensures in
     let place = subst (λ (ts : List specs.Token). option_map (λ (token : specs.Token). token.from) (find (λ (token : specs.Token). bytes_eq token.text (codes "main")) ts) ≡ Some c.main_place.result) tokens c.main_place.ensures in
     let empty : length c.in-Ok.program.creations.items ≡ 0 = let test = sym c.is_empty.ensures ∙ c.if-is_empty.true in let same = c.in-Ok.program.creations.ok.0 in grind (arith, nat_tests) in
     IfOk-weaker c.refusal-then-is_empty.result _ _
-      (λ answer is. rw (is.0, is.1) (no_thread (program_of c.in-Ok.program) c.main_place.result program (ap (map creation_of) (no_items c.in-Ok.program.creations.items empty)) place)) c.refusal-then-is_empty.ensures
+    (λ answer is. rw (is.0, is.1) (no_thread (program_of c.in-Ok.program) c.main_place.result program (ap (map creation_of) (no_items c.in-Ok.program.creations.items empty)) place)) c.refusal-then-is_empty.ensures
 
 pub table-requires : goal.table-requires
 table-requires c =
@@ -69,8 +69,8 @@ table-requires c =
 pub returns : goal.returns
 returns c =
     let program = read_accepted c.args.bytes.now c.in_ok-tokens.tokens.items c.deref.result.now (program_of c.in-Ok.program) c.in_ok-is_accepted.field-0 c.deref.ensures.value c.in_ok-tokens.ensures
-        c.in-Ok.ensures c.in_ok-is_accepted.ensures c.if-not-branch.false in
+    c.in-Ok.ensures c.in_ok-is_accepted.ensures c.if-not-branch.false in
     let threads = ap (map graph_of) c.deref-2.ensures.value ∙ c.in_ok-threads.ensures in
     let some : (program_of c.in-Ok.program).creations ≢ [] = λ none. (let test = sym c.is_empty.ensures ∙ c.if-is_empty.false in let same = c.in-Ok.program.creations.ok.0 in
-        let empty = sym (length-map c.in-Ok.program.creations.items creation_of) ∙ ap length none in absurd (grind (arith, nat_tests))) in
+    let empty = sym (length-map c.in-Ok.program.creations.items creation_of) ∙ ap length none in absurd (grind (arith, nat_tests))) in
     table (program_of c.in-Ok.program) c.in_ok-table.field-0.items program some (subst (λ (graphs : List ThreadGraph). IsTable graphs c.in_ok-table.field-0.items) threads c.in_ok-table.ensures)

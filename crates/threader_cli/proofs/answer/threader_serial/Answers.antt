@@ -11,13 +11,13 @@ returns-in_default g c = ends_by 2 c.write.result _ (usage c.in_default.ensures.
 pub returns-in-Err-Fault : goal.returns-in-Err-Fault
 returns-in-Err-Fault g c =
     let why = subst (λ (stop : ReadStop). StopsReading (g.S.Store.meaning c.args.store.now) c.in-Some.name.now text_limit stop (g.S.Store.meaning c.read_all.new.store))
-        c.in-Err-Fault.field-0-is c.in-Err-Fault.ensures.stopped in
+    c.in-Err-Fault.field-0-is c.in-Err-Fault.ensures.stopped in
     ends_by 5 c.write-in-Err-Fault.result _ (read_fault c.in-Some.name.now c.in-Some.ensures.named why) c.write-in-Err-Fault.ensures
 
 pub returns-in-Err-TooLong : goal.returns-in-Err-TooLong
 returns-in-Err-TooLong g c =
     let why = subst (λ (stop : ReadStop). StopsReading (g.S.Store.meaning c.args.store.now) c.in-Some.name.now text_limit stop (g.S.Store.meaning c.read_all.new.store))
-        c.in-Err-TooLong.field-0-is c.in-Err-TooLong.ensures.stopped in
+    c.in-Err-TooLong.field-0-is c.in-Err-TooLong.ensures.stopped in
     ends_by 3 c.write-in-Err-TooLong.result _ (too_long c.in-Some.name.now c.in-Some.ensures.named why) c.write-in-Err-TooLong.ensures
 
 pub returns-in-Err-Memory : goal.returns-in-Err-Memory
@@ -29,7 +29,7 @@ returns-in-Ok-answer_to g c =
     let answers = subst (λ (bytes : List ℕ). AnswersBytes bytes c.in-Ok-answer_to.answer.status c.in-Ok-answer_to.answer.text.items) c.deref.ensures.value c.in-Ok-answer_to.ensures in
     let written = subst (λ (text : List ℕ). AnswersBytes c.in-Ok.bytes.items c.in-Ok-answer_to.answer.status text) (sym c.deref-in-Ok-answer_to.ensures.value) answers in
     ends_by c.in-Ok-answer_to.answer.status c.write-in-Ok-answer_to.result c.deref-in-Ok-answer_to.result.now
-      (read c.in-Some.name.now c.in-Ok.bytes.items _ _ c.in-Some.ensures.named within c.in-Ok.ensures.whole written) c.write-in-Ok-answer_to.ensures
+    (read c.in-Some.name.now c.in-Ok.bytes.items _ _ c.in-Some.ensures.named within c.in-Ok.ensures.whole written) c.write-in-Ok-answer_to.ensures
 
 pub returns : goal.returns
 returns g c = no_memory c.in-Some.name.now c.in-Some.ensures.named refl

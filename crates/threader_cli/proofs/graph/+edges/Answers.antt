@@ -17,4 +17,4 @@ unfolding specs.edges
 add_edges-returns-in-Block t c =
     let block = ap statement_of c.in-Block.is ∙ statement_of-Block c.in-Block.body ∙ ap (λ body. tree.Block (statements_of body)) (sym c.deref.ensures.value) in
     subst (λ (s : tree.Statement). OnOk c.add_edges_each.result (map edge_of c.add_edges_each.new.edges.items ≡ map edge_of c.args.edges.now.items ++ specs.edges s c.args.at c.args.next))
-        (sym block) c.add_edges_each.ensures
+    (sym block) c.add_edges_each.ensures

@@ -12,7 +12,7 @@ pub returns-in_err-creation : goal.returns-in_err-creation
 returns-in_err-creation c =
     let p = err_from_is_err_and c.from_residual.result c.from_residual.ensures.1 in
     rw (p.1, p.2) (Fails-through c.in_err-creation.field-0.0 (specs.creation_at c.each.cursor) (specs.each specs.is_creation specs.creation_at c.args.cursor.now)
-      (λ none. each-none specs.is_creation specs.creation_at (map creation_of c.each.creations.items) _ c.each.cursor (sym c.begins.ensures ∙ c.each-test.true) none c.each.invariant) c.in_err-creation.ensures)
+    (λ none. each-none specs.is_creation specs.creation_at (map creation_of c.each.creations.items) _ c.each.cursor (sym c.begins.ensures ∙ c.each-test.true) none c.each.invariant) c.in_err-creation.ensures)
 
 pub each-smaller : goal.each-smaller
 each-smaller c = creation_shrinks c.each.cursor _ _ c.in_ok-creation.ensures

@@ -12,7 +12,7 @@ pub returns-in_err-function : goal.returns-in_err-function
 returns-in_err-function c =
     let p = err_from_is_err_and c.from_residual.result c.from_residual.ensures.1 in
     rw (p.1, p.2) (Fails-through c.in_err-function.field-0.0 (specs.function_at c.each.cursor) (specs.each specs.is_function specs.function_at c.args.cursor.now)
-      (λ none. each-none specs.is_function specs.function_at (map function_of c.each.functions.items) _ c.each.cursor (sym c.begins.ensures ∙ c.each-test.true) none c.each.invariant) c.in_err-function.ensures)
+    (λ none. each-none specs.is_function specs.function_at (map function_of c.each.functions.items) _ c.each.cursor (sym c.begins.ensures ∙ c.each-test.true) none c.each.invariant) c.in_err-function.ensures)
 
 pub each-smaller : goal.each-smaller
 each-smaller c = function_shrinks c.each.cursor _ _ c.in_ok-function.ensures

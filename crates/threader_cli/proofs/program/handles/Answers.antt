@@ -11,7 +11,7 @@ pub returns-in_err-handle : goal.returns-in_err-handle
 returns-in_err-handle c =
     let p = err_from_is_err_and c.from_residual.result c.from_residual.ensures.1 in
     rw (p.1, p.2) (Fails-through c.in_err-handle.field-0.0 (specs.handle_at c.each.cursor) (specs.each specs.is_handle specs.handle_at c.args.cursor.now)
-      (λ none. each-none specs.is_handle specs.handle_at (map (λ (name : Vec ℕ Global). name.items) c.each.handles.items) _ c.each.cursor (sym c.begins.ensures ∙ c.each-test.true) none c.each.invariant) c.in_err-handle.ensures)
+    (λ none. each-none specs.is_handle specs.handle_at (map (λ (name : Vec ℕ Global). name.items) c.each.handles.items) _ c.each.cursor (sym c.begins.ensures ∙ c.each-test.true) none c.each.invariant) c.in_err-handle.ensures)
 
 pub each-smaller : goal.each-smaller
 each-smaller c = handle_shrinks c.each.cursor _ _ c.in_ok-handle.ensures

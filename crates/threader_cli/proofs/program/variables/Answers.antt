@@ -12,7 +12,7 @@ pub returns-in_err-variable : goal.returns-in_err-variable
 returns-in_err-variable c =
     let p = err_from_is_err_and c.from_residual.result c.from_residual.ensures.1 in
     rw (p.1, p.2) (Fails-through c.in_err-variable.field-0.0 (specs.variable_at c.each.cursor) (specs.each specs.is_variable specs.variable_at c.args.cursor.now)
-      (λ none. each-none specs.is_variable specs.variable_at (map variable_of c.each.variables.items) _ c.each.cursor (sym c.is_variable.ensures ∙ c.each-test.true) none c.each.invariant) c.in_err-variable.ensures)
+    (λ none. each-none specs.is_variable specs.variable_at (map variable_of c.each.variables.items) _ c.each.cursor (sym c.is_variable.ensures ∙ c.each-test.true) none c.each.invariant) c.in_err-variable.ensures)
 
 pub each-smaller : goal.each-smaller
 each-smaller c = variable_shrinks c.each.cursor _ _ c.in_ok-variable.ensures

@@ -20,16 +20,16 @@ explore-init c =
 
 pub leave-init : goal.leave-init
 leave-init c = record {
-    whole = c.explore.invariant.whole;
-    explores = explores-first _ _ _ _ (subst (Explored (map edge_of c.args.graph.now.edges.items) c.explore.reached.items) c.in-Some.ensures.items c.explore.invariant.explored);
-    counted = refl;
-  }
+  whole = c.explore.invariant.whole;
+  explores = explores-first _ _ _ _ (subst (Explored (map edge_of c.args.graph.now.edges.items) c.explore.reached.items) c.in-Some.ensures.items c.explore.invariant.explored);
+  counted = refl;
+}
 
 pub explore-preserved : goal.explore-preserved
 explore-preserved c = record {
-    whole = c.leave.invariant.whole;
-    explored = explores-done _ _ _ _ c.leave.edge-index (omega (arith, length-map c.args.graph.now.edges.items edge_of, c.leave-test.false, ap length c.deref-edge-items.ensures.value)) c.leave.invariant.explores;
-  }
+  whole = c.leave.invariant.whole;
+  explored = explores-done _ _ _ _ c.leave.edge-index (omega (arith, length-map c.args.graph.now.edges.items edge_of, c.leave-test.false, ap length c.deref-edge-items.ensures.value)) c.leave.invariant.explores;
+}
 
 -- the edge that is looked at
 module _ (items held : List Edge) (i : ℕ) (same : items ≡ held) (below : i < length items) where
@@ -48,16 +48,16 @@ leave-preserved c =
     let here = held_edge c.deref-edge-items.result.now c.args.graph.now.edges.items c.leave.edge-index c.deref-edge-items.ensures.value c.leave-test.true in
     let ends = c.requires.ends c.leave.edge-index _ here in
     elim c.if-edge-location.branch [
-      then-edge-location+in_ok-mark w ↦
-        let marked = explores-marks es c.leave.reached.items w.mark.new.reached.items c.leave.new.items w.mark.new.new.items c.in-Some.location c.leave.edge-index _ _ here w.if-edge-location.true
-            (omega (arith, ends.1, c.leave.invariant.whole)) w.in_ok-mark.ensures c.leave.invariant.explores c.leave.invariant.counted in
-        rw (w.reached-is, w.new-is) (record { whole = marked.0 ∙ c.leave.invariant.whole; explores = marked.1; counted = marked.2 })
+      | then-edge-location+in_ok-mark w ↦
+          let marked = explores-marks es c.leave.reached.items w.mark.new.reached.items c.leave.new.items w.mark.new.new.items c.in-Some.location c.leave.edge-index _ _ here w.if-edge-location.true
+          (omega (arith, ends.1, c.leave.invariant.whole)) w.in_ok-mark.ensures c.leave.invariant.explores c.leave.invariant.counted in
+          rw (w.reached-is, w.new-is) (record { whole = marked.0 ∙ c.leave.invariant.whole; explores = marked.1; counted = marked.2 })
       | else-edge-location w ↦
-        rw (w.reached-is, w.new-is) (record {
-          whole = c.leave.invariant.whole;
-          explores = explores-skip es c.leave.reached.items c.leave.new.items c.in-Some.location c.leave.edge-index _ here (inl w.if-edge-location.false) c.leave.invariant.explores;
-          counted = c.leave.invariant.counted;
-        })
+          rw (w.reached-is, w.new-is) (record {
+            whole = c.leave.invariant.whole;
+            explores = explores-skip es c.leave.reached.items c.leave.new.items c.in-Some.location c.leave.edge-index _ here (inl w.if-edge-location.false) c.leave.invariant.explores;
+            counted = c.leave.invariant.counted;
+          })
     ]
 
 pub returns : goal.returns

@@ -17,7 +17,7 @@ body-returns-in_err-statement t c =
     let p = err_from_is_err_and c.from_residual.result c.from_residual.ensures.1 in
     let passes : goes_on c.each.cursor ≡ true = ap not (sym c.begins.ensures ∙ c.each-test.true) in
     rw (p.1, p.2) (Fails-through c.in_err-statement.field-0.0 (specs.statement_at c.args.levels c.each.cursor) (specs.body_at (specs.statement_at c.args.levels) c.args.cursor.now)
-      (λ none. body_at-none _ _ (each-none goes_on (specs.statement_at c.args.levels) (map statement_of c.each.statements.items) _ c.each.cursor passes none c.each.invariant)) c.in_err-statement.ensures)
+    (λ none. body_at-none _ _ (each-none goes_on (specs.statement_at c.args.levels) (map statement_of c.each.statements.items) _ c.each.cursor passes none c.each.invariant)) c.in_err-statement.ensures)
 
 pub body-each-smaller : goal.body-each-smaller
 body-each-smaller t c = statement_shrinks c.args.levels c.each.cursor _ _ c.in_ok-statement.ensures
