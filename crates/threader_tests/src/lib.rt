@@ -1,0 +1,15 @@
+//! Tests of the whole program, by its words, over stores and sinks in memory. There is nothing else here.
+#![tactic(auto)]
+
+#[cfg(test)]
+mod faults;
+#[cfg(test)]
+mod limits;
+#[cfg(test)]
+mod refusals;
+#[cfg(test)]
+mod runs;
+#[cfg(test)]
+mod tables;
+#[cfg(test)]
+mod words;

@@ -1,0 +1,48 @@
+use std::alloc::{AllocError, Global};
+use std::str;
+use std::test::Fail;
+use thr_base::{HonestStore, RoomSink};
+use threader_cli::threader_serial;
+
+/// A program of one thread that assigns once, and its table.
+pub const ASSIGNS_ONCE: &str = "int x;\nvoid *f(void *a) { x = 1; }\n\
+    int main() { pthread_t t; pthread_create(&t, 0, f, 0); return 0; }\n";
+
+pub const ITS_TABLE: &str = "s 1 1 :\ns 1 2 :\ne 1 1 :\nend\n";
+
+pub const NOT_BUILT: &str = "program E14 0\n";
+
+/// A text in which `?` stands for a free choice, and `MAIN` for a `main` with one thread that runs `f`.
+pub fn spelled(alloc: Global, text: &str) -> Result<String, AllocError> {
+    let main = "int main() { pthread_t t; pthread_create(&t, 0, f, 0); return 0; }";
+    text.replace(alloc, "?", "__VERIFIER_nondet_int()")?
+        .replace(alloc, "MAIN", main)
+}
+
+/// Words that are parted by blanks.
+pub fn words(alloc: Global, line: &str) -> Result<Vec<String>, AllocError> {
+    let mut words = Vec::new(alloc);
+    for word in line.split_whitespace() {
+        words.push(String::from_str(alloc, word)?)?;
+    }
+    Ok(words)
+}
+
+/// One file, `x.c`, with this text.
+pub fn files(alloc: Global, text: &str) -> Result<Vec<(String, Vec<u8>)>, AllocError> {
+    let mut files = Vec::new(alloc);
+    files.push((
+        String::from_str(alloc, "x.c")?,
+        Vec::from_slice(alloc, text.as_bytes())?,
+    ))?;
+    Ok(files)
+}
+
+/// The status, and what is written, where the words are these and the file `x.c` has this text.
+pub fn run(alloc: Global, line: &str, text: &str) -> Result<(u8, String), Fail> {
+    let mut store = HonestStore::new(files(alloc, text)?);
+    let mut out = RoomSink::new(alloc, 1 << 16)?;
+    let status = threader_serial(alloc, &words(alloc, line)?, &mut store, &mut out);
+    let written = str::from_utf8(out.written())?;
+    Ok((status, String::from_str(alloc, written)?))
+}
