@@ -1,0 +1,6 @@
+pub mod Comments
+pub mod Numbers
+pub mod Cuts
+pub mod Steps
+pub mod Places
+

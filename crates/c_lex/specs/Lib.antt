@@ -1,0 +1,3 @@
+pub mod Bytes
+pub mod Piece
+pub mod Tokens
