@@ -34,11 +34,11 @@ boundary bs n cuts utf8 =
     cuts.beside
 
 -- which way a test went
-chosen : {A : Type 0} (b : Bool) (x y z : A) → cond b x y ≡ z → ((b ≡ true) × (x ≡ z)) ⊎ ((b ≡ false) × (y ≡ z))
+pub chosen : {A : Type 0} (b : Bool) (x y z : A) → cond b x y ≡ z → ((b ≡ true) × (x ≡ z)) ⊎ ((b ≡ false) × (y ≡ z))
 chosen true x y z e = inl (refl, e)
 chosen false x y z e = inr (refl, e)
 
-both : (a b : Bool) → (a && b) ≡ true → (a ≡ true) × (b ≡ true)
+pub both : (a b : Bool) → (a && b) ≡ true → (a ≡ true) × (b ≡ true)
 both true b e = (refl, e)
 both false b e = absurd cc
 
@@ -83,10 +83,10 @@ word_byte_below x e = grind (arith, nat_tests)
 -- a line with its first byte
 line_cuts : (b : ℕ) (bs : List ℕ) → is_in_line b ≡ true → Cuts (b ∷ bs) (prefix_len is_in_line (b ∷ bs))
 line_cuts b bs first = record {
-      some = begun is_in_line b bs first;
-      within = prefix_len-le-length is_in_line (b ∷ bs);
-      beside = inr (λ lt. line_end (get_or (b ∷ bs) (prefix_len is_in_line (b ∷ bs)) 0) (prefix_len_stops is_in_line (b ∷ bs) 0 lt));
-    }
+  some = begun is_in_line b bs first;
+  within = prefix_len-le-length is_in_line (b ∷ bs);
+  beside = inr (λ lt. line_end (get_or (b ∷ bs) (prefix_len is_in_line (b ∷ bs)) 0) (prefix_len_stops is_in_line (b ∷ bs) 0 lt));
+}
   where
     line_end : (x : ℕ) → is_in_line x ≡ false → x < 128
     line_end x e = grind (arith, nat_tests)
@@ -156,7 +156,7 @@ foreign_below : (b : ℕ) → is_foreign b ≡ true → b < 128
 foreign_below b e = one_of_below (34 ∷ codes "/%[].?:|^~'#") b refl e
 
 -- the second byte of a mark is there, and below 128
-double_second : (b c : ℕ) → is_double_mark b c ≡ true → (0 < c) × (c < 128)
+pub double_second : (b c : ℕ) → is_double_mark b c ≡ true → (0 < c) × (c < 128)
 double_second b c e = grind (arith, nat_tests)
 
 double_cuts : (b : ℕ) (bs : List ℕ) → is_double_mark b (get_or bs 0 0) ≡ true → Cuts (b ∷ bs) 2
@@ -168,12 +168,12 @@ mark_cuts b bs p e =
     elim (chosen (is_double_mark b (get_or bs 0 0)) _ _ (Ok p) e) [
       | inl h ↦ rw (len_of_token Mark 2 p h.1) (double_cuts b bs h.0)
       | inr h ↦ elim (chosen (is_mark b) _ _ (Ok p) h.1) [
-          | inl k ↦ rw (len_of_token Mark 1 p k.1) (one_byte b bs (mark_below b k.0))
-          | inr k ↦ elim (chosen (is_foreign b) _ _ (Ok p) k.1) [
-              | inl m ↦ rw (len_of_token Foreign 1 p m.1) (one_byte b bs (foreign_below b m.0))
-              | inr m ↦ absurd (cc m.1)
-            ]
+        | inl k ↦ rw (len_of_token Mark 1 p k.1) (one_byte b bs (mark_below b k.0))
+        | inr k ↦ elim (chosen (is_foreign b) _ _ (Ok p) k.1) [
+          | inl m ↦ rw (len_of_token Foreign 1 p m.1) (one_byte b bs (foreign_below b m.0))
+          | inr m ↦ absurd (cc m.1)
         ]
+      ]
     ]
 
 -- ---- all pieces
@@ -181,7 +181,7 @@ mark_cuts b bs p e =
 separator_below : (b : ℕ) → is_separator b ≡ true → b < 128
 separator_below b e = grind (arith, nat_tests)
 
-letter_word : (b : ℕ) → is_letter b ≡ true → is_word_byte b ≡ true
+pub letter_word : (b : ℕ) → is_letter b ≡ true → is_word_byte b ≡ true
 letter_word b e = rw e refl
 
 in_line_of : (b x : ℕ) → b ≡ x → is_in_line x ≡ true → is_in_line b ≡ true
@@ -207,21 +207,21 @@ piece_cuts fresh b bs p e =
     elim (chosen (is_separator b) _ _ (Ok p) e) [
       | inl h ↦ rw (len_of_skipped 1 p h.1) (one_byte b bs (separator_below b h.0))
       | inr h ↦ elim (chosen (starts_with nat_eq (b ∷ bs) (codes "//")) _ _ (Ok p) h.1) [
-          | inl k ↦ line_skipped b 47 bs p (slash_first b bs k.0) refl k.1
-          | inr k ↦ elim (chosen (starts_with nat_eq (b ∷ bs) (codes "/*")) _ _ (Ok p) k.1) [
-              | inl m ↦ comment_begun b bs p m.0 m.1
-              | inr m ↦ elim (chosen (fresh && eqb b 35 && goes_on_include bs) _ _ (Ok p) m.1) [
-                  | inl q ↦ line_skipped b 35 bs p (eqb-true b 35 (both fresh (eqb b 35) (both (fresh && eqb b 35) (goes_on_include bs) q.0).0).1) refl q.1
-                  | inr q ↦ elim (chosen (is_letter b) _ _ (Ok p) q.1) [
-                      | inl r ↦ rw (len_of_token Word _ p r.1) (run_cuts is_word_byte (b ∷ bs) word_byte_below (begun is_word_byte b bs (letter_word b r.0)))
-                      | inr r ↦ elim (chosen (is_ascii_digit b) _ _ (Ok p) r.1) [
-                          | inl s ↦ number_cuts b bs p s.0 s.1
-                          | inr s ↦ mark_cuts b bs p s.1
-                        ]
-                    ]
-                ]
+        | inl k ↦ line_skipped b 47 bs p (slash_first b bs k.0) refl k.1
+        | inr k ↦ elim (chosen (starts_with nat_eq (b ∷ bs) (codes "/*")) _ _ (Ok p) k.1) [
+          | inl m ↦ comment_begun b bs p m.0 m.1
+          | inr m ↦ elim (chosen (fresh && eqb b 35 && goes_on_include bs) _ _ (Ok p) m.1) [
+            | inl q ↦ line_skipped b 35 bs p (eqb-true b 35 (both fresh (eqb b 35) (both (fresh && eqb b 35) (goes_on_include bs) q.0).0).1) refl q.1
+            | inr q ↦ elim (chosen (is_letter b) _ _ (Ok p) q.1) [
+              | inl r ↦ rw (len_of_token Word _ p r.1) (run_cuts is_word_byte (b ∷ bs) word_byte_below (begun is_word_byte b bs (letter_word b r.0)))
+              | inr r ↦ elim (chosen (is_ascii_digit b) _ _ (Ok p) r.1) [
+                | inl s ↦ number_cuts b bs p s.0 s.1
+                | inr s ↦ mark_cuts b bs p s.1
+              ]
             ]
+          ]
         ]
+      ]
     ]
   where
     slash_first : (b : ℕ) (bs : List ℕ) → starts_with nat_eq (b ∷ bs) (codes "//") ≡ true → b ≡ 47

@@ -3,4 +3,4 @@ pub mod Numbers
 pub mod Cuts
 pub mod Steps
 pub mod Places
-
+pub mod Longest

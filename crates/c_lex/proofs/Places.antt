@@ -14,7 +14,7 @@ stand_earlier text at later [] le stand = tt
 stand_earlier text at later (t ∷ ts) le stand = (omega (arith, stand.0), stand.1, stand.2, stand.3)
 
 -- the value of reading that did not fail
-others_of : (front ts : List Lexeme) (read : Result (List Lexeme) Refusal) → with_front front read ≡ Ok ts → (others : List Lexeme) × (read ≡ Ok others) × (ts ≡ front ++ others)
+pub others_of : (front ts : List Lexeme) (read : Result (List Lexeme) Refusal) → with_front front read ≡ Ok ts → (others : List Lexeme) × (read ≡ Ok others) × (ts ≡ front ++ others)
 others_of front ts (Ok others) e = (others, refl, sym cc)
 others_of front ts (Err refusal) e = absurd cc
 
@@ -32,6 +32,9 @@ After n from fresh text b bs =
     (p : Piece) (others : List Lexeme) → Cuts (b ∷ bs) p.len → drop (from + p.len) text ≡ drop p.len (b ∷ bs) → tokens_from n (from + p.len) (is_fresh_after fresh b) (drop p.len (b ∷ bs)) ≡ Ok others
     → StandIn text (from + p.len) others
 
+pub failed : (refusal : Refusal) (ts : List Lexeme) → ◌≡◌ {A = Result (List Lexeme) Refusal} (Err refusal) (Ok ts) → ⊥
+failed refusal ts e = cc
+
 stand_at : (n from : ℕ) (fresh : Bool) (text : List ℕ) (b : ℕ) (bs : List ℕ) (ts : List Lexeme) (r : Result Piece ℕ) → piece_of fresh (b ∷ bs) ≡ r → drop from text ≡ b ∷ bs → tokens_from (suc n) from fresh (b ∷ bs) ≡ Ok ts
     → After n from fresh text b bs → StandIn text from ts
 unfolding After
@@ -41,11 +44,8 @@ stand_at n from fresh text b bs ts (Ok p) is here e behind =
     let after : drop (from + p.len) text ≡ drop p.len (b ∷ bs) = sym (drop-drop p.len from text) ∙ ap (drop p.len) here in
     subst (StandIn text from) (sym o.2) (stand_more text (b ∷ bs) from p.kind p.len o.0 here cuts.some cuts.within (behind p o.0 cuts after o.1))
 stand_at n from fresh text b bs ts (Err code) is here e behind = absurd (failed _ ts (sym (refusal_step n from fresh b bs code is) ∙ e))
-  where
-    failed : (refusal : Refusal) (ts : List Lexeme) → ◌≡◌ {A = Result (List Lexeme) Refusal} (Err refusal) (Ok ts) → ⊥
-    failed refusal ts e = cc
 
-none_of : (ts : List Lexeme) → ◌≡◌ {A = Result (List Lexeme) Refusal} (Ok []) (Ok ts) → ts ≡ []
+pub none_of : (ts : List Lexeme) → ◌≡◌ {A = Result (List Lexeme) Refusal} (Ok []) (Ok ts) → ts ≡ []
 none_of ts e = sym cc
 
 pub stand_from : (n from : ℕ) (fresh : Bool) (text rest : List ℕ) (ts : List Lexeme) → drop from text ≡ rest → length rest ≤ n → tokens_from n from fresh rest ≡ Ok ts → StandIn text from ts

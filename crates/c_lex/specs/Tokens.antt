@@ -1,13 +1,16 @@
 -- The tokens of a text.
-use Rattle.std.specs.Prelude.{◌≡◌, ℕ, zero, suc, ◌+◌, ◌<◌, ◌≤◌, Bool, true, false, ◌==◌, ◌&&◌, ◌||◌, List, [], ◌∷◌, ◌++◌, length, take, drop, map, Option, Some, None, Result, Ok, Err}
+use Rattle.std.specs.Prelude.{◌≡◌, ℕ, zero, suc, ◌+◌, ◌<◌, ◌≤◌, Bool, true, false, ◌==◌, ◌&&◌, ◌||◌, List, [], ◌∷◌, ◌++◌, length, take, drop, map, slice_index, Option, Some, None, Result, Ok, Err}
+use Rattle.std.specs.List.{AllByRecursion, list_all}
+use Rattle.std.specs.Str.{all_ascii_digits}
 use Rattle.thr_base.specs.declared.stops.Refusal.{Refusal}
 use Rattle.thr_base.specs.declared.stops.Stop.{Stop}
 use Rattle.thr_base.specs.declared.stops.Stop.TheVariants.{Refused, Memory}
 use Rattle.c_lex.specs.declared.token.Kind.{Kind}
+use Rattle.c_lex.specs.declared.token.Kind.TheVariants.{Word, Number, Mark, Foreign}
 use Rattle.c_lex.specs.declared.token.Token.{Token}
 use Rattle.c_lex.specs.declared.piece.Piece.{Piece}
-use Rattle.c_lex.specs.Bytes.{is_space}
-use Rattle.c_lex.specs.Piece.{piece_of}
+use Rattle.c_lex.specs.Bytes.{is_space, is_letter, is_word_byte, is_mark, is_double_mark, is_foreign}
+use Rattle.c_lex.specs.Piece.{is_number_text, piece_of}
 
 -- a token: its kind, its bytes, and the place of the first
 pub record Lexeme : Type 0 where
@@ -70,3 +73,21 @@ StandIn text at [] = Unit {0}
 StandIn text at (t ∷ ts) =
     (at ≤ t.from) × (0 < length t.bytes) × (take (length t.bytes) (drop t.from text) ≡ t.bytes)
     × StandIn text (t.from + length t.bytes) ts
+
+-- the texts of marks
+abbrev pub is_mark_text : List ℕ → Bool
+is_mark_text [] = false
+is_mark_text (b ∷ []) = is_mark b
+is_mark_text (b ∷ c ∷ []) = is_double_mark b c
+is_mark_text (b ∷ c ∷ d ∷ bs) = false
+
+-- The bytes are a token of the kind, and the longest that stands there, where `next` follows (0 at the end).
+abbrev pub IsToken : Kind → List ℕ → ℕ → Type 0
+IsToken Word bytes next = (is_letter (slice_index bytes 0) ≡ true) × (list_all is_word_byte bytes ≡ true) × (is_word_byte next ≡ false)
+IsToken Number bytes next = (all_ascii_digits bytes ≡ true) × (is_number_text bytes ≡ true) × (is_word_byte next ≡ false)
+IsToken Mark bytes next = (is_mark_text bytes ≡ true) × (is_mark_text (bytes ++ next ∷ []) ≡ false)
+IsToken Foreign bytes next = (length bytes ≡ 1) × (is_foreign (slice_index bytes 0) ≡ true)
+
+-- Each token is one of its kind, and the longest.
+abbrev pub AreTokens : List ℕ → List Lexeme → Type 0
+AreTokens text ts = AllByRecursion (λ t. IsToken t.kind t.bytes (slice_index text (t.from + length t.bytes))) ts

@@ -1,7 +1,7 @@
 //! Cuts a text into its tokens.
 
 ghost use Rattle.std.specs.Prelude.{◌≡◌, ◌≤◌, ◌++◌, length, IfOk, OnOk};
-ghost use Rattle.c_lex.specs.Tokens.{views, is_fresh_after, lexemes_of, Gives, lexed, StandIn};
+ghost use Rattle.c_lex.specs.Tokens.{views, is_fresh_after, lexemes_of, Gives, lexed, StandIn, AreTokens};
 
 use crate::bytes::is_space;
 use crate::piece::piece_at;
@@ -42,6 +42,8 @@ pub fn lex<'a>(alloc: Global, text: &'a str) -> Result<Vec<Token<'a>>, Stop>
     ensures exact { Gives (λ v. views v.items) result (lexed text.now) }
     // Each token is the slice of the text at its place, and places rise.
     ensures slices { IfOk result (λ v. StandIn text.now 0 (views v.items)) }
+    // Each token is one of its kind, and the longest that stands there.
+    ensures longest { IfOk result (λ v. AreTokens text.now (views v.items)) }
 {
     let mut tokens = Vec::new(alloc);
     let mut rest = text;

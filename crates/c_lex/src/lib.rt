@@ -9,3 +9,6 @@ mod token;
 
 pub use lexer::{TEXT_LIMIT, lex};
 pub use token::{Kind, Token};
+
+#[cfg(test)]
+mod tests;

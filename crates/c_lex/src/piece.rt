@@ -7,8 +7,10 @@ ghost use Rattle.std.specs.Str.{all_ascii_digits};
 ghost use Rattle.std.specs.Str.Parse.{digits_value};
 ghost use Rattle.c_lex.specs.Piece.{piece_of, number_of, is_number_text, mark_of, comment_of, goes_on_include, through_close};
 
-use crate::bytes::{digits_len, is_double_mark, is_foreign, is_letter, is_mark, is_separator};
-use crate::bytes::{line_len, spaces_len, word_len};
+use crate::bytes::{
+    digits_len, is_double_mark, is_foreign, is_letter, is_mark, is_separator, line_len, spaces_len,
+    word_len,
+};
 use crate::token::Kind;
 
 /// The front of a text: a token, or bytes that are skipped.
@@ -36,6 +38,7 @@ impl Piece {
 }
 
 const BAD_BYTE: u8 = 2;
+
 const BAD_NUMBER: u8 = 3;
 
 fn through_close(bytes: &[u8]) -> Option<usize>

@@ -4,6 +4,7 @@ use Rattle.c_lex.specs.Tokens.{views, is_fresh_after, lexemes_of, lexed}
 use Rattle.c_lex.proofs.Cuts.{Cuts, boundary, cuts_of}
 use Rattle.c_lex.proofs.Steps.{IsReadTo, at_start, goes_on, refuses, at_end}
 use Rattle.c_lex.proofs.Places.{stand_from}
+use Rattle.c_lex.proofs.Longest.{tokens_from_longest}
 use Rattle.c_lex.proofs.lexer.lex.Goals as goal
 use Rattle.c_lex.proofs.lexer.lex.Goals.{In-Ok, After-loop-rest}
 
@@ -42,3 +43,6 @@ returns-clause-exact c = is_whole (goal.at.returns-clause-exact c).After-loop-re
 
 pub returns-clause-slices : goal.returns-clause-slices
 returns-clause-slices c = stand_from (length c.args.text.now) 0 true c.args.text.now c.args.text.now (views c.loop-rest.tokens.items) refl (omega arith) (is_whole (goal.at.returns-clause-slices c).After-loop-rest)
+
+pub returns-clause-longest : goal.returns-clause-longest
+returns-clause-longest c = tokens_from_longest (length c.args.text.now) 0 true c.args.text.now c.args.text.now (views c.loop-rest.tokens.items) refl (omega arith) (is_whole (goal.at.returns-clause-longest c).After-loop-rest)
