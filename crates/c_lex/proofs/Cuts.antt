@@ -1,8 +1,8 @@
 -- Where a piece ends, a text may be cut: no piece is empty, and one of the bytes beside its end is ASCII.
-use Rattle.std.proofs.Common.{◌≡◌, ℕ, zero, suc, ◌+◌, ◌-◌, ◌<◌, ◌≤◌, Bool, true, false, cond, ◌&&◌, ◌||◌, not, eqb, ltb, List, [], ◌∷◌, length, drop, take, get_or, Option, Some, None, Result, Ok, Err, refl, sym, ap, subst, ◌∙◌, ◌⊎◌, inl, inr, ⊎_elim, arith, IsUtf8, length-drop}
+use Rattle.std.proofs.Common.{◌≡◌, ℕ, suc, ◌+◌, ◌-◌, ◌<◌, ◌≤◌, Bool, true, false, cond, ◌&&◌, not, eqb, ltb, List, [], ◌∷◌, length, drop, take, get_or, Option, Some, None, Ok, refl, sym, ap, subst, ◌⊎◌, inl, inr, ⊎_elim, arith, IsUtf8}
 use Rattle.std.specs.Prelude.{option_map, codes, nat_eq, slice_index}
 use Rattle.std.specs.Char.{is_ascii_digit}
-use Rattle.std.specs.List.{prefix_len, list_any, list_all, starts_with}
+use Rattle.std.specs.List.{prefix_len, list_all, starts_with}
 use Rattle.std.specs.Str.{IsCharBoundary}
 use Rattle.std.proofs.lemmas.Bool.{cases_lt, cases_Bool, false≢true, eqb-true, ltb-true}
 use Rattle.std.proofs.lemmas.Bool.Decides.{nat_tests}
@@ -11,8 +11,8 @@ use Rattle.std.proofs.lemmas.Str.{IsCharBoundary-before_ascii, IsCharBoundary-af
 use Rattle.c_lex.specs.declared.token.Kind.{Kind}
 use Rattle.c_lex.specs.declared.token.Kind.TheVariants.{Word, Number, Mark, Foreign}
 use Rattle.c_lex.specs.declared.piece.Piece.{Piece}
-use Rattle.c_lex.specs.Bytes.{is_one_of, is_space, is_separator, is_letter, is_word_byte, is_in_line, is_mark, is_double_mark, is_foreign}
-use Rattle.c_lex.specs.Piece.{bad_byte, bad_number, skipped, token_of, through_close, goes_on_include, comment_of, is_number_text, number_of, mark_of, piece_of}
+use Rattle.c_lex.specs.Bytes.{is_one_of, is_separator, is_letter, is_word_byte, is_in_line, is_mark, is_double_mark, is_foreign}
+use Rattle.c_lex.specs.Piece.{skipped, token_of, through_close, goes_on_include, comment_of, is_number_text, number_of, mark_of, piece_of}
 
 -- a piece of n bytes at the front
 pub record Cuts (bs : List ℕ) (n : ℕ) : Type 0 where

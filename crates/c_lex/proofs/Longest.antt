@@ -1,24 +1,21 @@
 -- Each token is one of its kind, and the longest that stands there.
-use Rattle.std.proofs.Common.{◌≡◌, ℕ, zero, suc, ◌+◌, ◌-◌, ◌<◌, ◌≤◌, Bool, true, false, cond, ◌&&◌, ◌||◌, not, eqb, List, [], ◌∷◌, ◌++◌, length, drop, take, get_or, Option, Some, None, Result, Ok, Err, refl, sym, ap, subst, ◌∙◌, inl, inr, arith, length-drop}
+use Rattle.std.proofs.Common.{◌≡◌, ℕ, zero, suc, ◌+◌, ◌≤◌, Bool, true, false, ◌&&◌, ◌||◌, not, eqb, List, [], ◌∷◌, ◌++◌, length, drop, take, get_or, Option, Some, None, Result, Ok, Err, refl, sym, ap, subst, ◌∙◌, inl, inr, arith, length-drop}
 use Rattle.std.specs.Prelude.{codes, nat_eq, slice_index}
 use Rattle.std.specs.Char.{is_ascii_digit}
 use Rattle.std.specs.List.{prefix_len, list_all, starts_with, AllByRecursion}
-use Rattle.std.specs.Str.{all_ascii_digits}
 use Rattle.std.proofs.lemmas.Bool.{cases_Bool, cases_lt, false≢true}
-use Rattle.std.proofs.lemmas.Bool.Decides.{nat_tests}
-use Rattle.std.proofs.lemmas.List.{length-take-le, drop-drop, get_or-drop, get_or_past, get_or-take}
-use Rattle.std.proofs.lemmas.List.Sums.{prefix_len-le-length, prefix_len_stops}
+use Rattle.std.proofs.lemmas.List.{length-take-le, drop-drop, get_or-drop, get_or_past}
+use Rattle.std.proofs.lemmas.List.Sums.{prefix_len_stops}
 use Rattle.std.proofs.Math.Numerals.{one-add}
-use Rattle.thr_base.specs.declared.stops.Refusal.{Refusal}
 use Rattle.c_lex.specs.declared.token.Kind.{Kind}
 use Rattle.c_lex.specs.declared.token.Kind.TheVariants.{Word, Number, Mark, Foreign}
 use Rattle.c_lex.specs.declared.piece.Piece.{Piece}
-use Rattle.c_lex.specs.Bytes.{is_separator, is_letter, is_word_byte, is_in_line, is_mark, is_double_mark, is_foreign}
-use Rattle.c_lex.specs.Piece.{bad_byte, bad_number, skipped, token_of, through_close, goes_on_include, comment_of, is_number_text, number_of, mark_of, piece_of}
-use Rattle.c_lex.specs.Tokens.{Lexeme, is_fresh_after, lexemes_of, tokens_from, is_mark_text, IsToken}
+use Rattle.c_lex.specs.Bytes.{is_separator, is_letter, is_word_byte, is_mark, is_double_mark, is_foreign}
+use Rattle.c_lex.specs.Piece.{skipped, token_of, through_close, goes_on_include, comment_of, is_number_text, number_of, mark_of, piece_of}
+use Rattle.c_lex.specs.Tokens.{Lexeme, is_fresh_after, lexemes_of, tokens_from, IsToken}
 use Rattle.c_lex.proofs.Numbers.{digits_front}
 use Rattle.c_lex.proofs.Cuts.{Cuts, piece_cuts, chosen, both, letter_word, double_second}
-use Rattle.c_lex.proofs.Steps.{with_front, step, refusal_step, nothing_left}
+use Rattle.c_lex.proofs.Steps.{step, refusal_step, nothing_left}
 use Rattle.c_lex.proofs.Places.{others_of, none_of, failed}
 
 -- a piece that is a token is one of its kind

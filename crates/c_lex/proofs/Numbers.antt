@@ -1,5 +1,5 @@
 -- What parsing says of the size of a number.
-use Rattle.std.proofs.Common.{◌≡◌, ℕ, ◌+◌, ◌^◌, ◌<◌, ◌≤◌, ℤ, pos, Bool, true, false, ltb, List, [], ◌∷◌, length, drop, get_or, take, Result, Ok, Err, is_ok, refl, sym, ap, ◌∙◌, inl, inr, arith}
+use Rattle.std.proofs.Common.{◌≡◌, ℕ, ◌^◌, ◌<◌, ℤ, true, ltb, List, [], ◌∷◌, length, take, Result, Ok, Err, is_ok, refl, sym, inl, inr, arith}
 use Rattle.std.proofs.Math.Numerals.{one-add}
 use Rattle.std.specs.Char.{is_ascii_digit}
 use Rattle.std.specs.Int.{w128}

@@ -1,11 +1,11 @@
 -- Tokens stand in their text, at their places.
-use Rattle.std.proofs.Common.{◌≡◌, ℕ, zero, suc, ◌+◌, ◌-◌, ◌<◌, ◌≤◌, Bool, true, false, List, [], ◌∷◌, ◌++◌, length, drop, take, get_or, Option, Some, None, Result, Ok, Err, refl, sym, ap, subst, ◌∙◌, arith, length-drop}
+use Rattle.std.proofs.Common.{◌≡◌, ℕ, zero, suc, ◌+◌, ◌<◌, ◌≤◌, Bool, List, [], ◌∷◌, ◌++◌, length, drop, take, Option, Some, None, Result, Ok, Err, refl, sym, ap, subst, ◌∙◌, arith, length-drop}
 use Rattle.std.proofs.lemmas.List.{length-take-le, drop-drop}
 use Rattle.thr_base.specs.declared.stops.Refusal.{Refusal}
 use Rattle.c_lex.specs.declared.token.Kind.{Kind}
 use Rattle.c_lex.specs.declared.piece.Piece.{Piece}
 use Rattle.c_lex.specs.Piece.{piece_of}
-use Rattle.c_lex.specs.Tokens.{Lexeme, ◌>>=◌, at_place, is_fresh_after, lexemes_of, tokens_from, lexed, StandIn}
+use Rattle.c_lex.specs.Tokens.{Lexeme, is_fresh_after, lexemes_of, tokens_from, StandIn}
 use Rattle.c_lex.proofs.Cuts.{Cuts, piece_cuts}
 use Rattle.c_lex.proofs.Steps.{with_front, step, refusal_step, nothing_left}
 

@@ -1,13 +1,12 @@
 -- Reading the tokens of a text from left to right, as a loop does.
-use Rattle.std.proofs.Common.{◌≡◌, ℕ, zero, suc, ◌+◌, ◌-◌, ◌<◌, ◌≤◌, Bool, true, false, List, [], ◌∷◌, ◌++◌, length, drop, take, get_or, Option, Some, None, Result, Ok, Err, refl, sym, ap, subst, ◌∙◌, arith, IsUtf8, append_assoc, length-drop}
+use Rattle.std.proofs.Common.{◌≡◌, ℕ, zero, suc, ◌+◌, ◌<◌, ◌≤◌, Bool, true, List, [], ◌∷◌, ◌++◌, length, drop, take, get_or, Result, Ok, Err, refl, sym, ap, ◌∙◌, arith, IsUtf8, append_assoc, length-drop}
 use Rattle.std.proofs.iter.FirstChar.{cut}
-use Rattle.std.proofs.lemmas.List.{append-nil, nil_from_length, length-take-le, drop-drop}
+use Rattle.std.proofs.lemmas.List.{append-nil, nil_from_length}
 use Rattle.thr_base.specs.declared.stops.Refusal.{Refusal}
-use Rattle.c_lex.specs.declared.token.Kind.{Kind}
 use Rattle.c_lex.specs.declared.piece.Piece.{Piece}
 use Rattle.c_lex.specs.Piece.{piece_of}
-use Rattle.c_lex.specs.Tokens.{Lexeme, ◌>>=◌, at_place, is_fresh_after, lexemes_of, tokens_from, lexed, StandIn}
-use Rattle.c_lex.proofs.Cuts.{Cuts, boundary, piece_cuts}
+use Rattle.c_lex.specs.Tokens.{Lexeme, ◌>>=◌, is_fresh_after, lexemes_of, tokens_from, lexed}
+use Rattle.c_lex.proofs.Cuts.{boundary, piece_cuts}
 
 -- the tokens before, and those that follow
 abbrev pub with_front : List Lexeme → Result (List Lexeme) Refusal → Result (List Lexeme) Refusal

@@ -8,7 +8,6 @@ use Rattle.thr_base.specs.declared.stops.Stop.TheVariants.{Refused, Memory}
 use Rattle.c_lex.specs.declared.token.Kind.{Kind}
 use Rattle.c_lex.specs.declared.token.Kind.TheVariants.{Word, Number, Mark, Foreign}
 use Rattle.c_lex.specs.declared.token.Token.{Token}
-use Rattle.c_lex.specs.declared.piece.Piece.{Piece}
 use Rattle.c_lex.specs.Bytes.{is_space, is_letter, is_word_byte, is_mark, is_double_mark, is_foreign}
 use Rattle.c_lex.specs.Piece.{is_number_text, piece_of}
 

@@ -1,4 +1,4 @@
-use Rattle.std.proofs.Common.{◌≡◌, ◌<◌, ◌+◌, ℕ, length, take, drop, get_or, true, Ok, ◌++◌, refl, sym, ap, subst, ◌∙◌, arith, false-eqb}
+use Rattle.std.proofs.Common.{◌≡◌, length, take, get_or, true, Ok, ◌++◌, refl, sym, ap, subst, ◌∙◌, arith, false-eqb}
 use Rattle.std.proofs.lemmas.Bool.{eqb-true}
 use Rattle.c_lex.specs.Tokens.{views, is_fresh_after, lexemes_of, lexed}
 use Rattle.c_lex.proofs.Cuts.{Cuts, boundary, cuts_of}

@@ -1,4 +1,4 @@
-use Rattle.std.proofs.Common.{◌-◌, sym, ◌∙◌, arith}
+use Rattle.std.proofs.Common.{sym, ◌∙◌, arith}
 use Rattle.c_lex.proofs.Comments.{closed_at, not_closed_at, never_closed}
 use Rattle.c_lex.proofs.piece.through_close.Goals as goal
 use Rattle.c_lex.proofs.piece.through_close.Goals.{else-bytes-i-eq42-via-then-bytes-i-eq42+else-bytes-i-eq47, else-bytes-i-eq42-via-else-bytes-i-eq42}
