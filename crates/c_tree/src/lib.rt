@@ -1,0 +1,5 @@
+//! The tree of a C text of the profile, or the first place where no text of the profile goes on so.
+#![tactic(auto)]
+
+mod term;
+mod tokens;
