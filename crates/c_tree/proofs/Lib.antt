@@ -1,0 +1,5 @@
+pub mod Steps
+pub mod Shrinks
+pub mod Chains
+pub mod Numbers
+pub mod Deeper

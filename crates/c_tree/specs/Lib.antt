@@ -1,3 +1,6 @@
 pub mod Term
 pub mod Input
 pub mod Cursor
+pub mod Chain
+pub mod Expr
+pub mod Nests

@@ -1,5 +1,8 @@
 //! The tree of a C text of the profile, or the first place where no text of the profile goes on so.
 #![tactic(auto)]
 
+mod expr;
+mod levels;
+mod operand;
 mod term;
 mod tokens;

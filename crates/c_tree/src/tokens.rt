@@ -71,12 +71,12 @@ impl<'t, 'a> Tokens<'t, 'a> {
     }
 
     #[tactic(auto, unfolding(crate::specs::Input::bytes))]
-    pub fn text(&self) -> &'a [u8]
+    pub fn text(&self) -> &'a str
         ensures { result.now ≡ spec.bytes self.now }
     {
         match self.left.first() {
-            None => &[],
-            Some(token) => token.text.as_bytes(),
+            None => "",
+            Some(token) => token.text,
         }
     }
 
