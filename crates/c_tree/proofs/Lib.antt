@@ -3,3 +3,5 @@ pub mod Shrinks
 pub mod Chains
 pub mod Numbers
 pub mod Deeper
+pub mod Found
+pub mod Again

@@ -4,3 +4,4 @@ pub mod Cursor
 pub mod Chain
 pub mod Expr
 pub mod Nests
+pub mod Grammar
