@@ -5,3 +5,4 @@ pub mod Chain
 pub mod Expr
 pub mod Nests
 pub mod Grammar
+pub mod Simple

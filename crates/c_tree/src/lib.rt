@@ -4,5 +4,7 @@
 mod expr;
 mod levels;
 mod operand;
+mod parts;
+mod simple;
 mod term;
 mod tokens;
