@@ -5,3 +5,5 @@ pub mod Numbers
 pub mod Deeper
 pub mod Found
 pub mod Again
+pub mod Sizes
+pub mod Quals

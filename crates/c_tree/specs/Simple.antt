@@ -16,14 +16,14 @@ use Rattle.c_tree.specs.declared.simple.Assign.TheVariants as assigns
 use Rattle.c_tree.specs.declared.simple.Call.{Call}
 use Rattle.c_tree.specs.declared.simple.Call.TheVariants as calls
 use Rattle.c_tree.specs.declared.simple.Qual.{Qual}
-use Rattle.c_tree.specs.declared.simple.QualKind.TheVariants as quals
+use Rattle.c_tree.specs.declared.simple.QualKind.TheVariants as kinds
 use Rattle.c_tree.specs.declared.simple.Itype.{Itype}
 use Rattle.c_tree.specs.declared.simple.Itype.TheVariants as itypes
 use Rattle.c_tree.specs.declared.simple.Lname.{Lname}
 use Rattle.c_tree.specs.declared.simple.Local.{Local}
 use Rattle.c_tree.specs.declared.simple.Handles.{Handles}
 use Rattle.c_tree.specs.Input.{Input, Parser, ◌>>=◌, ◌>>◌, pure, refuse, look, here, take_token, eat, expect, bytes, peek, place, next}
-use Rattle.c_tree.specs.Chain.{more_of}
+use Rattle.c_tree.specs.Chain.{more_of, mark_at}
 use Rattle.c_tree.specs.Expr.{name, expr}
 
 abbrev pub comma_mark : Term → ℕ → Option ℕ
@@ -178,7 +178,50 @@ module _ (levels : ℕ) where
     pure (record { name = x; start = start })
 
 abbrev pub qual_mark : Term → ℕ → Option Qual
-qual_mark terms.Static from = Some (record { from = from; kind = quals.Static })
-qual_mark terms.Volatile from = Some (record { from = from; kind = quals.Volatile })
-qual_mark terms.Extern from = Some (record { from = from; kind = quals.Extern })
+qual_mark terms.Static from = Some (record { from = from; kind = kinds.Static })
+qual_mark terms.Volatile from = Some (record { from = from; kind = kinds.Volatile })
+qual_mark terms.Extern from = Some (record { from = from; kind = kinds.Extern })
 qual_mark _ from = None
+
+-- words in front of a type, as far as they go; the number bounds how many
+abbrev pub quals_behind : Option Qual → Parser (List Qual) → Parser (List Qual)
+quals_behind None others = pure []
+quals_behind (Some q) others = take_token >> (others >>= λ qs. pure (q ∷ qs))
+
+unfoldable pub quals_from : ℕ → Parser (List Qual)
+quals_from zero = pure []
+quals_from (suc n) = λ i. quals_behind (mark_at qual_mark i) (quals_from n) i
+
+-- Each word is a token, so there are no more than tokens.
+unfoldable pub quals : Parser (List Qual)
+quals = λ i. quals_from (length i.tokens) i
+
+abbrev pub long_if : ℕ → Bool → Itype
+long_if from true = itypes.LongInt from
+long_if from false = itypes.Long from
+
+abbrev pub itype_by : Term → Parser Itype
+itype_by terms.Int = take_token >>= λ from. pure (itypes.Int from)
+itype_by terms.Long = take_token >>= λ from. eat terms.Int >>= λ is_long_int. pure (long_if from is_long_int)
+itype_by _ = refuse
+
+unfoldable pub itype : Parser Itype
+itype = look >>= itype_by
+
+unfoldable pub local : ℕ → Parser Local
+local levels = do
+  from ← here
+  qs ← quals
+  kind ← itype
+  first ← lname levels
+  more ← more_of comma_mark (lname levels)
+  closed ← expect terms.Semicolon
+  pure (record { from = from; quals = qs; itype = kind; first = first; more = more })
+
+unfoldable pub handles : Parser Handles
+handles = do
+  from ← expect terms.HandleType
+  first ← name
+  more ← more_of comma_mark name
+  closed ← expect terms.Semicolon
+  pure (record { from = from; first = first; more = more })

@@ -3,8 +3,10 @@
 
 mod expr;
 mod levels;
+mod lists;
 mod operand;
 mod parts;
 mod simple;
+mod stmt;
 mod term;
 mod tokens;

@@ -63,7 +63,7 @@ pub fn nil(tokens: &mut Tokens<'_, '_>) -> Result<Nil, Stop>
 }
 
 #[tactic(auto, unfolding(crate::specs::Simple::address))]
-fn address(alloc: Global, tokens: &mut Tokens<'_, '_>) -> Result<Name, Stop>
+pub fn address(alloc: Global, tokens: &mut Tokens<'_, '_>) -> Result<Name, Stop>
     ensures { Reads (spec.address tokens.old) result tokens.new }
 {
     tokens.expect(Term::Address)?;
@@ -209,7 +209,7 @@ fn join(alloc: Global, tokens: &mut Tokens<'_, '_>, from: u32) -> Result<Call, S
 }
 
 #[tactic(auto, unfolding(crate::specs::Simple::lname))]
-fn lname(alloc: Global, tokens: &mut Tokens<'_, '_>, levels: u32) -> Result<Lname, Stop>
+pub fn lname(alloc: Global, tokens: &mut Tokens<'_, '_>, levels: u32) -> Result<Lname, Stop>
     ensures { Reads (spec.lname levels tokens.old) result tokens.new }
 {
     let name = name(alloc, tokens)?;
@@ -219,4 +219,59 @@ fn lname(alloc: Global, tokens: &mut Tokens<'_, '_>, levels: u32) -> Result<Lnam
         None
     };
     Ok(Lname { name, start })
+}
+
+#[tactic(auto, unfolding(crate::specs::Simple::call))]
+pub fn call(alloc: Global, tokens: &mut Tokens<'_, '_>, levels: u32) -> Result<Call, Stop>
+    ensures { Reads (spec.call levels tokens.old) result tokens.new }
+{
+    match tokens.peek() {
+        Term::Assert => {
+            let from = tokens.take();
+            Ok(Call::Assert(from, argument(alloc, tokens, levels)?))
+        }
+        Term::Assume => {
+            let from = tokens.take();
+            Ok(Call::Assume(from, argument(alloc, tokens, levels)?))
+        }
+        Term::ReachError => {
+            let from = tokens.take();
+            empty_parens(tokens)?;
+            Ok(Call::ReachError(from))
+        }
+        Term::Abort => {
+            let from = tokens.take();
+            empty_parens(tokens)?;
+            Ok(Call::Abort(from))
+        }
+        Term::Exit => {
+            let from = tokens.take();
+            Ok(Call::Exit(from, exit_argument(tokens)?))
+        }
+        Term::MutexLock => {
+            let from = tokens.take();
+            Ok(Call::Lock(from, lock_argument(alloc, tokens)?))
+        }
+        Term::MutexUnlock => {
+            let from = tokens.take();
+            Ok(Call::Unlock(from, lock_argument(alloc, tokens)?))
+        }
+        Term::MutexDestroy => {
+            let from = tokens.take();
+            Ok(Call::Destroy(from, lock_argument(alloc, tokens)?))
+        }
+        Term::MutexInit => {
+            let from = tokens.take();
+            init(alloc, tokens, from)
+        }
+        Term::Create => {
+            let from = tokens.take();
+            create(alloc, tokens, from)
+        }
+        Term::Join => {
+            let from = tokens.take();
+            join(alloc, tokens, from)
+        }
+        _ => Err(tokens.refuse()),
+    }
 }
