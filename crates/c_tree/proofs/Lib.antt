@@ -7,3 +7,5 @@ pub mod Found
 pub mod Again
 pub mod Sizes
 pub mod Quals
+pub mod StmtSizes
+pub mod ManyLoop

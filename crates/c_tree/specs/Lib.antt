@@ -6,3 +6,6 @@ pub mod Expr
 pub mod Nests
 pub mod Grammar
 pub mod Simple
+pub mod Many
+pub mod Stmt
+pub mod NestsStmt

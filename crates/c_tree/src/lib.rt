@@ -2,11 +2,13 @@
 #![tactic(auto)]
 
 mod expr;
+mod heads;
 mod levels;
 mod lists;
 mod operand;
 mod parts;
 mod simple;
+mod statements;
 mod stmt;
 mod term;
 mod tokens;

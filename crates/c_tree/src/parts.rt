@@ -26,7 +26,7 @@ pub fn expr(alloc: Global, tokens: &mut Tokens<'_, '_>, levels: u32) -> Result<E
     .expr(tokens)
 }
 
-fn empty_parens(tokens: &mut Tokens<'_, '_>) -> Result<u32, Stop>
+pub fn empty_parens(tokens: &mut Tokens<'_, '_>) -> Result<u32, Stop>
     ensures { Reads (spec.empty_parens tokens.old) result tokens.new }
 {
     tokens.expect(Term::LeftParen)?;

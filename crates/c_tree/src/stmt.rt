@@ -3,6 +3,13 @@
 use crate::simple::{Assign, Call, Cond, Handles, Local, Nil};
 use sqlite_items::{Boxed, Items};
 
+/// Whether a loop stands around a statement in its function.
+#[derive(Clone, Copy, Debug, PartialEq, Eq)]
+pub enum Around {
+    Loop,
+    Nothing,
+}
+
 /// Statements in braces.
 #[cycle(stmt)]
 #[derive(Drop)]
