@@ -9,3 +9,5 @@ pub mod Sizes
 pub mod Quals
 pub mod StmtSizes
 pub mod ManyLoop
+pub mod ItemSizes
+pub mod Skipping

@@ -42,7 +42,7 @@ cond_shrinks : (levels : ℕ) → Shrinks (spec.cond levels)
 unfolding spec.cond
 cond_shrinks levels = bind_second look _ look_le (cond_by_shrinks levels)
 
-take_then : {A : Type 0} (p : Parser A) → NeverGrows p → NeverGrows (take_token >> p)
+pub take_then : {A : Type 0} (p : Parser A) → NeverGrows p → NeverGrows (take_token >> p)
 take_then p le = bind_le take_token _ take_le (λ from. le)
 
 assigned_by_le : (levels : ℕ) (x : Name) (k : Term) → NeverGrows (spec.assigned_by levels x k)
@@ -89,7 +89,7 @@ address_shrinks : Shrinks spec.address
 unfolding spec.address same_term
 address_shrinks = bind_first (expect terms.Address) _ (expect_shrinks terms.Address refl) (λ a. weaker _ name_shrinks)
 
-close_le : {A : Type 0} (k : Term) (x : A) → same_term terms.End k ≡ false → NeverGrows (expect k >>= λ c. pure x)
+pub close_le : {A : Type 0} (k : Term) (x : A) → same_term terms.End k ≡ false → NeverGrows (expect k >>= λ c. pure x)
 close_le k x other = bind_le (expect k) _ (weaker _ (expect_shrinks k other)) (λ c. pure_le x)
 
 argument_shrinks : (levels : ℕ) → Shrinks (spec.argument levels)
@@ -147,7 +147,7 @@ unfolding spec.quals_from
 quals_from_le zero i x j e = pure_le [] i x j e
 quals_from_le (suc n) i x j e = quals_behind_le (mark_at spec.qual_mark i) (spec.quals_from n) (quals_from_le n) i x j e
 
-quals_le : NeverGrows spec.quals
+pub quals_le : NeverGrows spec.quals
 unfolding spec.quals
 quals_le i x j e = quals_from_le (length i.tokens) i x j e
 
@@ -156,7 +156,7 @@ itype_by_le terms.Int = bind_le take_token _ take_le (λ from. pure_le (itypes.I
 itype_by_le terms.Long = bind_le take_token _ take_le (λ from. bind_le (eat terms.Int) _ (eat_le terms.Int) (λ b. pure_le (spec.long_if from b)))
 itype_by_le _ = weaker _ refuse_shrinks
 
-itype_le : NeverGrows spec.itype
+pub itype_le : NeverGrows spec.itype
 unfolding spec.itype
 itype_le = bind_le look _ look_le itype_by_le
 
@@ -165,7 +165,7 @@ unfolding spec.local same_term
 local_shrinks levels = bind_second here _ here_le (λ from. bind_second spec.quals _ quals_le (λ qs. bind_second spec.itype _ itype_le (λ kind. bind_first (spec.lname levels) _ (lname_shrinks levels)
     (λ first. bind_le (more_of spec.comma_mark (spec.lname levels)) _ (more_of_le spec.comma_mark (spec.lname levels) (λ n. refl) (lname_shrinks levels)) (λ more. close_le {A = Local} terms.Semicolon (record { from = from; quals = qs; itype = kind; first = first; more = more }) refl)))))
 
-handles_shrinks : Shrinks spec.handles
+pub handles_shrinks : Shrinks spec.handles
 unfolding spec.handles same_term
 handles_shrinks = bind_first (expect terms.HandleType) _ (expect_shrinks terms.HandleType refl) (λ from. bind_le expr_spec.name _ (weaker _ name_shrinks)
     (λ first. bind_le (more_of spec.comma_mark expr_spec.name) _ (more_of_le spec.comma_mark expr_spec.name (λ n. refl) name_shrinks) (λ more. close_le {A = Handles} terms.Semicolon (record { from = from; first = first; more = more }) refl)))
@@ -187,7 +187,7 @@ many_le end item le i x j e = many_from_le end item le (suc (length i.tokens)) i
 
 -- ---- statements
 
-see_le : (k : Term) → NeverGrows (λ i. Ok (sees k i, i))
+pub see_le : (k : Term) → NeverGrows (λ i. Ok (sees k i, i))
 see_le k i x j e = (let same = (ok_parts (sees k i) x i j e).1 in omega (arith, ap (λ (l : Input). length l.tokens) same))
 
 word_end_shrinks : Shrinks stmt_spec.word_end
@@ -257,7 +257,7 @@ unfolding stmt_spec.last_part
 last_part_le levels = bind_le _ _ (see_le terms.RightParen) (last_if_le levels)
 
 module _ (levels : ℕ) (inner : Around → Parser Stmt) (shrinks : (around : Around) → Shrinks (inner around)) where
-  block_shrinks : (around : Around) → Shrinks (stmt_spec.block levels inner around)
+  pub block_shrinks : (around : Around) → Shrinks (stmt_spec.block levels inner around)
   unfolding stmt_spec.block same_term
   block_shrinks around = bind_first (expect terms.LeftBrace) _ (expect_shrinks terms.LeftBrace refl)
       (λ from. bind_le (many terms.RightBrace (inner around)) _ (many_le terms.RightBrace (inner around) (weaker _ (shrinks around))) (λ ss. close_le terms.RightBrace (roll-Block (record { from = from; stmts = ss })) refl))

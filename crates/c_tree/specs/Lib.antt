@@ -9,3 +9,4 @@ pub mod Simple
 pub mod Many
 pub mod Stmt
 pub mod NestsStmt
+pub mod Item

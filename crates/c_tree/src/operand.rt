@@ -31,7 +31,7 @@ fn number_value(text: &str) -> Option<i128>
 }
 
 #[tactic(auto, unfolding(crate::specs::Expr::number))]
-fn number(tokens: &mut Tokens<'_, '_>) -> Result<i128, Stop>
+pub fn number(tokens: &mut Tokens<'_, '_>) -> Result<i128, Stop>
     ensures { Reads (spec.number tokens.old) result tokens.new }
 {
     match number_value(tokens.text()) {
