@@ -324,7 +324,7 @@ fn items(alloc: Global, tokens: &mut Tokens<'_, '_>) -> Result<Items<Item>, Stop
     ensures { Reads (many Term.End spec.item tokens.old) result tokens.new }
 {
     let mut all = Items::new(alloc);
-    while !tokens.sees(Term::End) {
+    'items: while !tokens.sees(Term::End) {
         let item = item(alloc, tokens)?;
         all.push(item)?;
     }

@@ -4,8 +4,8 @@ use Rattle.c_tree.specs.Item.{item}
 use Rattle.c_tree.proofs.ManyLoop.{IsReadTo}
 use Rattle.c_tree.proofs.items.items.Given as goal
 
-abbrev pub invariant-loop : goal.invariant-loop
-invariant-loop l = IsReadTo terms.End item l.fn.tokens l.all l.tokens
+abbrev pub invariant-items : goal.invariant-items
+invariant-items l = IsReadTo terms.End item l.fn.tokens l.all l.tokens
 
-abbrev pub decreases-loop : goal.decreases-loop
-decreases-loop l = length l.tokens.tokens
+abbrev pub decreases-items : goal.decreases-items
+decreases-items l = length l.tokens.tokens
