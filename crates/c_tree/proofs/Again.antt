@@ -135,7 +135,6 @@ no_product_mark : (t : Term) (from : ℕ) → binds t < 6 → spec.product_mark 
 no_product_mark terms.Star from lt = absurd (omega arith)
 no_product_mark _ from lt = refl
 
-
 product_marks : IsMarkOf spec.product_mark IsProductMark 6
 product_marks = record {
   found = λ end m ts behind is. rw (is_peek terms.Star m end ts behind is, is_place terms.Star m end ts behind is) (refl);
@@ -149,7 +148,6 @@ no_and_mark : (t : Term) (from : ℕ) → binds t < 2 → spec.and_mark t from �
 no_and_mark terms.And from lt = absurd (omega arith)
 no_and_mark _ from lt = refl
 
-
 and_marks : IsMarkOf spec.and_mark IsAndMark 2
 and_marks = record {
   found = λ end m ts behind is. rw (is_peek terms.And m end ts behind is, is_place terms.And m end ts behind is) (refl);
@@ -162,7 +160,6 @@ and_marks = record {
 no_or_mark : (t : Term) (from : ℕ) → binds t < 1 → spec.or_mark t from ≡ None
 no_or_mark terms.Or from lt = absurd (omega arith)
 no_or_mark _ from lt = refl
-
 
 or_marks : IsMarkOf spec.or_mark IsOrMark 1
 or_marks = record {

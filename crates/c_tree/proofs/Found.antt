@@ -171,7 +171,6 @@ module _ (unary : Parser Unary) (IsOperand : Unary → List Lexeme → List Lexe
   unfolding spec.expr_over
   expr_over_found = level_found spec.or_mark (spec.conjunction unary) IsOrMark (IsConjunction IsOperand) or_mark_found conjunction_found (conjunction_shrinks unary shrinks) (λ from first more. roll-Expr (record { from = from; first = first; more = more })) (IsExprOver IsOperand) (λ from first more ts rest level. rw out-roll-Expr level)
 
-
 -- ---- names, numbers and operands
 
 -- what `expect` gives

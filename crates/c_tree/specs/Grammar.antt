@@ -87,7 +87,7 @@ IsProductMark = Is terms.Star
 abbrev pub AreMore : {M A : Type 0} → (M → List Lexeme → List Lexeme → Type 0) → (A → List Lexeme → List Lexeme → Type 0)
     → List (M × A) → List Lexeme → List Lexeme → Type 0
 AreMore IsMark IsItem [] ts rest = ts ≡ rest
-AreMore IsMark IsItem ((m , x) ∷ more) ts rest =
+AreMore IsMark IsItem ((m, x) ∷ more) ts rest =
     (behind : List Lexeme) × (after : List Lexeme) × IsMark m ts behind × IsItem x behind after × AreMore IsMark IsItem more after rest
 
 -- an item, and then marks with items, from this place on

@@ -8,8 +8,10 @@ ghost use Rattle.c_tree.specs.Many.{many};
 ghost use Rattle.c_tree.specs.Simple as simple_spec;
 
 use crate::heads::stmt;
-use crate::item::{Body, Errfn, Globals, Gname, Item, Locks, Mainfn, Mname, Proto};
-use crate::item::{Start, Threadfn, Tree, Typed, Untyped};
+use crate::item::{
+    Body, Errfn, Globals, Gname, Item, Locks, Mainfn, Mname, Proto, Start, Threadfn, Tree, Typed,
+    Untyped,
+};
 use crate::lists::{comma_mark, handles, itype, quals};
 use crate::operand::{name, number};
 use crate::skips::skip_through;
@@ -63,10 +65,7 @@ fn gname(alloc: Global, tokens: &mut Tokens<'_, '_>) -> Result<Gname, Stop>
     Ok(Gname { name, start })
 }
 
-fn more_gnames(
-    alloc: Global,
-    tokens: &mut Tokens<'_, '_>,
-) -> Result<Items<(u32, Gname)>, Stop>
+fn more_gnames(alloc: Global, tokens: &mut Tokens<'_, '_>) -> Result<Items<(u32, Gname)>, Stop>
     ensures { Reads (more_of simple_spec.comma_mark spec.gname tokens.old) result tokens.new }
 {
     let mut more = Items::new(alloc);
@@ -101,10 +100,7 @@ fn mname(alloc: Global, tokens: &mut Tokens<'_, '_>) -> Result<Mname, Stop>
     Ok(Mname { name, is_started })
 }
 
-fn more_mnames(
-    alloc: Global,
-    tokens: &mut Tokens<'_, '_>,
-) -> Result<Items<(u32, Mname)>, Stop>
+fn more_mnames(alloc: Global, tokens: &mut Tokens<'_, '_>) -> Result<Items<(u32, Mname)>, Stop>
     ensures { Reads (more_of simple_spec.comma_mark spec.mname tokens.old) result tokens.new }
 {
     let mut more = Items::new(alloc);

@@ -6,8 +6,10 @@ ghost use Rattle.c_tree.specs.Expr as spec;
 ghost use Rattle.c_tree.specs.Input.{Reads};
 ghost use Rattle.c_tree.specs.Nests.{Nests};
 
-use crate::expr::{Conjunction, Equality, EqualityKind, EqualityMark, Expr, Product};
-use crate::expr::{Relation, RelationKind, RelationMark, Sum, SumKind, SumMark, Unary, UnaryKind};
+use crate::expr::{
+    Conjunction, Equality, EqualityKind, EqualityMark, Expr, Product, Relation, RelationKind,
+    RelationMark, Sum, SumKind, SumMark, Unary, UnaryKind,
+};
 use crate::operand::{name_operand, number_operand};
 use crate::term::Term;
 use crate::tokens::Tokens;
@@ -148,7 +150,10 @@ impl<F: Fn(Global, &mut Tokens<'_, '_>, u32) -> Result<Unary, Stop>> Levels<F> {
         Ok(Sum { from, first, more })
     }
 
-    fn more_relations(&self, tokens: &mut Tokens<'_, '_>) -> Result<Items<(RelationMark, Sum)>, Stop>
+    fn more_relations(
+        &self,
+        tokens: &mut Tokens<'_, '_>,
+    ) -> Result<Items<(RelationMark, Sum)>, Stop>
         requires { Nests self.now.levels (F.pre self.now.unary) (F.post self.now.unary) }
         ensures { Reads (more_of spec.relation_mark (spec.sum (spec.unary self.now.levels)) tokens.old) result tokens.new }
     {
@@ -171,7 +176,10 @@ impl<F: Fn(Global, &mut Tokens<'_, '_>, u32) -> Result<Unary, Stop>> Levels<F> {
         Ok(Relation { from, first, more })
     }
 
-    fn more_equalities(&self, tokens: &mut Tokens<'_, '_>) -> Result<Items<(EqualityMark, Relation)>, Stop>
+    fn more_equalities(
+        &self,
+        tokens: &mut Tokens<'_, '_>,
+    ) -> Result<Items<(EqualityMark, Relation)>, Stop>
         requires { Nests self.now.levels (F.pre self.now.unary) (F.post self.now.unary) }
         ensures { Reads (more_of spec.equality_mark (spec.relation (spec.unary self.now.levels)) tokens.old) result tokens.new }
     {

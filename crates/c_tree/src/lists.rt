@@ -83,10 +83,7 @@ fn more_lnames(
     Ok(more)
 }
 
-pub fn more_names(
-    alloc: Global,
-    tokens: &mut Tokens<'_, '_>,
-) -> Result<Items<(u32, Name)>, Stop>
+pub fn more_names(alloc: Global, tokens: &mut Tokens<'_, '_>) -> Result<Items<(u32, Name)>, Stop>
     ensures { Reads (more_of spec.comma_mark expr_spec.name tokens.old) result tokens.new }
 {
     let mut more = Items::new(alloc);

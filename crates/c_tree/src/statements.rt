@@ -6,8 +6,10 @@ ghost use Rattle.c_tree.specs.Many.{many};
 ghost use Rattle.c_tree.specs.Stmt as stmt_spec;
 ghost use Rattle.c_tree.specs.NestsStmt.{NestsStmt};
 
-use crate::heads::{assign_stmt, break_stmt, call_stmt, condition, first_part, last_part};
-use crate::heads::{local_stmt, middle_part, return_stmt, word_end};
+use crate::heads::{
+    assign_stmt, break_stmt, call_stmt, condition, first_part, last_part, local_stmt, middle_part,
+    return_stmt, word_end,
+};
 use crate::lists::handles;
 use crate::stmt::{Around, Block, Stmt};
 use crate::term::Term;

@@ -11,7 +11,9 @@ use std::marker::Model;
 use thr_base::{Refusal, Stop};
 
 const EXPECTED: u8 = 4;
+
 const NOT_IN_PROFILE: u8 = 5;
+
 const TOO_MANY: u8 = 11;
 
 #[derive(Drop)]
