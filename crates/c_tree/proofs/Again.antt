@@ -30,28 +30,13 @@ use Rattle.c_tree.specs.Term.{same_term, term_of}
 use Rattle.c_tree.specs.Input.{Input, Outcome, Parser, and_then, peek, place, bytes, bytes_at, next, sees, expect, term_at}
 use Rattle.c_tree.specs.Chain.{mark_at, past, one_more, more_from, more_of}
 use Rattle.c_tree.specs.Expr as spec
-use Rattle.c_tree.specs.Grammar.{Is, Stands, StartsAt, AreMore, IsLevel, IsOrMark, IsAndMark, IsEqualityMark, IsRelationMark, IsSumMark, IsProductMark, IsProduct, IsSum, IsRelation, IsEquality, IsConjunction, IsExprOver, IsName, IsLayer, IsUnary, IsExpr, equality_term, relation_term, sum_term, sign_term}
+use Rattle.c_tree.specs.Grammar.{Is, Stands, StartsAt, AreMore, IsLevel, IsOrMark, IsAndMark, IsEqualityMark, IsRelationMark, IsSumMark, IsProductMark, IsProduct, IsSum, IsRelation, IsEquality, IsConjunction, IsExprOver, IsName, IsLayer, IsUnary, IsExpr, equality_term, relation_term, sum_term, sign_term, binds}
 use Rattle.c_tree.proofs.Steps.{bind_ok, ok_parts, not_err, next_shorter}
 use Rattle.c_tree.proofs.Shrinks.{Shrinks, product_shrinks, sum_shrinks, relation_shrinks, equality_shrinks, conjunction_shrinks, expr_over_shrinks, unary_shrinks}
 
 -- tokens of a text that ends there
 abbrev pub at : List Lexeme → ℕ → Input
 at ts end = record { tokens = ts; end = end }
-
--- how tightly a mark binds; what is no mark does not
-abbrev pub binds : Term → ℕ
-binds terms.Star = 6
-binds terms.Plus = 5
-binds terms.Minus = 5
-binds terms.Less = 4
-binds terms.AtMost = 4
-binds terms.Greater = 4
-binds terms.AtLeast = 4
-binds terms.Equal = 3
-binds terms.Unequal = 3
-binds terms.And = 2
-binds terms.Or = 1
-binds _ = 0
 
 -- What stands in front of something that binds less is read.
 abbrev pub Again : {A : Type 0} → Parser A → (A → List Lexeme → List Lexeme → Type 0) → ℕ → Type 0

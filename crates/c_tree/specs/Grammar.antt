@@ -81,6 +81,21 @@ IsSumMark m = Is (sum_term m.kind) m.from
 abbrev pub IsProductMark : ℕ → List Lexeme → List Lexeme → Type 0
 IsProductMark = Is terms.Star
 
+-- how tightly a mark binds; what is no mark does not
+abbrev pub binds : Term → ℕ
+binds terms.Star = 6
+binds terms.Plus = 5
+binds terms.Minus = 5
+binds terms.Less = 4
+binds terms.AtMost = 4
+binds terms.Greater = 4
+binds terms.AtLeast = 4
+binds terms.Equal = 3
+binds terms.Unequal = 3
+binds terms.And = 2
+binds terms.Or = 1
+binds _ = 0
+
 -- ---- items with marks between them
 
 -- marks, each with an item behind it

@@ -5,6 +5,7 @@ mod expr;
 mod heads;
 mod item;
 mod items;
+mod laws;
 mod levels;
 mod lists;
 mod operand;
@@ -25,6 +26,7 @@ pub use item::{
     Body, Errfn, Globals, Gname, Item, Locks, Mainfn, Mname, Proto, Start, Threadfn, Tree, Typed,
     Untyped,
 };
+pub use laws::expressions_are_read_exactly;
 pub use reader::parse;
 pub use simple::{
     Assign, Call, Cond, Handles, Itype, Lname, Local, Nil, Nondet, Qual, QualKind, Right,

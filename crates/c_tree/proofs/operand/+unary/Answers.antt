@@ -1,8 +1,6 @@
 use Rattle.std.proofs.Common.{◌≡◌, ap, arith}
 use Rattle.c_tree.specs.Expr.{unary}
 use Rattle.c_tree.proofs.Deeper.{deeper}
-use Rattle.c_tree.proofs.Found.{expr_found}
-use Rattle.c_tree.proofs.Again.{expr_again}
 use Rattle.c_tree.proofs.operand.+unary.Goals as goal
 
 pub returns-then-levels-eq0 : goal.returns-then-levels-eq0
