@@ -1,0 +1,13 @@
+pub mod Steps
+pub mod Shrinks
+pub mod Chains
+pub mod Numbers
+pub mod Deeper
+pub mod Found
+pub mod Again
+pub mod Sizes
+pub mod Quals
+pub mod StmtSizes
+pub mod ManyLoop
+pub mod ItemSizes
+pub mod Skipping

@@ -1,0 +1,12 @@
+use Rattle.std.proofs.Common.{length}
+use Rattle.c_tree.specs.Simple as simple_spec
+use Rattle.c_tree.specs.Item as spec
+use Rattle.c_tree.specs.Expr as expr_spec
+use Rattle.c_tree.proofs.Chains.{IsReadTo}
+use Rattle.c_tree.proofs.items.more_mnames.Given as goal
+
+abbrev pub invariant-loop-mark : goal.invariant-loop-mark
+invariant-loop-mark l = IsReadTo simple_spec.comma_mark spec.mname l.fn.tokens l.more l.tokens
+
+abbrev pub decreases-loop-mark : goal.decreases-loop-mark
+decreases-loop-mark l = length l.tokens.tokens

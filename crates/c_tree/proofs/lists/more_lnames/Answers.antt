@@ -1,0 +1,27 @@
+use Rattle.std.proofs.Common.{◌≡◌, refl, sym, subst}
+use Rattle.std.proofs.lemmas.Result.{err_from_is_err_and}
+use Rattle.c_tree.specs.Simple as spec
+use Rattle.c_tree.specs.Expr as expr_spec
+use Rattle.c_tree.proofs.Shrinks.{name_shrinks}
+use Rattle.c_tree.proofs.Sizes.{lname_shrinks}
+use Rattle.c_tree.proofs.Chains.{IsReadTo, at_start, next_read, next_shrinks, stops, all_read}
+use Rattle.c_tree.proofs.lists.more_lnames.Goals as goal
+
+pub loop-mark-init : goal.loop-mark-init
+loop-mark-init c = rw c.new-more.ensures (at_start spec.comma_mark (spec.lname c.args.levels) c.args.tokens.now)
+
+pub returns-in_err-operand : goal.returns-in_err-operand
+returns-in_err-operand c =
+    let p = err_from_is_err_and c.from_residual.result c.from_residual.ensures.1 in
+    rw (p.1, p.2) (stops spec.comma_mark (spec.lname c.args.levels) (λ from. refl) c.args.tokens.now c.loop-mark.more c.loop-mark.tokens c.comma_mark.new.tokens c.in-Some.mark c.in_err-operand.field-0.0 c.lname.new.tokens c.in-Some.ensures.mark c.in-Some.ensures.after c.in_err-operand.ensures c.loop-mark.invariant)
+
+pub loop-mark-preserved : goal.loop-mark-preserved
+loop-mark-preserved c =
+    next_read spec.comma_mark (spec.lname c.args.levels) (λ from. refl) (lname_shrinks c.args.levels) c.args.tokens.now c.loop-mark.more c.push.new.self c.loop-mark.tokens c.comma_mark.new.tokens c.in-Some.mark c.in_ok-operand.operand c.lname.new.tokens c.in-Some.ensures.mark c.in-Some.ensures.after c.in_ok-operand.ensures c.in_ok-push.ensures.ok c.loop-mark.invariant
+
+pub loop-mark-smaller : goal.loop-mark-smaller
+loop-mark-smaller c =
+    next_shrinks spec.comma_mark (spec.lname c.args.levels) (λ from. refl) (lname_shrinks c.args.levels) c.loop-mark.tokens c.comma_mark.new.tokens c.in-Some.mark c.in_ok-operand.operand c.lname.new.tokens c.in-Some.ensures.mark c.in-Some.ensures.after c.in_ok-operand.ensures
+
+pub returns : goal.returns
+returns c = all_read spec.comma_mark (spec.lname c.args.levels) c.args.tokens.now c.loop-mark.more c.loop-mark.tokens c.comma_mark.new.tokens c.in_default.ensures.mark c.in_default.ensures.after c.loop-mark.invariant

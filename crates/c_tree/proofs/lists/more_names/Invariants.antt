@@ -1,0 +1,11 @@
+use Rattle.std.proofs.Common.{length}
+use Rattle.c_tree.specs.Simple as spec
+use Rattle.c_tree.specs.Expr as expr_spec
+use Rattle.c_tree.proofs.Chains.{IsReadTo}
+use Rattle.c_tree.proofs.lists.more_names.Given as goal
+
+abbrev pub invariant-loop-mark : goal.invariant-loop-mark
+invariant-loop-mark l = IsReadTo spec.comma_mark expr_spec.name l.fn.tokens l.more l.tokens
+
+abbrev pub decreases-loop-mark : goal.decreases-loop-mark
+decreases-loop-mark l = length l.tokens.tokens

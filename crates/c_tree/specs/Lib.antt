@@ -1,0 +1,12 @@
+pub mod Term
+pub mod Input
+pub mod Cursor
+pub mod Chain
+pub mod Expr
+pub mod Nests
+pub mod Grammar
+pub mod Simple
+pub mod Many
+pub mod Stmt
+pub mod NestsStmt
+pub mod Item

@@ -1,0 +1,122 @@
+//! Expressions, as they are written.
+
+use sqlite_items::{Boxed, Items};
+
+/// A name, where it stands.
+#[derive(Drop)]
+pub struct Name {
+    pub from: u32,
+    pub text: Items<u8>,
+}
+
+/// `||` between conjunctions.
+#[cycle(expr)]
+#[derive(Drop)]
+pub struct Expr {
+    pub from: u32,
+    pub first: Conjunction,
+    /// Each with the place of its mark.
+    pub more: Items<(u32, Conjunction)>,
+}
+
+/// `&&` between equalities.
+#[cycle(expr)]
+#[derive(Drop)]
+pub struct Conjunction {
+    pub from: u32,
+    pub first: Equality,
+    /// Each with the place of its mark.
+    pub more: Items<(u32, Equality)>,
+}
+
+#[derive(Clone, Copy, Debug, PartialEq, Eq)]
+pub enum EqualityKind {
+    Equal,
+    Unequal,
+}
+
+#[derive(Clone, Copy, Debug, PartialEq, Eq)]
+pub struct EqualityMark {
+    pub from: u32,
+    pub kind: EqualityKind,
+}
+
+/// `==` and `!=` between relations.
+#[cycle(expr)]
+#[derive(Drop)]
+pub struct Equality {
+    pub from: u32,
+    pub first: Relation,
+    pub more: Items<(EqualityMark, Relation)>,
+}
+
+#[derive(Clone, Copy, Debug, PartialEq, Eq)]
+pub enum RelationKind {
+    Less,
+    AtMost,
+    Greater,
+    AtLeast,
+}
+
+#[derive(Clone, Copy, Debug, PartialEq, Eq)]
+pub struct RelationMark {
+    pub from: u32,
+    pub kind: RelationKind,
+}
+
+/// `<`, `<=`, `>` and `>=` between sums.
+#[cycle(expr)]
+#[derive(Drop)]
+pub struct Relation {
+    pub from: u32,
+    pub first: Sum,
+    pub more: Items<(RelationMark, Sum)>,
+}
+
+#[derive(Clone, Copy, Debug, PartialEq, Eq)]
+pub enum SumKind {
+    Plus,
+    Minus,
+}
+
+#[derive(Clone, Copy, Debug, PartialEq, Eq)]
+pub struct SumMark {
+    pub from: u32,
+    pub kind: SumKind,
+}
+
+/// `+` and `-` between products.
+#[cycle(expr)]
+#[derive(Drop)]
+pub struct Sum {
+    pub from: u32,
+    pub first: Product,
+    pub more: Items<(SumMark, Product)>,
+}
+
+/// `*` between unary expressions.
+#[cycle(expr)]
+#[derive(Drop)]
+pub struct Product {
+    pub from: u32,
+    pub first: Unary,
+    /// Each with the place of its mark.
+    pub more: Items<(u32, Unary)>,
+}
+
+#[derive(Clone, Copy, Debug, PartialEq, Eq)]
+pub enum UnaryKind {
+    Minus,
+    Plus,
+    Not,
+}
+
+/// An operand, at the place of its first token.
+#[cycle(expr)]
+#[derive(Drop)]
+pub enum Unary {
+    Operator(u32, UnaryKind, Boxed<Unary>),
+    Paren(u32, Boxed<Expr>),
+    Number(u32, i128),
+    Name(Name),
+}

@@ -1,0 +1,215 @@
+//! Reads statements that hold no others, and the heads of those that do.
+
+ghost use Rattle.std.specs.Prelude.{◌≡◌};
+ghost use Rattle.c_tree.specs.Input.{Reads, peek};
+ghost use Rattle.c_tree.specs.Simple as simple_spec;
+ghost use Rattle.c_tree.specs.Stmt as stmt_spec;
+
+use crate::lists::local;
+use crate::parts::{assign, call, cond, empty_parens, nil};
+use crate::simple::{Assign, Cond};
+use crate::statements::Statements;
+use crate::stmt::{Around, First, Stmt};
+use crate::term::Term;
+use crate::tokens::Tokens;
+use std::alloc::Global;
+use thr_base::Stop;
+
+pub fn word_end(tokens: &mut Tokens<'_, '_>) -> Result<u32, Stop>
+    ensures { Reads (stmt_spec.word_end tokens.old) result tokens.new }
+{
+    empty_parens(tokens)?;
+    tokens.expect(Term::Semicolon)
+}
+
+#[tactic(auto, unfolding(crate::specs::Stmt::return_stmt))]
+pub fn return_stmt(tokens: &mut Tokens<'_, '_>) -> Result<Stmt, Stop>
+    ensures { Reads (stmt_spec.return_stmt tokens.old) result tokens.new }
+{
+    let from = tokens.take();
+    let value = if tokens.sees(Term::Semicolon) {
+        None
+    } else {
+        Some(nil(tokens)?)
+    };
+    tokens.expect(Term::Semicolon)?;
+    Ok(Stmt::Return(from, value))
+}
+
+pub fn break_stmt(tokens: &mut Tokens<'_, '_>, around: Around) -> Result<Stmt, Stop>
+    ensures { Reads (stmt_spec.break_by around tokens.old) result tokens.new }
+{
+    match around {
+        Around::Nothing => Err(tokens.refuse()),
+        Around::Loop => {
+            let from = tokens.take();
+            tokens.expect(Term::Semicolon)?;
+            Ok(Stmt::Break(from))
+        }
+    }
+}
+
+#[tactic(auto, unfolding(crate::specs::Stmt::assign_stmt))]
+pub fn assign_stmt(alloc: Global, tokens: &mut Tokens<'_, '_>, levels: u32) -> Result<Stmt, Stop>
+    ensures { Reads (stmt_spec.assign_stmt levels tokens.old) result tokens.new }
+{
+    let part = assign(alloc, tokens, levels)?;
+    tokens.expect(Term::Semicolon)?;
+    Ok(Stmt::Assign(part))
+}
+
+#[tactic(auto, unfolding(crate::specs::Stmt::call_stmt))]
+pub fn call_stmt(alloc: Global, tokens: &mut Tokens<'_, '_>, levels: u32) -> Result<Stmt, Stop>
+    ensures { Reads (stmt_spec.call_stmt levels tokens.old) result tokens.new }
+{
+    let part = call(alloc, tokens, levels)?;
+    tokens.expect(Term::Semicolon)?;
+    Ok(Stmt::Call(part))
+}
+
+#[tactic(auto, unfolding(crate::specs::Stmt::local_stmt))]
+pub fn local_stmt(alloc: Global, tokens: &mut Tokens<'_, '_>, levels: u32) -> Result<Stmt, Stop>
+    ensures { Reads (stmt_spec.local_stmt levels tokens.old) result tokens.new }
+{
+    Ok(Stmt::Local(local(alloc, tokens, levels)?))
+}
+
+#[tactic(auto, unfolding(crate::specs::Stmt::first_local))]
+fn first_local(alloc: Global, tokens: &mut Tokens<'_, '_>, levels: u32) -> Result<First, Stop>
+    ensures { Reads (stmt_spec.first_local levels tokens.old) result tokens.new }
+{
+    Ok(First::Local(local(alloc, tokens, levels)?))
+}
+
+#[tactic(auto, unfolding(crate::specs::Stmt::first_assign))]
+fn first_assign(alloc: Global, tokens: &mut Tokens<'_, '_>, levels: u32) -> Result<First, Stop>
+    ensures { Reads (stmt_spec.first_assign levels tokens.old) result tokens.new }
+{
+    let part = assign(alloc, tokens, levels)?;
+    tokens.expect(Term::Semicolon)?;
+    Ok(First::Assign(part))
+}
+
+#[tactic(auto, unfolding(crate::specs::Stmt::first_part))]
+pub fn first_part(alloc: Global, tokens: &mut Tokens<'_, '_>, levels: u32) -> Result<First, Stop>
+    ensures { Reads (stmt_spec.first_part levels tokens.old) result tokens.new }
+{
+    match tokens.peek() {
+        Term::Static | Term::Volatile | Term::Extern | Term::Int | Term::Long => {
+            first_local(alloc, tokens, levels)
+        }
+        Term::Semicolon => Ok(First::Empty(tokens.take())),
+        _ => first_assign(alloc, tokens, levels),
+    }
+}
+
+#[tactic(auto, unfolding(crate::specs::Stmt::middle_part))]
+pub fn middle_part(
+    alloc: Global,
+    tokens: &mut Tokens<'_, '_>,
+    levels: u32,
+) -> Result<Option<Cond>, Stop>
+    ensures { Reads (stmt_spec.middle_part levels tokens.old) result tokens.new }
+{
+    if tokens.sees(Term::Semicolon) {
+        Ok(None)
+    } else {
+        Ok(Some(cond(alloc, tokens, levels)?))
+    }
+}
+
+#[tactic(auto, unfolding(crate::specs::Stmt::last_part))]
+pub fn last_part(
+    alloc: Global,
+    tokens: &mut Tokens<'_, '_>,
+    levels: u32,
+) -> Result<Option<Assign>, Stop>
+    ensures { Reads (stmt_spec.last_part levels tokens.old) result tokens.new }
+{
+    if tokens.sees(Term::RightParen) {
+        Ok(None)
+    } else {
+        Ok(Some(assign(alloc, tokens, levels)?))
+    }
+}
+
+#[tactic(auto, unfolding(crate::specs::Stmt::condition))]
+pub fn condition(alloc: Global, tokens: &mut Tokens<'_, '_>, levels: u32) -> Result<Cond, Stop>
+    ensures { Reads (stmt_spec.condition levels tokens.old) result tokens.new }
+{
+    tokens.expect(Term::LeftParen)?;
+    let part = cond(alloc, tokens, levels)?;
+    tokens.expect(Term::RightParen)?;
+    Ok(part)
+}
+
+fn begins(around: Around, term: Term) -> bool
+    ensures { result ≡ stmt_spec.begins around term }
+{
+    match term {
+        Term::LeftBrace
+        | Term::Semicolon
+        | Term::Static
+        | Term::Volatile
+        | Term::Extern
+        | Term::Int
+        | Term::Long
+        | Term::Name
+        | Term::Increment
+        | Term::Decrement
+        | Term::If
+        | Term::While
+        | Term::For
+        | Term::Return
+        | Term::Assert
+        | Term::Assume
+        | Term::ReachError
+        | Term::Abort
+        | Term::Exit
+        | Term::MutexLock
+        | Term::MutexUnlock
+        | Term::MutexDestroy
+        | Term::MutexInit
+        | Term::Create
+        | Term::Join
+        | Term::AtomicBegin
+        | Term::HandleType => true,
+        Term::Break => match around {
+            Around::Loop => true,
+            Around::Nothing => false,
+        },
+        _ => false,
+    }
+}
+
+/// Where no further level may be opened.
+#[tactic(auto, unfolding(crate::specs::Stmt::no_stmt))]
+pub fn no_stmt(tokens: &mut Tokens<'_, '_>, around: Around) -> Result<Stmt, Stop>
+    ensures { Reads (stmt_spec.no_stmt around tokens.old) result tokens.new }
+{
+    if begins(around, tokens.peek()) {
+        Err(tokens.refuse_deep())
+    } else {
+        Err(tokens.refuse())
+    }
+}
+
+/// A statement, with at most `levels` levels of statements, this one included.
+pub fn stmt(
+    alloc: Global,
+    tokens: &mut Tokens<'_, '_>,
+    levels: u32,
+    around: Around,
+) -> Result<Stmt, Stop>
+    ensures { Reads (stmt_spec.stmt levels around tokens.old) result tokens.new }
+{
+    if levels == 0 {
+        return no_stmt(tokens, around);
+    }
+    Statements {
+        alloc,
+        levels: levels - 1,
+        stmt,
+    }
+    .stmt(tokens, around)
+}

@@ -1,0 +1,20 @@
+//! What the grammar of expressions says, and that reading gives just that.
+
+ghost use Rattle.std.specs.Prelude.{◌≡◌, ◌<◌, ℕ, List, Ok};
+ghost use Rattle.c_lex.specs.Tokens.{Lexeme};
+ghost use Rattle.c_tree.specs.Expr as spec;
+ghost use Rattle.c_tree.specs.Grammar.{IsExpr, binds};
+ghost use Rattle.c_tree.specs.Input.{Input, term_at};
+ghost use Rattle.c_tree.specs.declared.expr.Expr.{Expr};
+
+/// An expression is read exactly where the tokens stand for one within the levels that are left, and they stand for
+/// no two.
+pub fn expressions_are_read_exactly()
+    // What is read stands in front of what is left.
+    ensures found { (levels : ℕ) (i j : Input) (e : Expr) → spec.expr levels i ≡ Ok (e, j) → IsExpr levels e i.tokens j.tokens }
+    // What stands in front of a token that does not go on with it is read.
+    ensures only { (levels end : ℕ) (e : Expr) (ts rest : List Lexeme) → IsExpr levels e ts rest → binds (term_at rest) < 1
+        → spec.expr levels (record { tokens = ts; end = end }) ≡ Ok (e, record { tokens = rest; end = end }) }
+    // No other expression stands there.
+    ensures one { (levels : ℕ) (e f : Expr) (ts rest : List Lexeme) → IsExpr levels e ts rest → IsExpr levels f ts rest → binds (term_at rest) < 1 → e ≡ f }
+{}

@@ -1,0 +1,37 @@
+//! The tree of a C text of the profile, or the first place where no text of the profile goes on so.
+#![tactic(auto)]
+
+mod expr;
+mod heads;
+mod item;
+mod items;
+mod laws;
+mod levels;
+mod lists;
+mod operand;
+mod parts;
+mod reader;
+mod simple;
+mod skips;
+mod statements;
+mod stmt;
+mod term;
+mod tokens;
+
+pub use expr::{
+    Conjunction, Equality, EqualityKind, EqualityMark, Expr, Name, Product, Relation, RelationKind,
+    RelationMark, Sum, SumKind, SumMark, Unary, UnaryKind,
+};
+pub use item::{
+    Body, Errfn, Globals, Gname, Item, Locks, Mainfn, Mname, Proto, Start, Threadfn, Tree, Typed,
+    Untyped,
+};
+pub use laws::expressions_are_read_exactly;
+pub use reader::parse;
+pub use simple::{
+    Assign, Call, Cond, Handles, Itype, Lname, Local, Nil, Nondet, Qual, QualKind, Right,
+};
+pub use stmt::{Around, Block, First, Stmt};
+
+#[cfg(test)]
+mod tests;
