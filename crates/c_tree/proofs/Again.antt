@@ -1,16 +1,13 @@
 -- What stands in the text is read.
-use Rattle.std.proofs.Common.{◌≡◌, ℕ, zero, suc, ℤ, rules, ◌+◌, ◌-◌, ◌<◌, ◌≤◌, Bool, true, false, cond, List, [], ◌∷◌, length, drop, Option, Some, None, Result, Ok, Err, refl, sym, ap, subst, ◌∙◌, arith}
+use Rattle.std.proofs.Common.{◌≡◌, ℕ, zero, suc, ℤ, ◌+◌, ◌<◌, ◌≤◌, true, List, [], ◌∷◌, length, Option, Some, None, Ok, refl, sym, ap, ◌∙◌, arith}
 use Rattle.c_lex.specs.Tokens.{Lexeme}
 use Rattle.c_tree.specs.declared.term.Term.{Term}
 use Rattle.c_tree.specs.declared.term.Term.TheVariants as terms
 use Rattle.c_tree.specs.declared.expr.Name.{Name}
-use Rattle.c_tree.specs.declared.expr.EqualityMark.{EqualityMark}
 use Rattle.c_tree.specs.declared.expr.EqualityKind.{EqualityKind}
 use Rattle.c_tree.specs.declared.expr.EqualityKind.TheVariants as equalities
-use Rattle.c_tree.specs.declared.expr.RelationMark.{RelationMark}
 use Rattle.c_tree.specs.declared.expr.RelationKind.{RelationKind}
 use Rattle.c_tree.specs.declared.expr.RelationKind.TheVariants as relations
-use Rattle.c_tree.specs.declared.expr.SumMark.{SumMark}
 use Rattle.c_tree.specs.declared.expr.SumKind.{SumKind}
 use Rattle.c_tree.specs.declared.expr.SumKind.TheVariants as sums
 use Rattle.c_tree.specs.declared.expr.Unary.{Unary, out-Unary, roll-Unary, roll-out-Unary}
@@ -26,13 +23,12 @@ use Rattle.c_tree.specs.declared.expr.Conjunction.{Conjunction, roll-Conjunction
 use Rattle.c_tree.specs.declared.expr.Expr.{Expr, roll-Expr, out-Expr, roll-out-Expr}
 use denote.Enum.Bare.{true_same}
 use Rattle.c_tree.specs.contracts.term.Term.{the_type}
-use Rattle.c_tree.specs.Term.{same_term, term_of}
+use Rattle.c_tree.specs.Term.{same_term}
 use Rattle.c_tree.specs.Input.{Input, Outcome, Parser, and_then, peek, place, bytes, bytes_at, next, sees, expect, term_at}
-use Rattle.c_tree.specs.Chain.{mark_at, past, one_more, more_from, more_of}
+use Rattle.c_tree.specs.Chain.{mark_at, more_from, more_of}
 use Rattle.c_tree.specs.Expr as spec
 use Rattle.c_tree.specs.Grammar.{Is, Stands, StartsAt, AreMore, IsLevel, IsOrMark, IsAndMark, IsEqualityMark, IsRelationMark, IsSumMark, IsProductMark, IsProduct, IsSum, IsRelation, IsEquality, IsConjunction, IsExprOver, IsName, IsLayer, IsUnary, IsExpr, equality_term, relation_term, sum_term, sign_term, binds}
-use Rattle.c_tree.proofs.Steps.{bind_ok, ok_parts, not_err, next_shorter}
-use Rattle.c_tree.proofs.Shrinks.{Shrinks, product_shrinks, sum_shrinks, relation_shrinks, equality_shrinks, conjunction_shrinks, expr_over_shrinks, unary_shrinks}
+use Rattle.c_tree.proofs.Shrinks.{Shrinks, product_shrinks, sum_shrinks, relation_shrinks, equality_shrinks, conjunction_shrinks, unary_shrinks}
 
 -- tokens of a text that ends there
 abbrev pub at : List Lexeme → ℕ → Input

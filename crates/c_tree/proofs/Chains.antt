@@ -1,11 +1,11 @@
 -- Reading marks and items from left to right, as a loop does.
-use Rattle.std.proofs.Common.{◌≡◌, ℕ, zero, suc, ◌+◌, ◌-◌, ◌<◌, ◌≤◌, List, [], ◌∷◌, ◌++◌, length, Option, Some, None, Result, Ok, Err, refl, sym, ap, subst, ◌∙◌, append_assoc, arith}
+use Rattle.std.proofs.Common.{◌≡◌, ℕ, zero, suc, ◌<◌, ◌≤◌, List, [], ◌∷◌, ◌++◌, length, Option, Some, None, Ok, Err, refl, sym, ap, subst, ◌∙◌, append_assoc, arith}
 use Rattle.std.proofs.lemmas.List.{append-nil}
 use Rattle.thr_base.specs.declared.stops.Refusal.{Refusal}
 use Rattle.thr_base.specs.declared.stops.Stop.{Stop}
 use Rattle.thr_base.specs.declared.stops.Stop.TheVariants.{Refused, Memory}
 use Rattle.c_tree.specs.declared.term.Term.{Term}
-use Rattle.c_tree.specs.Input.{Input, Outcome, Parser, and_then, Reads, peek, place, next}
+use Rattle.c_tree.specs.Input.{Input, Outcome, Parser, and_then, Reads}
 use Rattle.c_tree.specs.Chain.{mark_at, past, one_more, more_from, more_of}
 use Rattle.c_tree.proofs.Shrinks.{Shrinks, NoMarkAtEnd, past_shorter}
 

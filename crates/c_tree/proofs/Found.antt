@@ -1,21 +1,21 @@
 -- What is read stands in the text.
-use Rattle.std.proofs.Common.{◌≡◌, ℕ, zero, suc, ℤ, rules, ◌+◌, ◌-◌, ◌<◌, ◌≤◌, Bool, true, false, cond, List, [], ◌∷◌, length, drop, Option, Some, None, Result, Ok, Err, refl, sym, ap, subst, ◌∙◌, arith}
+use Rattle.std.proofs.Common.{◌≡◌, ℕ, zero, suc, ℤ, rules, ◌<◌, Bool, true, false, cond, List, [], ◌∷◌, length, drop, Option, Some, None, Ok, Err, refl, sym, ap, subst, ◌∙◌, arith}
 use Rattle.c_lex.specs.Tokens.{Lexeme}
 use Rattle.c_tree.specs.declared.term.Term.{Term}
 use Rattle.c_tree.specs.declared.term.Term.TheVariants as terms
 use Rattle.c_tree.specs.declared.expr.Name.{Name}
-use Rattle.c_tree.specs.declared.expr.Expr.{Expr, roll-Expr, out-roll-Expr}
-use Rattle.c_tree.specs.declared.expr.Conjunction.{Conjunction, roll-Conjunction, out-roll-Conjunction}
-use Rattle.c_tree.specs.declared.expr.Equality.{Equality, roll-Equality, out-roll-Equality}
+use Rattle.c_tree.specs.declared.expr.Expr.{roll-Expr, out-roll-Expr}
+use Rattle.c_tree.specs.declared.expr.Conjunction.{roll-Conjunction, out-roll-Conjunction}
+use Rattle.c_tree.specs.declared.expr.Equality.{roll-Equality, out-roll-Equality}
 use Rattle.c_tree.specs.declared.expr.EqualityMark.{EqualityMark}
 use Rattle.c_tree.specs.declared.expr.EqualityKind.TheVariants as equalities
-use Rattle.c_tree.specs.declared.expr.Relation.{Relation, roll-Relation, out-roll-Relation}
+use Rattle.c_tree.specs.declared.expr.Relation.{roll-Relation, out-roll-Relation}
 use Rattle.c_tree.specs.declared.expr.RelationMark.{RelationMark}
 use Rattle.c_tree.specs.declared.expr.RelationKind.TheVariants as relations
-use Rattle.c_tree.specs.declared.expr.Sum.{Sum, roll-Sum, out-roll-Sum}
+use Rattle.c_tree.specs.declared.expr.Sum.{roll-Sum, out-roll-Sum}
 use Rattle.c_tree.specs.declared.expr.SumMark.{SumMark}
 use Rattle.c_tree.specs.declared.expr.SumKind.TheVariants as sums
-use Rattle.c_tree.specs.declared.expr.Product.{Product, roll-Product}
+use Rattle.c_tree.specs.declared.expr.Product.{roll-Product}
 use Rattle.c_tree.specs.declared.expr.Unary.{Unary, out-Unary}
 use Rattle.c_tree.specs.declared.expr.Unary.TheVariants as unaries
 use Rattle.c_tree.specs.contracts.term.Term.{the_type}
@@ -26,9 +26,9 @@ use Rattle.c_tree.specs.Term.{same_term}
 use Rattle.c_tree.specs.Input.{Input, Outcome, Parser, and_then, peek, place, bytes, bytes_at, next, sees, expect, term_at, refusal}
 use Rattle.c_tree.specs.Chain.{mark_at, past, one_more, more_from, more_of}
 use Rattle.c_tree.specs.Expr as spec
-use Rattle.c_tree.specs.Grammar.{Is, Stands, StartsAt, AreMore, IsLevel, IsOrMark, IsAndMark, IsEqualityMark, IsRelationMark, IsSumMark, IsProductMark, IsProduct, IsSum, IsRelation, IsEquality, IsConjunction, IsExprOver, IsName, IsLayer, IsUnary, IsExpr, sign_term}
-use Rattle.c_tree.proofs.Steps.{bind_ok, ok_parts, not_err, next_shorter}
-use Rattle.c_tree.proofs.Shrinks.{Shrinks, product_shrinks, sum_shrinks, relation_shrinks, equality_shrinks, conjunction_shrinks, expr_over_shrinks, unary_shrinks}
+use Rattle.c_tree.specs.Grammar.{Is, StartsAt, AreMore, IsLevel, IsOrMark, IsAndMark, IsEqualityMark, IsRelationMark, IsSumMark, IsProductMark, IsProduct, IsSum, IsRelation, IsEquality, IsConjunction, IsExprOver, IsName, IsLayer, IsUnary, IsExpr, sign_term}
+use Rattle.c_tree.proofs.Steps.{bind_ok, ok_parts, not_err}
+use Rattle.c_tree.proofs.Shrinks.{Shrinks, product_shrinks, sum_shrinks, relation_shrinks, equality_shrinks, conjunction_shrinks, unary_shrinks}
 
 -- what a parser gives stands in front of what it leaves
 abbrev pub Finds : {A : Type 0} → Parser A → (A → List Lexeme → List Lexeme → Type 0) → Type 0

@@ -1,5 +1,5 @@
 -- The items of a text take tokens.
-use Rattle.std.proofs.Common.{◌≡◌, ℕ, zero, suc, ◌<◌, ◌≤◌, Bool, true, false, List, [], ◌∷◌, length, Option, Some, None, Result, Ok, Err, refl, sym, ap, ◌∙◌, arith}
+use Rattle.std.proofs.Common.{ℕ, zero, suc, Bool, true, false, List, [], ◌∷◌, length, Option, Some, None, refl}
 use Rattle.c_tree.specs.declared.term.Term.{Term}
 use Rattle.c_tree.specs.declared.term.Term.TheVariants as terms
 use Rattle.c_tree.specs.declared.stmt.Around.TheVariants as arounds
@@ -16,7 +16,7 @@ use Rattle.c_tree.specs.declared.item.Untyped.TheVariants as untypeds
 use Rattle.c_tree.specs.declared.item.Body.TheVariants as bodies
 use Rattle.c_tree.specs.declared.item.Item.{Item}
 use Rattle.c_tree.specs.Term.{same_term}
-use Rattle.c_tree.specs.Input.{Input, Outcome, Parser, ◌>>=◌, ◌>>◌, pure, refuse, look, here, take_token, eat, peek, place, next, sees, expect}
+use Rattle.c_tree.specs.Input.{Parser, look, here, take_token, eat, peek, expect}
 use Rattle.c_tree.specs.Chain.{more_of}
 use Rattle.c_tree.specs.Expr as expr_spec
 use Rattle.c_tree.specs.Simple as simple_spec

@@ -1,6 +1,6 @@
 -- Each rule takes a token.
-use Rattle.std.proofs.Common.{◌≡◌, ℕ, zero, suc, ℤ, ◌+◌, ◌-◌, ◌<◌, ◌≤◌, Bool, true, false, cond, List, [], ◌∷◌, length, drop, Option, Some, None, Result, Ok, Err, refl, sym, ap, subst, ◌∙◌, ◌⊎◌, inl, inr, arith}
-use Rattle.std.proofs.lemmas.Bool.{false≢true, cases_Bool}
+use Rattle.std.proofs.Common.{◌≡◌, ℕ, zero, suc, ℤ, ◌+◌, ◌<◌, ◌≤◌, Bool, true, false, cond, List, [], length, Option, Some, None, Ok, Err, refl, sym, ap, subst, ◌∙◌, arith}
+use Rattle.std.proofs.lemmas.Bool.{false≢true}
 use Rattle.c_tree.specs.declared.term.Term.{Term}
 use Rattle.c_tree.specs.declared.term.Term.TheVariants as terms
 use Rattle.c_tree.specs.Term.{same_term}
@@ -13,7 +13,7 @@ use Rattle.c_tree.specs.declared.expr.Product.{roll-Product}
 use Rattle.c_tree.specs.declared.expr.Unary.{Unary}
 use Rattle.c_tree.specs.declared.expr.UnaryKind.{UnaryKind}
 use Rattle.c_tree.specs.declared.expr.UnaryKind.TheVariants as signs
-use Rattle.c_tree.specs.Input.{Input, Outcome, Parser, and_then, peek, place, next, sees, expect, refusal, too_deep, bytes}
+use Rattle.c_tree.specs.Input.{Input, Outcome, Parser, and_then, peek, place, next, sees, expect, refusal, bytes}
 use Rattle.c_tree.specs.Chain.{mark_at, past, one_more, more_from, more_of}
 use Rattle.c_tree.specs.Expr as spec
 use Rattle.c_tree.proofs.Steps.{bind_ok, ok_parts, not_err, next_shorter}

@@ -1,19 +1,15 @@
 -- The parts of statements take tokens, and give none back.
-use Rattle.std.proofs.Common.{◌≡◌, ℕ, zero, suc, ◌+◌, ◌-◌, ◌<◌, ◌≤◌, Bool, true, false, cond, List, [], ◌∷◌, length, drop, Option, Some, None, Result, Ok, Err, refl, sym, ap, subst, ◌∙◌, arith}
-use Rattle.std.proofs.lemmas.Bool.{false≢true}
+use Rattle.std.proofs.Common.{◌≡◌, ℕ, ◌≤◌, Bool, true, false, cond, List, [], ◌∷◌, length, drop, refl, ap, arith}
 use Rattle.c_tree.specs.declared.term.Term.{Term}
 use Rattle.c_tree.specs.declared.term.Term.TheVariants as terms
-use Rattle.c_tree.specs.declared.expr.Name.{Name}
-use Rattle.c_tree.specs.declared.simple.Right.{Right}
 use Rattle.c_tree.specs.declared.simple.Lname.{Lname}
 use Rattle.c_lex.specs.Tokens.{Lexeme}
 use Rattle.c_tree.specs.Term.{same_term}
-use Rattle.c_tree.specs.Input.{Input, Outcome, Parser, ◌>>=◌, ◌>>◌, pure, refuse, look, here, take_token, eat, and_then, peek, place, next, sees, after, expect, refusal}
-use Rattle.c_tree.specs.Chain.{mark_at, more_of}
+use Rattle.c_tree.specs.Input.{Input, Parser, ◌>>=◌, pure, refuse, look, here, take_token, eat, peek, place, next, sees, after, expect, refusal}
 use Rattle.c_tree.specs.Expr as expr_spec
 use Rattle.c_tree.specs.Simple as spec
-use Rattle.c_tree.proofs.Steps.{bind_ok, ok_parts, not_err, next_shorter}
-use Rattle.c_tree.proofs.Shrinks.{Shrinks, NeverGrows, NoMarkAtEnd, expect_shrinks, name_shrinks, more_of_le, expr_over_shrinks, unary_shrinks}
+use Rattle.c_tree.proofs.Steps.{bind_ok, ok_parts, not_err}
+use Rattle.c_tree.proofs.Shrinks.{Shrinks, NeverGrows, expect_shrinks, name_shrinks, expr_over_shrinks, unary_shrinks}
 
 -- ---- steps
 

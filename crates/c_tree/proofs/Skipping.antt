@@ -1,11 +1,10 @@
 -- Skipping tokens, as a loop does.
-use Rattle.std.proofs.Common.{◌≡◌, ℕ, zero, suc, ◌+◌, ◌<◌, ◌≤◌, Bool, true, false, cond, List, [], ◌∷◌, ◌++◌, length, reverse, Option, Some, None, Result, Ok, Err, refl, sym, ap, subst, ◌∙◌, arith}
+use Rattle.std.proofs.Common.{◌≡◌, ℕ, zero, suc, ◌≤◌, Bool, true, false, cond, List, [], ◌∷◌, length, reverse, Option, Some, None, Ok, Err, refl, sym, ap, ◌∙◌, arith}
 use Rattle.std.proofs.lemmas.List.{length-reverse}
-use Rattle.c_lex.specs.Tokens.{Lexeme}
 use Rattle.c_tree.specs.declared.term.Term.{Term}
 use Rattle.c_tree.specs.declared.term.Term.TheVariants as terms
-use Rattle.c_tree.specs.Input.{Input, Outcome, Parser, peek, place, next, refusal, term_at}
-use Rattle.c_tree.specs.Item.{open_after, skip_one, skip_from, skip_through}
+use Rattle.c_tree.specs.Input.{Input, peek, next, refusal}
+use Rattle.c_tree.specs.Item.{open_after, skip_from, skip_through}
 use Rattle.c_tree.proofs.Steps.{next_shorter}
 
 -- What is still skipped is what was to be skipped from the start.

@@ -1,10 +1,7 @@
 -- The steps of parsers, taken apart.
-use Rattle.std.proofs.Common.{◌≡◌, ℕ, zero, suc, ◌+◌, ◌-◌, ◌<◌, ◌≤◌, Bool, true, false, cond, List, [], ◌∷◌, length, drop, Option, Some, None, Result, Ok, Err, refl, sym, ap, subst, ◌∙◌, ◌⊎◌, inl, inr, arith}
-use Rattle.std.proofs.lemmas.Bool.{false≢true}
+use Rattle.std.proofs.Common.{◌≡◌, ◌+◌, List, [], ◌∷◌, length, drop, Ok, Err, refl, ap, arith}
 use Rattle.thr_base.specs.declared.stops.Refusal.{Refusal}
-use Rattle.c_tree.specs.declared.term.Term.{Term}
 use Rattle.c_tree.specs.declared.term.Term.TheVariants as terms
-use Rattle.c_tree.specs.Term.{same_term}
 use Rattle.c_tree.specs.Input.{Input, Outcome, Parser, and_then, peek, place, next, sees, expect}
 
 -- what a step that did not fail gave, and what was read behind it

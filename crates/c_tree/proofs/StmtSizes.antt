@@ -1,5 +1,5 @@
 -- Statements take tokens, and give none back.
-use Rattle.std.proofs.Common.{◌≡◌, ℕ, zero, suc, ◌+◌, ◌-◌, ◌<◌, ◌≤◌, Bool, true, false, cond, List, [], ◌∷◌, length, Option, Some, None, Result, Ok, Err, refl, sym, ap, ◌∙◌, arith}
+use Rattle.std.proofs.Common.{◌≡◌, ℕ, zero, suc, ◌<◌, ◌≤◌, Bool, true, false, cond, List, [], length, Option, Some, None, Ok, refl, sym, ap, ◌∙◌, arith}
 use Rattle.c_tree.specs.declared.term.Term.{Term}
 use Rattle.c_tree.specs.declared.term.Term.TheVariants as terms
 use Rattle.c_tree.specs.declared.expr.Name.{Name}
@@ -11,13 +11,11 @@ use Rattle.c_tree.specs.declared.stmt.First.TheVariants as firsts
 use Rattle.c_tree.specs.declared.simple.Itype.TheVariants as itypes
 use Rattle.c_tree.specs.declared.stmt.Stmt.TheVariants as stmts
 use Rattle.c_tree.specs.declared.simple.Qual.{Qual}
-use Rattle.c_tree.specs.declared.simple.Itype.{Itype}
-use Rattle.c_tree.specs.declared.simple.Lname.{Lname}
 use Rattle.c_tree.specs.declared.simple.Local.{Local}
 use Rattle.c_tree.specs.declared.simple.Handles.{Handles}
 use Rattle.c_tree.specs.declared.stmt.Around.{Around}
 use Rattle.c_tree.specs.declared.stmt.Around.TheVariants as arounds
-use Rattle.c_tree.specs.declared.stmt.Block.{Block, roll-Block}
+use Rattle.c_tree.specs.declared.stmt.Block.{roll-Block}
 use Rattle.c_tree.specs.declared.stmt.Stmt.{Stmt}
 use Rattle.c_tree.specs.Term.{same_term}
 use Rattle.c_tree.specs.Input.{Input, Outcome, Parser, ◌>>=◌, ◌>>◌, pure, refuse, refuse_deep, look, here, take_token, eat, and_then, peek, place, next, sees, expect, refusal, too_deep}
@@ -26,7 +24,7 @@ use Rattle.c_tree.specs.Many.{one_or_end, many_from, many}
 use Rattle.c_tree.specs.Expr as expr_spec
 use Rattle.c_tree.specs.Simple as spec
 use Rattle.c_tree.specs.Stmt as stmt_spec
-use Rattle.c_tree.proofs.Steps.{bind_ok, ok_parts, not_err, next_shorter}
+use Rattle.c_tree.proofs.Steps.{ok_parts, not_err, next_shorter}
 use Rattle.c_tree.proofs.Shrinks.{Shrinks, NeverGrows, expect_shrinks, name_shrinks, more_of_le}
 use Rattle.c_tree.proofs.Sizes.{weaker, pure_le, refuse_shrinks, bind_le, bind_first, bind_second, take_le, eat_le, look_le, here_le, expr_shrinks, nondet_shrinks, right_shrinks, lname_shrinks}
 

@@ -1,5 +1,5 @@
 -- What a `Tokens` shows, and what it keeps ready.
-use Rattle.std.specs.Prelude.{◌≡◌, map}
+use Rattle.std.specs.Prelude.{◌≡◌}
 use Rattle.c_lex.specs.Tokens.{views}
 use Rattle.c_tree.specs.declared.tokens.Tokens.TheInside.{Inside}
 use Rattle.c_tree.specs.Input.{Input, term_at}

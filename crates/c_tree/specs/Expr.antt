@@ -1,5 +1,5 @@
 -- How expressions are read.
-use Rattle.std.specs.Prelude.{ℕ, zero, suc, ◌^◌, ℤ, pos, not, ◌&&◌, ◌==◌, nat_lt, if◌then◌else◌, List, [], ◌∷◌, length, Option, Some, None, Ok}
+use Rattle.std.specs.Prelude.{ℕ, zero, suc, ◌^◌, ℤ, pos, not, ◌&&◌, ◌==◌, nat_lt, if◌then◌else◌, List, length, Option, Some, None}
 use Rattle.std.specs.Char.{is_ascii_digit}
 use Rattle.std.specs.List.{list_all}
 use Rattle.std.specs.Str.Parse.{digits_value}
@@ -22,7 +22,7 @@ use Rattle.c_tree.specs.declared.expr.Unary.{Unary}
 use Rattle.c_tree.specs.declared.expr.Unary.TheVariants as unaries
 use Rattle.c_tree.specs.declared.expr.UnaryKind.{UnaryKind}
 use Rattle.c_tree.specs.declared.expr.UnaryKind.TheVariants as signs
-use Rattle.c_tree.specs.Input.{Input, Parser, ◌>>=◌, ◌>>◌, pure, refuse, refuse_deep, look, here, take_token, expect, bytes, peek, place, next}
+use Rattle.c_tree.specs.Input.{Parser, ◌>>=◌, ◌>>◌, pure, refuse, refuse_deep, look, here, take_token, expect, bytes}
 use Rattle.c_tree.specs.Chain.{more_of}
 
 -- ---- marks, at their places

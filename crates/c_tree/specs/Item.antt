@@ -12,7 +12,6 @@ use Rattle.c_tree.specs.declared.item.Globals.{Globals}
 use Rattle.c_tree.specs.declared.item.Mname.{Mname}
 use Rattle.c_tree.specs.declared.item.Locks.{Locks}
 use Rattle.c_tree.specs.declared.item.Proto.{Proto}
-use Rattle.c_tree.specs.declared.item.Errfn.{Errfn}
 use Rattle.c_tree.specs.declared.item.Mainfn.{Mainfn}
 use Rattle.c_tree.specs.declared.item.Threadfn.{Threadfn}
 use Rattle.c_tree.specs.declared.item.Typed.{Typed}
@@ -24,7 +23,7 @@ use Rattle.c_tree.specs.declared.item.Body.TheVariants as bodies
 use Rattle.c_tree.specs.declared.item.Item.{Item}
 use Rattle.c_tree.specs.declared.item.Tree.{Tree}
 use Rattle.c_tree.specs.Term.{same_term}
-use Rattle.c_tree.specs.Input.{Input, Parser, Outcome, ◌>>=◌, ◌>>◌, pure, refuse, look, here, take_token, eat, expect, peek, sees}
+use Rattle.c_tree.specs.Input.{Parser, Outcome, ◌>>=◌, ◌>>◌, pure, refuse, look, here, take_token, eat, expect, peek, sees}
 use Rattle.c_tree.specs.Chain.{more_of}
 use Rattle.c_tree.specs.Many.{many}
 use Rattle.c_tree.specs.Expr.{name, number}

@@ -1,7 +1,7 @@
 -- Items up to a token that ends them.
-use Rattle.std.specs.Prelude.{ℕ, zero, suc, Bool, true, false, List, [], ◌∷◌, length, Ok}
+use Rattle.std.specs.Prelude.{ℕ, zero, suc, Bool, true, false, List, [], ◌∷◌, length}
 use Rattle.c_tree.specs.declared.term.Term.{Term}
-use Rattle.c_tree.specs.Input.{Input, Parser, ◌>>=◌, pure, refuse, sees}
+use Rattle.c_tree.specs.Input.{Parser, ◌>>=◌, pure, refuse, sees}
 
 -- nothing where the end comes, and else an item and what `others` gives
 abbrev pub one_or_end : {A : Type 0} → Parser A → Parser (List A) → Bool → Parser (List A)

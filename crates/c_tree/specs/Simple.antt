@@ -1,5 +1,5 @@
 -- How the parts of statements are read.
-use Rattle.std.specs.Prelude.{ℕ, zero, suc, Bool, true, false, List, [], ◌∷◌, ◌==◌, bytes_eq, codes, length, if◌then◌else◌, Option, Some, None, Ok}
+use Rattle.std.specs.Prelude.{ℕ, zero, suc, Bool, true, false, List, [], ◌∷◌, bytes_eq, codes, length, if◌then◌else◌, Option, Some, None}
 use Rattle.c_tree.specs.declared.term.Term.{Term}
 use Rattle.c_tree.specs.declared.term.Term.TheVariants as terms
 use Rattle.c_tree.specs.declared.expr.Name.{Name}
@@ -22,7 +22,7 @@ use Rattle.c_tree.specs.declared.simple.Itype.TheVariants as itypes
 use Rattle.c_tree.specs.declared.simple.Lname.{Lname}
 use Rattle.c_tree.specs.declared.simple.Local.{Local}
 use Rattle.c_tree.specs.declared.simple.Handles.{Handles}
-use Rattle.c_tree.specs.Input.{Input, Parser, ◌>>=◌, ◌>>◌, pure, refuse, look, here, take_token, eat, expect, bytes, peek, place, next}
+use Rattle.c_tree.specs.Input.{Parser, ◌>>=◌, ◌>>◌, pure, refuse, look, here, take_token, eat, expect, bytes, peek}
 use Rattle.c_tree.specs.Chain.{more_of, mark_at}
 use Rattle.c_tree.specs.Expr.{name, expr}
 

@@ -1,5 +1,5 @@
 -- How statements are read.
-use Rattle.std.specs.Prelude.{ℕ, zero, suc, Bool, true, false, List, [], ◌∷◌, if◌then◌else◌, Option, Some, None, Ok}
+use Rattle.std.specs.Prelude.{ℕ, zero, suc, Bool, true, false, Option, Some, None, Ok}
 use Rattle.c_tree.specs.declared.term.Term.{Term}
 use Rattle.c_tree.specs.declared.term.Term.TheVariants as terms
 use Rattle.c_tree.specs.declared.simple.Assign.{Assign}
@@ -12,7 +12,7 @@ use Rattle.c_tree.specs.declared.stmt.First.{First}
 use Rattle.c_tree.specs.declared.stmt.First.TheVariants as firsts
 use Rattle.c_tree.specs.declared.stmt.Stmt.{Stmt}
 use Rattle.c_tree.specs.declared.stmt.Stmt.TheVariants as stmts
-use Rattle.c_tree.specs.Input.{Input, Parser, ◌>>=◌, ◌>>◌, pure, refuse, refuse_deep, look, here, take_token, eat, expect, peek, sees}
+use Rattle.c_tree.specs.Input.{Parser, ◌>>=◌, ◌>>◌, pure, refuse, refuse_deep, look, take_token, eat, expect, peek, sees}
 use Rattle.c_tree.specs.Many.{many}
 use Rattle.c_tree.specs.Simple.{cond, assign, local, call, handles, nil, empty_parens}
 

@@ -1,9 +1,9 @@
-use Rattle.std.proofs.Common.{sym, ap, ◌∙◌}
+use Rattle.std.proofs.Common.{sym}
 use Rattle.std.proofs.lemmas.Result.{err_from_is_err_and}
 use Rattle.c_tree.specs.declared.term.Term.TheVariants as terms
 use Rattle.c_tree.specs.Item.{item}
 use Rattle.c_tree.proofs.ItemSizes.{item_shrinks}
-use Rattle.c_tree.proofs.ManyLoop.{IsReadTo, at_start, goes_on, stops, all_read}
+use Rattle.c_tree.proofs.ManyLoop.{at_start, goes_on, stops, all_read}
 use Rattle.c_tree.proofs.items.items.Goals as goal
 
 pub items-init : goal.items-init

@@ -1,10 +1,9 @@
-use Rattle.std.proofs.Common.{◌≡◌, refl, sym, subst}
+use Rattle.std.proofs.Common.{refl}
 use Rattle.std.proofs.lemmas.Result.{err_from_is_err_and}
 use Rattle.c_tree.specs.Simple as simple_spec
 use Rattle.c_tree.specs.Item as spec
-use Rattle.c_tree.specs.Expr as expr_spec
 use Rattle.c_tree.proofs.ItemSizes.{gname_shrinks}
-use Rattle.c_tree.proofs.Chains.{IsReadTo, at_start, next_read, next_shrinks, stops, all_read}
+use Rattle.c_tree.proofs.Chains.{at_start, next_read, next_shrinks, stops, all_read}
 use Rattle.c_tree.proofs.items.more_gnames.Goals as goal
 
 pub loop-mark-init : goal.loop-mark-init

@@ -1,4 +1,4 @@
-use Rattle.std.proofs.Common.{◌≡◌, sym, ◌∙◌}
+use Rattle.std.proofs.Common.{sym, ◌∙◌}
 use Rattle.c_tree.proofs.Steps.{ok_parts}
 use Rattle.c_tree.proofs.Found.{expr_found}
 use Rattle.c_tree.proofs.Again.{expr_again}

@@ -1,5 +1,4 @@
-use Rattle.std.proofs.Common.{sym}
-use Rattle.c_tree.proofs.Quals.{IsReadTo, at_start, goes_on, is_shorter, all_read}
+use Rattle.c_tree.proofs.Quals.{at_start, goes_on, is_shorter, all_read}
 use Rattle.c_tree.proofs.lists.quals.Goals as goal
 
 pub loop-mark-init : goal.loop-mark-init
