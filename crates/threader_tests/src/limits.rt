@@ -11,7 +11,7 @@ fn times(alloc: Global, count: u32, text: &str) -> Result<String, AllocError> {
     Ok(all)
 }
 
-/// The status, where a function's body has so many fronts, what is inside, and as many backs.
+/// So many times what the first two words say, round what the third says, is a function's body.
 fn status_of(alloc: Global, count: u32, front: &str, back: &str, inside: &str) -> Result<u8, Fail> {
     let fronts = times(alloc, count, front)?;
     let backs = times(alloc, count, back)?;
@@ -23,9 +23,9 @@ fn status_of(alloc: Global, count: u32, front: &str, back: &str, inside: &str) -
     Ok(status)
 }
 
+/// How often, in front, behind and inside: the last count at which the body is accepted.
 #[test]
 fn bodies_have_limits(rt: HostRuntime) -> Result<(), Fail> {
-    // the greatest count that is accepted, the front, the back, and what is inside
     let cases = [
         // 128 locations: one for each action, the failing one, and the exit
         (126, "x = 1; ", "", ""),
