@@ -5,13 +5,12 @@ use Rattle.std.specs.Option.{option_map}
 use Rattle.std.proofs.lemmas.Int.{ints}
 use Rattle.std.specs.Int.{int_signum}
 use Rattle.std.specs.List.{AllByRecursion}
-use Rattle.lin_rows.specs.System.{System}
+use Rattle.lin_rows.specs.System.{System, HasWidths}
 use Rattle.farkas_cert.specs.Cert.{Pairs}
 use Rattle.farkas_cert.specs.Reduced.{IsReduced}
 use Rattle.lin_rows.specs.Gcd.{gcd}
 use Rattle.farkas_cert.specs.Divided.{over}
 use Rattle.farkas_cert.specs.Line.{Line, coefficient_at, given_lines, is_false, has_variable, refuting, listed, is_nonzero, made_line, lowest_column, lowest_of}
-use Rattle.farkas_cert.specs.Columns.{HasWidths}
 use Rattle.farkas_cert.specs.Proof.{Proves, overflow_of}
 use Rattle.farkas_cert.specs.BackSubstitution.{RationalPoint, Kept, Solved, Bounded, set_column}
 use Rattle.farkas_cert.specs.Elimination.{Outcome, Refuted, Point, Leaves, Work, Next, Goes, Ends, every, refuted, tested, tested_by, follows, without_equality, substituted, equality_stage, paired, positives, negatives, with_column, without_column, pairs_at, are_too_many, pair_stage, taken_out, taken_out_by, stage, then_tested, point_from, or_leaves, or_ends, goes_on, stages, begun, outcome_of, outcome_within}

@@ -6,9 +6,8 @@ use Rattle.std.specs.List.{AllByRecursion}
 use Rattle.std.proofs.lemmas.Int.{ints}
 use Rattle.std.proofs.lemmas.List.{length-replicate}
 use Rattle.lin_rows.specs.Row.{Row, product_of, MeetsOver}
-use Rattle.lin_rows.specs.System.{System, IsRationalPoint}
+use Rattle.lin_rows.specs.System.{System, HasWidths, IsRationalPoint}
 use Rattle.farkas_cert.specs.Line.{Line, given_line, given_lines, coefficient_at, bound_of, is_nonzero, is_false, fails, has_variable, lowest_column, lowest_of, refuting, listed}
-use Rattle.farkas_cert.specs.Columns.{HasWidths}
 use Rattle.farkas_cert.specs.Proof.{overflow_of}
 use Rattle.farkas_cert.specs.BackSubstitution.{RationalPoint, Fraction, Kept, Solved, Bounded, bound_on, bounds_from, chosen, assigned, set_column}
 use Rattle.farkas_cert.specs.Elimination.{Outcome, Refuted, Point, Leaves, Work, Next, Goes, Ends, every, refuted, tested, tested_by, follows, without_equality, substituted, equality_stage, with_column, without_column, positives, negatives, pairs_at, are_too_many, pair_stage, taken_out, taken_out_by, stage, then_tested, or_leaves, point_from, point_of, or_ends, goes_on, stages, begun, outcome_of, outcome_within}

@@ -7,10 +7,10 @@ use Rattle.std.specs.Option.{option_map_or}
 use Rattle.std.specs.List.{AllByRecursion}
 use Rattle.thr_base.specs.Number.{fits}
 use Rattle.lin_rows.specs.Row.{Row, scaled, sum_of}
-use Rattle.lin_rows.specs.System.{System}
+use Rattle.lin_rows.specs.System.{System, HasWidths}
 use Rattle.farkas_cert.specs.Cert.{Pairs, InOrder, AllowsAt, IsContradiction, row_numbered, add_weighted, weighted_sum}
 use Rattle.farkas_cert.specs.Proof.{products, numbers_of, first_unfit, overflow_of}
-use Rattle.farkas_cert.specs.Columns.{added, column_from, earlier, HasWidths}
+use Rattle.farkas_cert.specs.Columns.{added, column_from, earlier}
 use Rattle.farkas_cert.specs.Weighing.{weighed_with, weighed_to, is_below_zero, answer_of, answered}
 use Rattle.farkas_cert.specs.Answer.{IsCertAnswer}
 use Rattle.farkas_cert.specs.declared.columns.Weighed.{Weighed}

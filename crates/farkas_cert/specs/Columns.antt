@@ -12,10 +12,6 @@ abbrev pub perhaps_denying : System → Option Row → System
 perhaps_denying system None = system
 perhaps_denying system (Some atom) = denying system atom
 
--- Each row has one coefficient per column.
-abbrev pub HasWidths : System → Type 0
-HasWidths system = AllByRecursion (λ row. length row.coefficients ≡ system.columns) system.rows
-
 -- a number of a row, the bound as the last
 abbrev pub number_at : Option Row → ℕ → ℤ
 number_at row column = slice_index_or (numbers_of row) column (pos 0)

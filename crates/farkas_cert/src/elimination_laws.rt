@@ -1,7 +1,6 @@
 ghost use Rattle.std.specs.Prelude.{◌≡◌, ℕ, ◌≤◌, ℤ, List};
-ghost use Rattle.lin_rows.specs.System.{System, IsRationalPoint};
+ghost use Rattle.lin_rows.specs.System.{System, HasWidths, IsRationalPoint};
 ghost use Rattle.farkas_cert.specs.Cert.{Pairs};
-ghost use Rattle.farkas_cert.specs.Columns.{HasWidths};
 ghost use Rattle.farkas_cert.specs.Elimination.{Refuted, Point, outcome_of, outcome_within};
 ghost use Rattle.farkas_cert.specs.Proof.{Proves};
 ghost use Rattle.farkas_cert.specs.Reduced.{IsReduced};

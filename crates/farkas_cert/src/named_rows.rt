@@ -1,9 +1,10 @@
 ghost use Rattle.std.specs.Prelude.{◌≡◌, ◌≤◌, ◌↔◌, length, Some, option_map, IsTrue, IsSome};
+ghost use Rattle.lin_rows.specs.System.{HasWidths};
 ghost use Rattle.lin_rows.specs.View.{row_of};
 ghost use Rattle.lin_rows.specs.Atom.{negation};
 ghost use Rattle.farkas_cert.specs.Cert.{AllowsAt, row_numbered};
 ghost use Rattle.farkas_cert.specs.Proof.{denying};
-ghost use Rattle.farkas_cert.specs.Columns.{number_at, HasWidths};
+ghost use Rattle.farkas_cert.specs.Columns.{number_at};
 
 use lin_rows::{Atom, RowView, RowsView};
 use std::marker::Model;

@@ -156,3 +156,8 @@ gcd_of-below n xs p all = gcd_onto-below 0 n xs p all
 -- The divisor of numbers that fit fits.
 pub gcd_of-fits : (xs : List ℤ) → AllByRecursion Fits xs → gcd_of xs < 2 ^ 127
 gcd_of-fits xs all = gcd_of-below (2 ^ 127) xs (lit< tt) (AllByRecursion-weaken Fits (λ x. unsigned_abs x < 2 ^ 127) unsigned_abs-below xs all)
+
+-- From 1 on the divisor stays 1.
+pub gcd_onto-one : (xs : List ℤ) → fold (λ g x. gcd (unsigned_abs x) g) 1 xs ≡ 1
+gcd_onto-one [] = refl
+gcd_onto-one (x ∷ xs) = gcd_onto-one xs

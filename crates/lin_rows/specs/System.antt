@@ -16,6 +16,10 @@ pub record IsRowOver (columns : ℕ) (row : Row) : Type 0 where
   pub width : length row.coefficients ≡ columns
   pub fits : RowFits row
 
+-- Each row has one coefficient per column.
+abbrev pub HasWidths : System → Type 0
+HasWidths system = AllByRecursion (λ row. length row.coefficients ≡ system.columns) system.rows
+
 -- What is known of each system that a program holds: its rows are over its columns, and no count is too great.
 pub record IsWellFormed (system : System) : Type 0 where
   pub columns : system.columns < 2 ^ 32

@@ -60,7 +60,7 @@ fn opposite(number: i128) -> i128
 }
 
 /// The numbers with the other signs.
-fn opposites_of(alloc: Global, numbers: &[i128]) -> Result<Vec<i128>, AllocError>
+pub fn opposites_of(alloc: Global, numbers: &[i128]) -> Result<Vec<i128>, AllocError>
     requires { AllByRecursion Fits numbers.now }
     ensures { IfOk result (λ opposites. opposites.items ≡ map neg_ℤ numbers.now) }
 {

@@ -22,10 +22,14 @@ fn common_divisor(a: u128, b: u128) -> u128
 fn size_of_divisor(numbers: &[i128]) -> u128
     ensures { result ≡ gcd_of numbers.now }
 {
-    numbers.iter().fold(
-        0,
-        |divisor, number| common_divisor(number.unsigned_abs(), divisor),
-    )
+    let mut divisor = 0;
+    'numbers: for number in numbers {
+        if divisor == 1 {
+            return 1;
+        }
+        divisor = common_divisor(number.unsigned_abs(), divisor);
+    }
+    divisor
 }
 
 /// The greatest common divisor as a number that fits, as it does where all numbers do.

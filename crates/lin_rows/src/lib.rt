@@ -10,7 +10,8 @@ mod normal_form;
 mod row;
 mod rows;
 
-pub use atom::{Atom, negate};
+pub use atom::{Atom, negate, opposites_of};
+pub use divisor::{divisor_of, floor_of};
 pub use exact::{product_if_fits, sum_if_fits};
 pub use normal_form::{NormalForm, NormalStop, normal};
 pub use row::RowView;
