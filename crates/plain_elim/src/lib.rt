@@ -1,0 +1,13 @@
+//! The elimination as code: it takes the columns of a system of rows one after another out of its rows, and ends with a
+//! certificate that refutes the system, with a rational point of it, or where a number does not fit or rows are too many. The
+//! layers above learn that the answer is exactly that of the written definition.
+#![tactic(auto)]
+
+mod elimination;
+mod kept;
+mod line;
+mod point;
+mod stage;
+mod work;
+
+pub use elimination::decide;
