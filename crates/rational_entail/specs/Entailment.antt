@@ -1,0 +1,40 @@
+-- What the answers of the solver say.
+use Rattle.std.specs.Prelude.{◌≡◌, ℕ, Option, Some, None, ⊤}
+use Rattle.lin_rows.specs.Row.{Row}
+use Rattle.lin_rows.specs.System.{System, IsRationalPoint}
+use Rattle.farkas_cert.specs.Proof.{Entails, denying}
+use Rattle.farkas_cert.specs.Elimination.{Outcome, Refuted, Point, Leaves, outcome_of}
+use Rattle.farkas_cert.specs.declared.answers.LeaveKind.{LeaveKind}
+use Rattle.farkas_cert.specs.declared.answers.Decided.{Decided}
+use Rattle.farkas_cert.specs.declared.answers.Decided.TheVariants as decided
+use Rattle.plain_elim.specs.Decision.{IsCertificate}
+use Rattle.rational_entail.specs.declared.denial.Entailed.{Entailed}
+use Rattle.rational_entail.specs.declared.denial.Entailed.TheVariants as entailed
+
+-- the stage and the kind with which an outcome leaves, if it does
+abbrev pub left_by : Outcome → Option (ℕ × LeaveKind)
+left_by (Refuted pairs) = None
+left_by (Point x d) = None
+left_by (Leaves stage kind) = Some (stage, kind)
+
+-- the stage and the kind with which an answer leaves the rows undecided, if it does
+abbrev pub left_in : Decided → Option (ℕ × LeaveKind)
+left_in (decided.Refuted cert) = None
+left_in (decided.Point x d) = None
+left_in (decided.Leaves stage kind) = Some (stage, kind)
+
+-- The answer leaves exactly where the elimination of the system does, with its stage and kind.
+abbrev pub LeavesAlike : System → Decided → Type 0
+LeavesAlike system answer = left_in answer ≡ left_by (outcome_of system)
+
+-- the answer on the rows with an atom's negation, as one on the rows that it denies
+abbrev pub decided_in : Entailed → Decided
+decided_in (entailed.Yes cert) = decided.Refuted cert
+decided_in (entailed.No x d) = decided.Point x d
+decided_in (entailed.Leaves stage kind) = decided.Leaves stage kind
+
+-- What is answered of an atom holds: it is entailed, or it is not; where the elimination left, nothing is said.
+abbrev pub Says : System → Row → Entailed → Type 0
+Says system atom (entailed.Yes cert) = Entails system atom
+Says system atom (entailed.No x d) = ¬ Entails system atom
+Says system atom (entailed.Leaves stage kind) = ⊤
