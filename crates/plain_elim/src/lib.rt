@@ -11,3 +11,6 @@ mod stage;
 mod work;
 
 pub use elimination::decide;
+
+#[cfg(test)]
+mod tests;
