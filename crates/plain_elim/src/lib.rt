@@ -4,6 +4,7 @@
 #![tactic(auto)]
 
 mod elimination;
+mod fraction;
 mod kept;
 mod line;
 mod point;
