@@ -1,1 +1,2 @@
 pub mod PointFractions
+pub mod PointColumns

@@ -8,6 +8,7 @@ mod fraction;
 mod kept;
 mod line;
 mod point;
+mod rational_point;
 mod stage;
 mod work;
 
