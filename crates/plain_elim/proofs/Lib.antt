@@ -1,2 +1,3 @@
 pub mod PointFractions
 pub mod PointColumns
+pub mod PointBounds

@@ -3,6 +3,7 @@
 //! layers above learn that the answer is exactly that of the written definition.
 #![tactic(auto)]
 
+mod bounds;
 mod elimination;
 mod fraction;
 mod kept;
