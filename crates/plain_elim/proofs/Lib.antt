@@ -1,3 +1,4 @@
 pub mod PointFractions
 pub mod PointColumns
 pub mod PointBounds
+pub mod PointStages

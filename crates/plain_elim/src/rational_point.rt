@@ -91,7 +91,8 @@ impl RationalPoint {
     fn assigned_by(self, column: u32, value: i128, share: i128, scale: i128) -> Option<RationalPoint>
         requires within { column < length self.numerators }
         requires positive { pos 0 <ℤ scale }
-        ensures { result ≡ specs.assigned_by column self value share scale }
+        ensures point { result ≡ specs.assigned_by column self value share scale }
+        ensures width { IfSome result (λ next. length next.numerators ≡ length self.numerators) }
     {
         let number = product_if_fits(value, share)?;
         let denominator = product_if_fits(self.denominator, scale)?;
@@ -108,7 +109,8 @@ impl RationalPoint {
     /// Sets a column to a value, over the least denominator that both have in common.
     pub fn assigned(self, column: u32, value: Fraction) -> Option<RationalPoint>
         requires { column < length self.numerators }
-        ensures { result ≡ specs.assigned column self value }
+        ensures point { result ≡ specs.assigned column self value }
+        ensures width { IfSome result (λ next. length next.numerators ≡ length self.numerators) }
     {
         let divisor = divisor_of(&[value.denominator(), self.denominator()]);
         let share = floor_of(self.denominator(), divisor);

@@ -33,6 +33,6 @@ assigned_by-requires-clause-positive c =
     let parts = IsFraction-parts t s t_fits s_fits positive in
     rw scale parts.positive
 
-pub returns : goal.returns
+pub returns-clause-point : goal.returns-clause-point
 unfolding assigned
-returns c = search rules
+returns-clause-point c = search rules

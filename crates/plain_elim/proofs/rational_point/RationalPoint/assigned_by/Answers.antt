@@ -11,11 +11,11 @@ use Rattle.plain_elim.proofs.PointFractions.{fitting_is}
 use Rattle.plain_elim.proofs.PointColumns.{assigned_by-steps, assigned_by-made, IsPoint-set}
 use Rattle.plain_elim.proofs.rational_point.RationalPoint.assigned_by.Goals as goal
 
-pub returns-in_err-number : goal.returns-in_err-number
-returns-in_err-number c = search (rules, assigned_by-steps c.args.column c.args.self c.args.value c.args.share c.args.scale c.requires.within)
+pub returns-in_err-number-clause-point : goal.returns-in_err-number-clause-point
+returns-in_err-number-clause-point c = search (rules, assigned_by-steps c.args.column c.args.self c.args.value c.args.share c.args.scale c.requires.within)
 
-pub returns-then-not-set_over : goal.returns-then-not-set_over
-returns-then-not-set_over c = search (rules, assigned_by-steps c.args.column c.args.self c.args.value c.args.share c.args.scale c.requires.within)
+pub returns-then-not-set_over-clause-point : goal.returns-then-not-set_over-clause-point
+returns-then-not-set_over-clause-point c = search (rules, assigned_by-steps c.args.column c.args.self c.args.value c.args.share c.args.scale c.requires.within)
 
 pub invariant_of-result : goal.invariant_of-result
 invariant_of-result c =
@@ -31,8 +31,8 @@ invariant_of-result c =
     (IsPoint-set (slice_set (scaled c.args.scale point.numerators) c.args.column c.in_ok-number.number) (with_items c.self.inside.numerators c.set_over.new.numbers).items c.in_ok-denominator.denominator point.denominator c.args.scale
     (items ∙ made) fit positive c.requires.positive denominator)
 
-pub returns : goal.returns
-returns c =
+pub returns-clause-point : goal.returns-clause-point
+returns-clause-point c =
     let point = c.args.self in
     let number : Some c.in_ok-number.number ≡ fitting (c.args.value *ℤ c.args.share) = search rules in
     let denominator : Some c.in_ok-denominator.denominator ≡ fitting (point.denominator *ℤ c.args.scale) = search rules in
