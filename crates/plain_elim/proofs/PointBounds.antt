@@ -1,20 +1,20 @@
 -- The bounds that lines put on a column, step by step.
-use Rattle.std.proofs.Common.{◌≡◌, ℕ, zero, suc, ◌<◌, ◌≤◌, refl, sym, ap, ◌∙◌, arith, List, [], ◌∷◌, take, drop, length, get_or, Bool, true, false, cond, Option, Some, None}
+use Rattle.std.proofs.Common.{◌≡◌, ℕ, zero, suc, ◌<◌, ◌≤◌, refl, ap, ◌∙◌, arith, List, [], ◌∷◌, take, drop, length, get_or, Bool, true, false, cond, Option, Some, None}
 use Rattle.std.specs.Prelude.{ℤ, pos, negsuc, neg_ℤ, ◌+ℤ◌, ◌-ℤ◌, ◌*ℤ◌, ◌<ℤ◌, slice_set, ◌&&◌}
 use Rattle.std.specs.Option.{option_and_then}
 use Rattle.std.proofs.lemmas.List.{length-set, length-take-le}
 use Rattle.std.proofs.Math.ListN.{drop_of_length-le}
-use Rattle.thr_base.specs.Number.{Fits, fits}
+use Rattle.thr_base.specs.Number.{fits}
 use Rattle.lin_rows.specs.Exact.{fitting}
 use Rattle.farkas_cert.specs.Line.{Line, is_nonzero}
 use Rattle.farkas_cert.specs.BackSubstitution.{RationalPoint, Bounds, minus_products, bounds_from}
 use Rattle.lin_rows.proofs.Integers.{neg-mul_ℤ}
 use Rattle.farkas_cert.proofs.Integers.{linear, mul-positive_ℤ}
-use Rattle.plain_elim.specs.PointParts.{difference_by, narrowed_by}
+use Rattle.plain_elim.specs.PointParts.{minus_product, narrowed_by}
 
 -- ---- a number less products
-pub difference_by-some : (t a n p : ℤ) → Some p ≡ fitting (a *ℤ n) → fitting (t +ℤ neg_ℤ p) ≡ difference_by t a n
-difference_by-some t a n p e = at (fits (a *ℤ n)) e where
+pub minus_product-some : (t a n p : ℤ) → Some p ≡ fitting (a *ℤ n) → fitting (t +ℤ neg_ℤ p) ≡ minus_product t a n
+minus_product-some t a n p e = at (fits (a *ℤ n)) e where
   at : (b : Bool) → Some p ≡ cond b (Some (a *ℤ n)) None → fitting (t +ℤ neg_ℤ p) ≡ cond (b && fits (t -ℤ a *ℤ n)) (Some (t -ℤ a *ℤ n)) None
   at true e = let same : p ≡ a *ℤ n = cc in ap (λ q. fitting (t +ℤ neg_ℤ q)) same
   at false e = absurd cc
@@ -25,7 +25,7 @@ and_then_cond false f v = refl
 
 minus_products-step : (t : ℤ) (xs ns : List ℤ) (i : ℕ) → i < length xs → i < length ns
     → minus_products t (drop i xs) (drop i ns)
-    ≡ option_and_then (λ u. minus_products u (drop (suc i) xs) (drop (suc i) ns)) (difference_by t (get_or xs i (pos 0)) (get_or ns i (pos 0)))
+    ≡ option_and_then (λ u. minus_products u (drop (suc i) xs) (drop (suc i) ns)) (minus_product t (get_or xs i (pos 0)) (get_or ns i (pos 0)))
 minus_products-step t [] ns i h k = absurd (omega arith)
 minus_products-step t (x ∷ xs) [] i h k = absurd (omega arith)
 minus_products-step t (x ∷ xs) (n ∷ ns) zero h k =
@@ -33,11 +33,11 @@ minus_products-step t (x ∷ xs) (n ∷ ns) zero h k =
 minus_products-step t (x ∷ xs) (n ∷ ns) (suc i) h k = minus_products-step t xs ns i (omega arith) (omega arith)
 
 pub minus_products-stops : (t : ℤ) (xs ns : List ℤ) (i : ℕ) → i < length xs → i < length ns
-    → None ≡ difference_by t (get_or xs i (pos 0)) (get_or ns i (pos 0)) → minus_products t (drop i xs) (drop i ns) ≡ None
+    → None ≡ minus_product t (get_or xs i (pos 0)) (get_or ns i (pos 0)) → minus_products t (drop i xs) (drop i ns) ≡ None
 minus_products-stops t xs ns i h k e = minus_products-step t xs ns i h k ∙ rw (← e) refl
 
 pub minus_products-goes : (t u : ℤ) (xs ns : List ℤ) (i : ℕ) → i < length xs → i < length ns
-    → Some u ≡ difference_by t (get_or xs i (pos 0)) (get_or ns i (pos 0))
+    → Some u ≡ minus_product t (get_or xs i (pos 0)) (get_or ns i (pos 0))
     → minus_products t (drop i xs) (drop i ns) ≡ minus_products u (drop (suc i) xs) (drop (suc i) ns)
 minus_products-goes t u xs ns i h k e = minus_products-step t xs ns i h k ∙ rw (← e) refl
 

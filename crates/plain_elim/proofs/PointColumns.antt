@@ -1,5 +1,5 @@
 -- The numerators of a point while a column is set.
-use Rattle.std.proofs.Common.{◌≡◌, ℕ, zero, suc, ◌<◌, refl, sym, ap, subst, ◌∙◌, arith, List, [], ◌∷◌, ◌++◌, take, drop, length, get_or, map, Bool, true, false, cond, Option, Some, None}
+use Rattle.std.proofs.Common.{◌≡◌, ℕ, zero, suc, ◌<◌, refl, sym, ap, subst, ◌∙◌, arith, List, [], ◌∷◌, ◌++◌, take, drop, length, get_or, Bool, true, false, cond, Option, Some, None}
 use Rattle.std.specs.Prelude.{ℤ, pos, ◌*ℤ◌, ◌<ℤ◌, slice_set, ◌&&◌}
 use Rattle.std.specs.Option.{option_and_then}
 use Rattle.thr_base.specs.Number.{Fits, fits}

@@ -1,5 +1,5 @@
 -- Fractions as pairs of numbers that fit.
-use Rattle.std.proofs.Common.{◌≡◌, ℕ, zero, suc, refl, ap, ◌∙◌, sym, subst, arith, List, [], ◌∷◌, Bool, true, false, Some, None, cond}
+use Rattle.std.proofs.Common.{◌≡◌, refl, sym, subst, arith, [], ◌∷◌, Bool, true, false, Some, None, cond}
 use Rattle.std.specs.Prelude.{ℤ, pos, negsuc, neg_ℤ, ◌<ℤ◌, unsigned_abs}
 use Rattle.std.specs.Int.{int_div_euclid}
 use Rattle.std.proofs.lemmas.Int.{ints}
@@ -7,7 +7,7 @@ use Rattle.thr_base.specs.Number.{Fits, fits}
 use Rattle.lin_rows.specs.Exact.{fitting}
 use Rattle.lin_rows.specs.Gcd.{gcd, gcd_of}
 use Rattle.lin_rows.proofs.Numbers.{Fits-int_div_euclid}
-use Rattle.farkas_cert.specs.BackSubstitution.{Fraction, fraction}
+use Rattle.farkas_cert.specs.BackSubstitution.{fraction}
 use Rattle.farkas_cert.proofs.ColumnSums.{fits-true}
 use Rattle.farkas_cert.proofs.Divisors.{gcd-IsGcd, over-exact}
 use Rattle.farkas_cert.proofs.Eliminates.{gcd_positive, positive_abs}

@@ -1,5 +1,5 @@
 -- The columns of the stages, set one after another from the latest on.
-use Rattle.std.proofs.Common.{◌≡◌, ℕ, suc, refl, sym, ap, ◌∙◌, arith, List, [], ◌∷◌, ◌++◌, map, reverse, length, Some, None}
+use Rattle.std.proofs.Common.{◌≡◌, ℕ, suc, refl, ap, ◌∙◌, arith, List, [], ◌∷◌, ◌++◌, map, reverse, length, Some, None}
 use Rattle.std.specs.List.{AllByRecursion}
 use Rattle.std.proofs.lemmas.List.{reverse-append, map-append, length-map, length-reverse}
 use Rattle.farkas_cert.specs.BackSubstitution.{RationalPoint, Kept, set_column}

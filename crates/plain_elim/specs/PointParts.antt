@@ -19,8 +19,8 @@ pub record IsPoint (numerators : List ℤ) (denominator : ℤ) : Type 0 where
   pub denominator_fits : Fits denominator
 
 -- t less a times n, where the product and the difference fit
-abbrev pub difference_by : ℤ → ℤ → ℤ → Option ℤ
-difference_by t a n = cond (fits (a *ℤ n) && fits (t -ℤ a *ℤ n)) (Some (t -ℤ a *ℤ n)) None
+abbrev pub minus_product : ℤ → ℤ → ℤ → Option ℤ
+minus_product t a n = cond (fits (a *ℤ n) && fits (t -ℤ a *ℤ n)) (Some (t -ℤ a *ℤ n)) None
 
 -- the bounds with that of one more line
 abbrev pub narrowed_by : ℕ → ℕ → RationalPoint → Line → Bounds → Option Bounds

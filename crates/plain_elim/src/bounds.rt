@@ -1,11 +1,11 @@
-ghost use Rattle.std.specs.Prelude.{◌≡◌, ◌<◌, ◌≤◌, ℤ, pos, ◌-ℤ◌, ◌*ℤ◌, length, take, slice_set, slice_index_or, IfSome};
+ghost use Rattle.std.specs.Prelude.{◌≡◌, ◌<◌, ◌≤◌, pos, ◌*ℤ◌, length, take, slice_set, slice_index_or, IfSome};
 ghost use Rattle.std.specs.List.{AllByRecursion};
 ghost use Rattle.thr_base.specs.Number.{Fits};
 ghost use Rattle.lin_rows.specs.Exact.{fitting};
 ghost use Rattle.farkas_cert.specs.Line.{coefficient_at};
 ghost use Rattle.farkas_cert.specs.BackSubstitution as specs;
 ghost use Rattle.plain_elim.specs.Held.{BoundsColumn};
-ghost use Rattle.plain_elim.specs.PointParts.{difference_by, narrowed_by};
+ghost use Rattle.plain_elim.specs.PointParts.{minus_product, narrowed_by};
 
 use crate::fraction::Fraction;
 use crate::line::Line;
@@ -40,9 +40,9 @@ fn number_beside(numbers: &[i128], columns: usize, column: usize, place: usize) 
 }
 
 /// A number less a product. A product with 0 is not made.
-fn less_product(total: i128, coefficient: i128, number: i128) -> Option<i128>
+fn minus_product(total: i128, coefficient: i128, number: i128) -> Option<i128>
     requires { Fits total }
-    ensures difference { result ≡ difference_by total coefficient number }
+    ensures difference { result ≡ minus_product total coefficient number }
     ensures fits { IfSome result Fits }
 {
     if coefficient == 0 {
@@ -53,7 +53,7 @@ fn less_product(total: i128, coefficient: i128, number: i128) -> Option<i128>
 }
 
 /// A number less the products of the coefficients with the numerators, but that of one column.
-fn less_products(total: i128, numbers: &[i128], column: u32, numerators: &[i128]) -> Option<i128>
+fn minus_products(total: i128, numbers: &[i128], column: u32, numerators: &[i128]) -> Option<i128>
     requires fits { Fits total }
     requires width { length numerators.now ≤ length numbers.now }
     ensures difference { result ≡ specs.minus_products total (slice_set (take (length numerators.now) numbers.now) column (pos 0)) numerators.now }
@@ -62,7 +62,7 @@ fn less_products(total: i128, numbers: &[i128], column: u32, numerators: &[i128]
     let mut left = total;
     'places: for place in 0..numerators.len() {
         let coefficient = number_beside(numbers, numerators.len(), column as usize, place);
-        left = less_product(left, coefficient, numerators[place])?;
+        left = minus_product(left, coefficient, numerators[place])?;
     }
     Some(left)
 }
@@ -85,7 +85,7 @@ pub fn bound_on(columns: u32, column: u32, point: &RationalPoint, line: &Line) -
 {
     let denominator = point.denominator();
     let bound = over_denominator(line, columns, denominator)?;
-    let left = less_products(bound, line.numbers(), column, point.numerators())?;
+    let left = minus_products(bound, line.numbers(), column, point.numerators())?;
     let factor = over_denominator(line, column, denominator)?;
     Some(Fraction::of(left, factor))
 }
@@ -113,30 +113,33 @@ fn lesser_of(best: Option<Fraction>, other: Fraction) -> Option<Fraction>
 }
 
 impl Bounds {
-    fn none() -> Bounds
-        ensures { result ≡ record { lower = None; upper = None } }
-    {
-        Bounds {
-            lower: None,
-            upper: None,
-        }
-    }
-
     /// With one more upper or lower bound.
     fn narrowed(self, is_upper: bool, bound: Fraction) -> Option<Bounds>
         ensures { result ≡ specs.narrowed is_upper self bound }
     {
         if is_upper {
             let upper = Some(lesser_of(self.upper, bound)?);
-            Some(Bounds { lower: self.lower, upper })
+            Some(Bounds {
+                lower: self.lower,
+                upper,
+            })
         } else {
             let lower = Some(greater_of(self.lower, bound)?);
-            Some(Bounds { lower, upper: self.upper })
+            Some(Bounds {
+                lower,
+                upper: self.upper,
+            })
         }
     }
 
     /// With the bound of one more line.
-    fn with_line(self, columns: u32, column: u32, point: &RationalPoint, line: &Line) -> Option<Bounds>
+    fn with_line(
+        self,
+        columns: u32,
+        column: u32,
+        point: &RationalPoint,
+        line: &Line,
+    ) -> Option<Bounds>
         requires bounds { BoundsColumn columns column line.now }
         requires width { length point.now.numerators ≡ columns }
         ensures { result ≡ narrowed_by columns column point.now line.now self }
@@ -151,7 +154,10 @@ impl Bounds {
         requires width { length point.now.numerators ≡ columns }
         ensures { result ≡ specs.bounds_from columns column point.now (record { lower = None; upper = None }) lines.now }
     {
-        let mut bounds = Bounds::none();
+        let mut bounds = Bounds {
+            lower: None,
+            upper: None,
+        };
         'lines: for line in lines {
             bounds = bounds.with_line(columns, column, point, line)?;
         }

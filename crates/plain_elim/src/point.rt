@@ -13,7 +13,7 @@ use std::alloc::{AllocError, Global};
 
 /// Sets the column of a stage, to an equality's bound or between the bounds of inequalities.
 #[tactic(auto, unfolding(farkas_cert::specs::BackSubstitution::set_column))]
-fn with_stage(columns: u32, point: RationalPoint, kept: Kept) -> Option<RationalPoint>
+fn set_column(columns: u32, point: RationalPoint, kept: Kept) -> Option<RationalPoint>
     requires bounds { BoundsItsColumn columns (kept_of kept) }
     requires width { length point.numerators ≡ columns }
     ensures point { result ≡ set_column columns point (kept_of kept) }
@@ -39,7 +39,7 @@ fn point_from(columns: u32, mut kept: Vec<Kept>, mut point: RationalPoint) -> De
     ensures { outcome_in result ≡ specs.point_from columns (reverse (map kept_of kept.items)) point }
 {
     'stages: while let Some(latest) = kept.pop() {
-        match with_stage(columns, point, latest) {
+        match set_column(columns, point, latest) {
             Some(next) => point = next,
             None => {
                 return Decided::Leaves {

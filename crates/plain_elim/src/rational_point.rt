@@ -1,4 +1,4 @@
-ghost use Rattle.std.specs.Prelude.{◌≡◌, ◌<◌, pos, ◌<ℤ◌, length, replicate, slice_set, IfOk, IfSome, IsTrue};
+ghost use Rattle.std.specs.Prelude.{◌≡◌, ◌<◌, pos, ◌<ℤ◌, length, replicate, slice_set, IfOk, IfSome};
 ghost use Rattle.std.specs.Bool.{OnTrue};
 ghost use Rattle.std.specs.List.{AllByRecursion};
 ghost use Rattle.thr_base.specs.Number.{Fits};
@@ -88,7 +88,13 @@ impl RationalPoint {
     }
 
     /// Sets a column to `value * share` where all other numbers are multiplied by `scale`.
-    fn assigned_by(self, column: u32, value: i128, share: i128, scale: i128) -> Option<RationalPoint>
+    fn assigned_by(
+        self,
+        column: u32,
+        value: i128,
+        share: i128,
+        scale: i128,
+    ) -> Option<RationalPoint>
         requires within { column < length self.numerators }
         requires positive { pos 0 <ℤ scale }
         ensures point { result ≡ specs.assigned_by column self value share scale }

@@ -1,12 +1,11 @@
-use Rattle.std.proofs.Common.{◌≡◌, ◌∙◌, sym, Some, None, length, add-one, rules, arith}
+use Rattle.std.proofs.Common.{◌≡◌, ◌∙◌, Some, None, length, add-one, rules}
 use Rattle.farkas_cert.specs.BackSubstitution.{set_column}
-use Rattle.farkas_cert.specs.Elimination.{Point, point_from}
 use Rattle.plain_elim.specs.Held.{kept_of}
-use Rattle.plain_elim.proofs.PointStages.{latest_first, point_from-stops, point_from-goes, point_from-end, bounds_of_rest, bounds_of_latest}
+use Rattle.plain_elim.proofs.PointStages.{point_from-stops, point_from-goes, point_from-end, bounds_of_rest, bounds_of_latest}
 use Rattle.plain_elim.proofs.point.point_from.Goals as goal
 
-pub with_stage-requires-clause-bounds : goal.with_stage-requires-clause-bounds
-with_stage-requires-clause-bounds c =
+pub set_column-requires-clause-bounds : goal.set_column-requires-clause-bounds
+set_column-requires-clause-bounds c =
     bounds_of_latest c.args.columns c.stages.kept.items c.pop.new.self.items c.in-Some.latest c.in-Some.ensures.items c.stages.invariant.bounds
 
 pub returns-in-None : goal.returns-in-None
@@ -18,7 +17,7 @@ returns-in-None c =
 
 pub stages-preserved : goal.stages-preserved
 stages-preserved c =
-    let next = c.in-Some-with_stage.next in
+    let next = c.in-Some-set_column.next in
     let some : Some next ≡ set_column c.args.columns c.stages.point (kept_of c.in-Some.latest) = search rules in
     let items = c.in-Some.ensures.items in
     record {

@@ -1,4 +1,4 @@
-use Rattle.std.proofs.Common.{◌≡◌, ◌*ℤ◌, get_or, pos, ap, subst, sym, ◌∙◌, add-one, rules, to_z, of_z, drop, suc}
+use Rattle.std.proofs.Common.{◌≡◌, ◌*ℤ◌, get_or, pos, ap, subst, ◌∙◌, add-one, rules, to_z, of_z, drop, suc}
 use Rattle.std.specs.Prelude.{slice_set, ◌&&◌}
 use Rattle.std.specs.Int.{w128}
 use Rattle.thr_base.specs.Number.{Fits}

@@ -1,5 +1,4 @@
-use Rattle.std.proofs.Common.{rules, ◌∙◌}
-use Rattle.std.proofs.lemmas.Int.{ints}
+use Rattle.std.proofs.Common.{rules}
 use Rattle.plain_elim.proofs.PointFractions.{fraction-neg}
 use Rattle.plain_elim.proofs.fraction.Fraction.of.Goals as goal
 

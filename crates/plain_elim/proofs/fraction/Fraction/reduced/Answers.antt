@@ -1,4 +1,4 @@
-use Rattle.std.proofs.Common.{◌≡◌, List, [], ◌∷◌, to_z, of_z, to_z-of_z, pos, rules}
+use Rattle.std.proofs.Common.{◌≡◌, [], ◌∷◌, to_z, of_z, pos, rules}
 use Rattle.std.specs.Int.{w128}
 use Rattle.lin_rows.specs.Gcd.{gcd_of}
 use Rattle.plain_elim.proofs.PointFractions.{divisor_positive, fraction-parts, IsFraction-parts}

@@ -1,4 +1,4 @@
-use Rattle.std.proofs.Common.{◌≡◌, ◌<ℤ◌, List, [], ◌∷◌, to_z, of_z, pos, rules}
+use Rattle.std.proofs.Common.{◌≡◌, ◌<ℤ◌, [], ◌∷◌, to_z, of_z, pos, rules}
 use Rattle.std.specs.Int.{w128, int_div_euclid}
 use Rattle.thr_base.specs.Number.{Fits}
 use Rattle.lin_rows.specs.Gcd.{gcd_of}

@@ -1,6 +1,5 @@
-use Rattle.std.proofs.Common.{◌≡◌, ◌*ℤ◌, ◌<ℤ◌, pos, ap, sym, ◌∙◌, rules, to_z, of_z, length, Some, true, arith}
+use Rattle.std.proofs.Common.{◌≡◌, ◌*ℤ◌, ◌<ℤ◌, pos, ◌∙◌, rules, length, Some, true, arith}
 use Rattle.std.specs.Prelude.{slice_set}
-use Rattle.std.specs.Int.{w128}
 use Rattle.std.specs.Vec.{with_items}
 use Rattle.std.proofs.lemmas.List.{with_items_is}
 use Rattle.lin_rows.specs.Exact.{fitting}

@@ -2,7 +2,7 @@ use Rattle.std.proofs.Common.{◌≡◌, drop, length}
 use Rattle.thr_base.specs.Number.{Fits}
 use Rattle.farkas_cert.specs.BackSubstitution.{minus_products}
 use Rattle.plain_elim.proofs.PointBounds.{others}
-use Rattle.plain_elim.proofs.bounds.less_products.Given as goal
+use Rattle.plain_elim.proofs.bounds.minus_products.Given as goal
 
 abbrev pub invariant-places : goal.invariant-places
 invariant-places l = record {
