@@ -1,1 +1,5 @@
-mod Stages
+pub mod PointFractions
+pub mod PointColumns
+pub mod PointBounds
+pub mod PointStages
+pub mod Stages

@@ -3,10 +3,13 @@
 //! layers above learn that the answer is exactly that of the written definition.
 #![tactic(auto)]
 
+mod bounds;
 mod elimination;
+mod fraction;
 mod kept;
 mod line;
 mod point;
+mod rational_point;
 mod stage;
 mod work;
 

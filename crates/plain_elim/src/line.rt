@@ -1,6 +1,7 @@
-ghost use Rattle.std.specs.Prelude.{◌≡◌};
+ghost use Rattle.std.specs.Prelude.{◌≡◌, ◌<◌, length};
 ghost use Rattle.std.specs.List.{AllByRecursion};
 ghost use Rattle.thr_base.specs.Number.{Fits};
+ghost use Rattle.farkas_cert.specs.Line.{coefficient_at};
 
 use std::marker::Model;
 
@@ -43,5 +44,13 @@ impl Line {
         ensures fit { AllByRecursion Fits self.now.numbers }
     {
         self.numbers.as_slice()
+    }
+
+    pub fn number_at(&self, place: u32) -> i128
+        requires { place < length self.now.numbers }
+        ensures number { result ≡ coefficient_at place self.now }
+        ensures fits { Fits result }
+    {
+        self.numbers[place as usize]
     }
 }

@@ -1,0 +1,49 @@
+-- Fractions as pairs of numbers that fit.
+use Rattle.std.proofs.Common.{◌≡◌, refl, sym, subst, arith, [], ◌∷◌, Bool, true, false, Some, None, cond}
+use Rattle.std.specs.Prelude.{ℤ, pos, negsuc, neg_ℤ, ◌<ℤ◌, unsigned_abs}
+use Rattle.std.specs.Int.{int_div_euclid}
+use Rattle.std.proofs.lemmas.Int.{ints}
+use Rattle.thr_base.specs.Number.{Fits, fits}
+use Rattle.lin_rows.specs.Exact.{fitting}
+use Rattle.lin_rows.specs.Gcd.{gcd, gcd_of}
+use Rattle.lin_rows.proofs.Numbers.{Fits-int_div_euclid}
+use Rattle.farkas_cert.specs.BackSubstitution.{fraction}
+use Rattle.farkas_cert.proofs.ColumnSums.{fits-true}
+use Rattle.farkas_cert.proofs.Divisors.{gcd-IsGcd, over-exact}
+use Rattle.farkas_cert.proofs.Eliminates.{gcd_positive, positive_abs}
+use Rattle.farkas_cert.proofs.Fractions.{positive_over}
+use Rattle.plain_elim.specs.PointParts.{IsFraction}
+
+-- what a number that is given where it fits says
+pub fitting_is : (z x : ℤ) → Some x ≡ fitting z → (x ≡ z) × Fits x
+fitting_is z x e = by_test (fits z) refl e where
+  by_test : (b : Bool) → fits z ≡ b → Some x ≡ cond b (Some z) None → (x ≡ z) × Fits x
+  by_test true t e = let same : x ≡ z = cc in (same, subst Fits (sym same) (fits-true z t))
+  by_test false t e = absurd cc
+
+-- the divisor of a numerator and a positive denominator
+pub divisor_positive : (t s : ℤ) → pos 0 <ℤ s → pos 0 <ℤ pos (gcd_of (s ∷ t ∷ []))
+divisor_positive t s h = gcd_positive (unsigned_abs t) (unsigned_abs s) (positive_abs s h)
+
+pub fraction-parts : (t s : ℤ) → pos 0 <ℤ s →
+    record { numerator = int_div_euclid t (pos (gcd_of (s ∷ t ∷ []))); denominator = int_div_euclid s (pos (gcd_of (s ∷ t ∷ []))) } ≡ fraction t s
+unfolding fraction
+fraction-parts t (pos s) h = refl
+fraction-parts t (negsuc s) h = absurd (omega (arith, ints))
+
+pub IsFraction-parts : (t s : ℤ) → Fits t → Fits s → pos 0 <ℤ s
+    → IsFraction (int_div_euclid t (pos (gcd_of (s ∷ t ∷ [])))) (int_div_euclid s (pos (gcd_of (s ∷ t ∷ []))))
+IsFraction-parts t s ht hs h =
+    let g = gcd (unsigned_abs t) (unsigned_abs s) in
+    let exact = over-exact g s (gcd-IsGcd (unsigned_abs t) (unsigned_abs s)).1 in
+    record {
+      positive = positive_over (pos g) (int_div_euclid s (pos g)) s (divisor_positive t s h) exact h;
+      numerator_fits = Fits-int_div_euclid t g ht;
+      denominator_fits = Fits-int_div_euclid s g hs;
+    }
+
+-- both numbers negated
+pub fraction-neg : (t s : ℤ) → s <ℤ pos 0 → fraction (neg_ℤ t) (neg_ℤ s) ≡ fraction t s
+unfolding fraction
+fraction-neg t (pos s) h = absurd (omega (arith, ints))
+fraction-neg t (negsuc s) h = refl
