@@ -1,13 +1,13 @@
 -- Fractions as pairs of numbers that fit.
 use Rattle.std.proofs.Common.{◌≡◌, refl, sym, subst, arith, [], ◌∷◌, Bool, true, false, Some, None, cond}
-use Rattle.std.specs.Prelude.{ℤ, pos, negsuc, neg_ℤ, ◌<ℤ◌, unsigned_abs}
+use Rattle.std.specs.Prelude.{ℤ, pos, negsuc, neg_ℤ, ◌*ℤ◌, ◌<ℤ◌, unsigned_abs, int_lt, ◌&&◌, IfSome}
 use Rattle.std.specs.Int.{int_div_euclid}
 use Rattle.std.proofs.lemmas.Int.{ints}
 use Rattle.thr_base.specs.Number.{Fits, fits}
 use Rattle.lin_rows.specs.Exact.{fitting}
 use Rattle.lin_rows.specs.Gcd.{gcd, gcd_of}
 use Rattle.lin_rows.proofs.Numbers.{Fits-int_div_euclid}
-use Rattle.farkas_cert.specs.BackSubstitution.{fraction}
+use Rattle.farkas_cert.specs.BackSubstitution.{Fraction, fraction, is_below}
 use Rattle.farkas_cert.proofs.ColumnSums.{fits-true}
 use Rattle.farkas_cert.proofs.Divisors.{gcd-IsGcd, over-exact}
 use Rattle.farkas_cert.proofs.Eliminates.{gcd_positive, positive_abs}
@@ -20,6 +20,22 @@ fitting_is z x e = by_test (fits z) refl e where
   by_test : (b : Bool) → fits z ≡ b → Some x ≡ cond b (Some z) None → (x ≡ z) × Fits x
   by_test true t e = let same : x ≡ z = cc in (same, subst Fits (sym same) (fits-true z t))
   by_test false t e = absurd cc
+
+-- what is given fits
+pub fits-fitting : (z : ℤ) → IfSome (fitting z) Fits
+fits-fitting z = by_test (fits z) refl where
+  by_test : (b : Bool) → fits z ≡ b → IfSome (cond b (Some z) None) Fits
+  by_test true t = fits-true z t
+  by_test false t = tt
+
+-- where the second of two cross products does not fit
+pub is_below-none : (f g : Fraction) → None ≡ fitting (g.numerator *ℤ f.denominator) → None ≡ is_below f g
+is_below-none f g e = by_test (fits (f.numerator *ℤ g.denominator)) (fits (g.numerator *ℤ f.denominator)) e where
+  by_test : (a b : Bool) → None ≡ cond b (Some (g.numerator *ℤ f.denominator)) None
+      → None ≡ cond (a && b) (Some (int_lt (f.numerator *ℤ g.denominator) (g.numerator *ℤ f.denominator))) None
+  by_test true true e = absurd cc
+  by_test true false e = refl
+  by_test false b e = refl
 
 -- the divisor of a numerator and a positive denominator
 pub divisor_positive : (t s : ℤ) → pos 0 <ℤ s → pos 0 <ℤ pos (gcd_of (s ∷ t ∷ []))

@@ -1,7 +1,13 @@
-use Rattle.std.proofs.Common.{◌*ℤ◌, rules}
+use Rattle.std.proofs.Common.{◌≡◌, ◌*ℤ◌, None, rules}
+use Rattle.lin_rows.specs.Exact.{fitting}
 use Rattle.lin_rows.proofs.Numbers.{read_back}
-use Rattle.plain_elim.proofs.PointFractions.{fitting_is}
+use Rattle.plain_elim.proofs.PointFractions.{fitting_is, is_below-none}
 use Rattle.plain_elim.proofs.fraction.Fraction.is_below.Goals as goal
+
+pub returns-in_err-right : goal.returns-in_err-right
+returns-in_err-right c =
+    let none : None ≡ fitting (c.args.other.now.numerator *ℤ c.args.self.now.denominator) = search rules in
+    search (rules, is_below-none c.args.self.now c.args.other.now none)
 
 pub returns : goal.returns
 returns c =
