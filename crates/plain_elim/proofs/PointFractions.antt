@@ -1,12 +1,12 @@
 -- Fractions as pairs of numbers that fit.
-use Rattle.std.proofs.Common.{◌≡◌, refl, sym, subst, arith, [], ◌∷◌, Bool, true, false, Some, None, cond}
+use Rattle.std.proofs.Common.{◌≡◌, refl, sym, subst, arith, Bool, true, false, Some, None, cond}
 use Rattle.std.specs.Prelude.{ℤ, pos, negsuc, neg_ℤ, ◌*ℤ◌, ◌<ℤ◌, unsigned_abs, int_lt, ◌&&◌, IfSome}
-use Rattle.std.specs.Int.{int_div_euclid}
 use Rattle.std.proofs.lemmas.Int.{ints}
 use Rattle.thr_base.specs.Number.{Fits, fits}
 use Rattle.lin_rows.specs.Exact.{fitting}
-use Rattle.lin_rows.specs.Gcd.{gcd, gcd_of}
+use Rattle.lin_rows.specs.Gcd.{gcd}
 use Rattle.lin_rows.proofs.Numbers.{Fits-int_div_euclid}
+use Rattle.farkas_cert.specs.Divided.{over}
 use Rattle.farkas_cert.specs.BackSubstitution.{Fraction, fraction, is_below}
 use Rattle.farkas_cert.proofs.ColumnSums.{fits-true}
 use Rattle.farkas_cert.proofs.Divisors.{gcd-IsGcd, over-exact}
@@ -37,23 +37,23 @@ is_below-none f g e = by_test (fits (f.numerator *ℤ g.denominator)) (fits (g.n
   by_test true false e = refl
   by_test false b e = refl
 
--- the divisor of a numerator and a positive denominator
-pub divisor_positive : (t s : ℤ) → pos 0 <ℤ s → pos 0 <ℤ pos (gcd_of (s ∷ t ∷ []))
+-- the divisor of a number and a positive one
+pub divisor_positive : (t s : ℤ) → pos 0 <ℤ s → pos 0 <ℤ pos (gcd (unsigned_abs t) (unsigned_abs s))
 divisor_positive t s h = gcd_positive (unsigned_abs t) (unsigned_abs s) (positive_abs s h)
 
 pub fraction-parts : (t s : ℤ) → pos 0 <ℤ s →
-    record { numerator = int_div_euclid t (pos (gcd_of (s ∷ t ∷ []))); denominator = int_div_euclid s (pos (gcd_of (s ∷ t ∷ []))) } ≡ fraction t s
+    let g = gcd (unsigned_abs t) (unsigned_abs s) in record { numerator = over g t; denominator = over g s } ≡ fraction t s
 unfolding fraction
 fraction-parts t (pos s) h = refl
 fraction-parts t (negsuc s) h = absurd (omega (arith, ints))
 
-pub IsFraction-parts : (t s : ℤ) → Fits t → Fits s → pos 0 <ℤ s
-    → IsFraction (int_div_euclid t (pos (gcd_of (s ∷ t ∷ [])))) (int_div_euclid s (pos (gcd_of (s ∷ t ∷ []))))
+pub IsFraction-parts : (t s : ℤ) → Fits t → Fits s → pos 0 <ℤ s →
+    let g = gcd (unsigned_abs t) (unsigned_abs s) in IsFraction (over g t) (over g s)
 IsFraction-parts t s ht hs h =
     let g = gcd (unsigned_abs t) (unsigned_abs s) in
     let exact = over-exact g s (gcd-IsGcd (unsigned_abs t) (unsigned_abs s)).1 in
     record {
-      positive = positive_over (pos g) (int_div_euclid s (pos g)) s (divisor_positive t s h) exact h;
+      positive = positive_over (pos g) (over g s) s (divisor_positive t s h) exact h;
       numerator_fits = Fits-int_div_euclid t g ht;
       denominator_fits = Fits-int_div_euclid s g hs;
     }

@@ -1,5 +1,6 @@
-ghost use Rattle.std.specs.Prelude.{◌≡◌, pos, ◌<ℤ◌, ◌≢◌};
+ghost use Rattle.std.specs.Prelude.{◌≡◌, pos, ◌<ℤ◌, ◌≢◌, unsigned_abs};
 ghost use Rattle.thr_base.specs.Number.{Fits};
+ghost use Rattle.lin_rows.specs.Gcd.{gcd};
 ghost use Rattle.farkas_cert.specs.BackSubstitution as specs;
 
 use lin_rows::{divisor_of, floor_of, product_if_fits};
@@ -23,6 +24,17 @@ impl Model for Fraction {
     ghost inverse = { λ f. record { numerator = f.numerator; denominator = f.denominator } };
 
     ghost invariant = { λ inside. IsFraction inside.numerator inside.denominator };
+}
+
+/// The greatest common divisor of a number and a positive one.
+pub fn common_divisor(number: i128, positive: i128) -> i128
+    requires number { Fits number }
+    requires fits { Fits positive }
+    requires positive { pos 0 <ℤ positive }
+    ensures divisor { result ≡ pos (gcd (unsigned_abs number) (unsigned_abs positive)) }
+    ensures positive { pos 0 <ℤ result }
+{
+    divisor_of(&[positive, number])
 }
 
 impl Fraction {
@@ -83,7 +95,7 @@ impl Fraction {
         requires positive { pos 0 <ℤ denominator }
         ensures { result ≡ specs.fraction numerator denominator }
     {
-        let divisor = divisor_of(&[denominator, numerator]);
+        let divisor = common_divisor(numerator, denominator);
         Fraction {
             numerator: floor_of(numerator, divisor),
             denominator: floor_of(denominator, divisor),

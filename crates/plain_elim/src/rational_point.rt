@@ -6,8 +6,8 @@ ghost use Rattle.lin_rows.specs.Row.{scaled};
 ghost use Rattle.farkas_cert.specs.Line.{all_fit};
 ghost use Rattle.farkas_cert.specs.BackSubstitution as specs;
 
-use crate::fraction::Fraction;
-use lin_rows::{divisor_of, floor_of, product_if_fits};
+use crate::fraction::{Fraction, common_divisor};
+use lin_rows::{floor_of, product_if_fits};
 use std::alloc::{AllocError, Global};
 use std::marker::Model;
 
@@ -118,7 +118,7 @@ impl RationalPoint {
         ensures point { result ≡ specs.assigned column self value }
         ensures width { IfSome result (λ next. length next.numerators ≡ length self.numerators) }
     {
-        let divisor = divisor_of(&[value.denominator(), self.denominator()]);
+        let divisor = common_divisor(self.denominator(), value.denominator());
         let share = floor_of(self.denominator(), divisor);
         let scale = floor_of(value.denominator(), divisor);
         self.assigned_by(column, value.numerator(), share, scale)
