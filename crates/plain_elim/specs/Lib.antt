@@ -1,2 +1,4 @@
 pub mod Decision
 pub mod Held
+pub mod Combined
+pub mod Stages

@@ -3,11 +3,20 @@
 //! layers above learn that the answer is exactly that of the written definition.
 #![tactic(auto)]
 
+mod combination;
 mod elimination;
+mod factors;
+mod follows;
+mod given;
 mod kept;
 mod line;
+mod pair_stage;
+mod pairing;
 mod point;
+mod refuting;
 mod stage;
+mod substitution;
+mod tested;
 mod work;
 
 pub use elimination::decide;
