@@ -3,3 +3,10 @@ pub mod PointColumns
 pub mod PointBounds
 pub mod PointStages
 pub mod Stages
+pub mod Combinations
+pub mod GivenLines
+pub mod Tests
+pub mod Everyone
+pub mod Positions
+pub mod Ready
+pub mod StageLemmas

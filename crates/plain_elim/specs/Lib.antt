@@ -1,3 +1,5 @@
 pub mod Decision
 pub mod Held
 pub mod PointParts
+pub mod Combined
+pub mod Stages

@@ -73,7 +73,7 @@ fn over_denominator(line: &Line, place: u32, denominator: i128) -> Option<i128>
     ensures product { result ≡ fitting (coefficient_at place line.now *ℤ denominator) }
     ensures fits { IfSome result Fits }
 {
-    product_if_fits(line.number_at(place), denominator)
+    product_if_fits(line.coefficient_at(place), denominator)
 }
 
 /// The bound that a line puts on a column, where the other columns have the values of the point.
@@ -145,7 +145,7 @@ impl Bounds {
         ensures { result ≡ narrowed_by columns column point.now line.now self }
     {
         let bound = bound_on(columns, column, point, line)?;
-        self.narrowed(line.number_at(column) > 0, bound)
+        self.narrowed(line.is_positive_at(column), bound)
     }
 
     /// The bounds that lines put on a column.

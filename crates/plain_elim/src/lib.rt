@@ -4,13 +4,22 @@
 #![tactic(auto)]
 
 mod bounds;
+mod combination;
 mod elimination;
+mod factors;
+mod follows;
 mod fraction;
+mod given;
 mod kept;
 mod line;
+mod pair_stage;
+mod pairing;
 mod point;
 mod rational_point;
+mod refuting;
 mod stage;
+mod substitution;
+mod tested;
 mod work;
 
 pub use elimination::decide;

@@ -1,7 +1,7 @@
-ghost use Rattle.std.specs.Prelude.{◌≡◌, ◌<◌, length};
+ghost use Rattle.std.specs.Prelude.{◌≡◌, ◌<◌, length, pos, int_lt, get_or};
 ghost use Rattle.std.specs.List.{AllByRecursion};
 ghost use Rattle.thr_base.specs.Number.{Fits};
-ghost use Rattle.farkas_cert.specs.Line.{coefficient_at};
+ghost use Rattle.farkas_cert.specs.Line as specs;
 
 use std::marker::Model;
 
@@ -22,6 +22,19 @@ impl Model for Line {
     ghost view = { λ inside. record { equal = inside.equal; numbers = inside.numbers.items } };
 
     ghost invariant = { λ inside. AllByRecursion Fits inside.numbers.items };
+}
+
+/// The number at a place, or 0 past the end.
+pub fn number_at(numbers: &[i128], place: usize) -> i128
+    ensures { result ≡ get_or numbers.now place (pos 0) }
+{
+    numbers.get(place).copied().unwrap_or(0)
+}
+
+pub fn is_nonzero(number: i128) -> bool
+    ensures { result ≡ specs.is_nonzero number }
+{
+    number != 0
 }
 
 impl Line {
@@ -46,11 +59,81 @@ impl Line {
         self.numbers.as_slice()
     }
 
-    pub fn number_at(&self, place: u32) -> i128
-        requires { place < length self.now.numbers }
-        ensures number { result ≡ coefficient_at place self.now }
+    pub fn coefficient_at(&self, column: u32) -> i128
+        ensures coefficient { result ≡ specs.coefficient_at column self.now }
         ensures fits { Fits result }
     {
-        self.numbers[place as usize]
+        number_at(self.numbers.as_slice(), column as usize)
     }
+
+    pub fn has_column(&self, column: u32) -> bool
+        ensures { result ≡ specs.is_nonzero (specs.coefficient_at column self.now) }
+    {
+        is_nonzero(self.coefficient_at(column))
+    }
+
+    pub fn is_positive_at(&self, column: u32) -> bool
+        ensures { result ≡ int_lt (pos 0) (specs.coefficient_at column self.now) }
+    {
+        0 < self.coefficient_at(column)
+    }
+
+    pub fn is_negative_at(&self, column: u32) -> bool
+        ensures { result ≡ int_lt (specs.coefficient_at column self.now) (pos 0) }
+    {
+        self.coefficient_at(column) < 0
+    }
+
+    pub fn bound(&self, columns: u32) -> i128
+        ensures bound { result ≡ specs.bound_of columns self.now }
+        ensures fits { Fits result }
+    {
+        number_at(self.numbers.as_slice(), columns as usize)
+    }
+
+    /// The multipliers of the given rows.
+    pub fn multipliers(&self, columns: u32) -> &[i128]
+        requires { columns < length self.now.numbers }
+        ensures multipliers { result.now ≡ specs.multipliers_of columns self.now }
+        ensures fit { AllByRecursion Fits result.now }
+    {
+        &self.numbers.as_slice()[columns as usize + 1..]
+    }
+
+    #[tactic(auto, unfolding(farkas_cert::specs::Line::has_variable))]
+    pub fn has_variable(&self, columns: u32) -> bool
+        ensures { result ≡ specs.has_variable columns self.now }
+    {
+        self.numbers
+            .iter()
+            .take(columns as usize)
+            .any(|number| is_nonzero(*number))
+    }
+
+    #[tactic(auto, unfolding(farkas_cert::specs::Line::lowest_column))]
+    /// The first column with a coefficient, or the number of columns where there is none.
+    pub fn lowest_column(&self, columns: u32) -> u32
+        ensures { result ≡ specs.lowest_column columns self.now }
+    {
+        self.numbers
+            .iter()
+            .take(columns as usize)
+            .take_while(|number| !is_nonzero(**number))
+            .count() as u32
+    }
+
+    #[tactic(auto, unfolding(farkas_cert::specs::Line::is_false))]
+    /// Whether the line has no variable, and is false.
+    pub fn is_false(&self, columns: u32) -> bool
+        ensures { result ≡ specs.is_false columns self.now }
+    {
+        !self.has_variable(columns) && fails(self.equal, self.bound(columns))
+    }
+}
+
+/// Whether `0 <= bound`, or `0 = bound`, is false.
+fn fails(equal: bool, bound: i128) -> bool
+    ensures { result ≡ specs.fails equal bound }
+{
+    if equal { is_nonzero(bound) } else { bound < 0 }
 }

@@ -1,7 +1,12 @@
-ghost use Rattle.std.specs.Prelude.{◌≡◌, ◌<◌, length, IfOk};
+ghost use Rattle.std.specs.Prelude.{◌≡◌, ◌<◌, length, position, IfOk};
 ghost use Rattle.farkas_cert.specs.Elimination as specs;
 ghost use Rattle.plain_elim.specs.Held.{work_of, next_of, IsReady, IsReadyNext};
 
+use crate::given::given_lines;
+use crate::line::Line;
+use crate::pair_stage::pair_stage;
+use crate::substitution::equality_stage;
+use crate::tested::tested;
 use crate::work::{Next, Work};
 use lin_rows::RowsView;
 use std::alloc::{AllocError, Global};
@@ -11,7 +16,31 @@ pub fn begun(alloc: Global, rows: &RowsView<'_>) -> Result<Next, AllocError>
     ensures next { IfOk result (λ next. next_of rows.now next ≡ specs.begun rows.now) }
     ensures ready { IfOk result (λ next. IsReadyNext rows.now (next_of rows.now next)) }
 {
-    Err(AllocError)
+    let lines = given_lines(alloc, rows)?;
+    let work = Work {
+        lines,
+        kept: Vec::new(alloc),
+        made: 0,
+    };
+    tested(alloc, rows, work)
+}
+
+/// The place of the first equality.
+fn first_equality(lines: &[Line]) -> Option<usize>
+    ensures { result ≡ position (λ line. line.equal) lines.now }
+{
+    lines.iter().position(|line| line.is_equality())
+}
+
+/// A stage takes a column out, by the first equality where there is one.
+fn taken_out(alloc: Global, rows: &RowsView<'_>, work: Work) -> Result<Next, AllocError>
+    requires { length work.kept.items < rows.now.columns }
+    ensures { IfOk result (λ next. next_of rows.now next ≡ specs.taken_out rows.now (work_of work)) }
+{
+    match first_equality(work.lines.as_slice()) {
+        Some(place) => equality_stage(alloc, rows, work, place),
+        None => pair_stage(alloc, rows, work),
+    }
 }
 
 /// A stage, with the constant test behind it.
@@ -22,5 +51,10 @@ pub fn stage(alloc: Global, rows: &RowsView<'_>, work: Work) -> Result<Next, All
     ensures next { IfOk result (λ next. next_of rows.now next ≡ specs.stage rows.now (work_of work)) }
     ensures ready { IfOk result (λ next. IsReadyNext rows.now (next_of rows.now next)) }
 {
-    Err(AllocError)
+    let next = taken_out(alloc, rows, work)?;
+    match next {
+        Next::Goes(work) => tested(alloc, rows, work),
+        Next::Refutes(cert, number) => Ok(Next::Refutes(cert, number)),
+        Next::Leaves(number, kind) => Ok(Next::Leaves(number, kind)),
+    }
 }

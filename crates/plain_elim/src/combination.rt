@@ -1,0 +1,104 @@
+ghost use Rattle.std.specs.Prelude.{◌≡◌, IfOk, pos, ◌*ℤ◌, ◌<ℤ◌, get_or, map};
+ghost use Rattle.std.specs.Int.{int_div_euclid};
+ghost use Rattle.std.specs.List.{AllByRecursion};
+ghost use Rattle.std.specs.Option.{option_map};
+ghost use Rattle.thr_base.specs.Number.{Fits};
+ghost use Rattle.lin_rows.specs.Exact.{fitting};
+ghost use Rattle.farkas_cert.specs.Divided.{divided};
+ghost use Rattle.farkas_cert.specs.Line as specs;
+ghost use Rattle.plain_elim.specs.Combined.{combined_number, combined, numbers_in};
+
+use crate::line::{Line, number_at};
+use lin_rows::{divisor_of, floor_of, product_if_fits, sum_if_fits};
+use std::alloc::{AllocError, Global};
+
+/// The product, where it fits. The lines are mostly 0, so that is looked at first.
+fn product(a: i128, number: i128) -> Option<i128>
+    ensures { result ≡ fitting (a *ℤ number) }
+{
+    if number == 0 {
+        Some(0)
+    } else {
+        product_if_fits(a, number)
+    }
+}
+
+/// `a` times the one number plus `b` times the other, where the products and the sum fit.
+fn combined_at(a: i128, left: &[i128], b: i128, right: &[i128], place: usize) -> Option<i128>
+    ensures { result ≡ combined_number a (get_or left.now place (pos 0)) b (get_or right.now place (pos 0)) }
+{
+    let first = product(a, number_at(left, place))?;
+    let second = product(b, number_at(right, place))?;
+    sum_if_fits(first, second)
+}
+
+/// `a` times the one list plus `b` times the other, where all products and sums fit. The shorter is continued by zeros.
+fn combined(
+    alloc: Global,
+    a: i128,
+    left: &[i128],
+    b: i128,
+    right: &[i128],
+) -> Result<Option<Vec<i128>>, AllocError>
+    ensures { IfOk result (λ made. numbers_in made ≡ combined a left.now b right.now) }
+{
+    let length = left.len().max(right.len());
+    let mut numbers = Vec::with_capacity(alloc, length)?;
+    'places: for place in 0..length {
+        let number = combined_at(a, left, b, right, place);
+        match number {
+            Some(number) => numbers.push(number)?,
+            None => return Ok(None),
+        }
+    }
+    Ok(Some(numbers))
+}
+
+/// Each number is replaced by its quotient, rounded down.
+fn divide_by(numbers: &mut [i128], divisor: i128)
+    requires positive { pos 0 <ℤ divisor }
+    requires fit { AllByRecursion Fits numbers.old }
+    ensures { numbers.new ≡ map (λ number. int_div_euclid number divisor) numbers.old }
+{
+    for number in numbers.iter_mut() {
+        *number = floor_of(*number, divisor);
+    }
+}
+
+/// Each number is divided by the greatest common divisor of all.
+fn divide(numbers: &mut [i128])
+    requires { AllByRecursion Fits numbers.old }
+    ensures { numbers.new ≡ divided numbers.old }
+{
+    let divisor = divisor_of(numbers);
+    if 1 < divisor {
+        divide_by(numbers, divisor);
+    }
+}
+
+/// The line of numbers without a common divisor.
+fn divided_line(equal: bool, mut numbers: Vec<i128>) -> Line
+    requires { AllByRecursion Fits numbers.items }
+    ensures { result ≡ record { equal = equal; numbers = divided numbers.items } }
+{
+    divide(numbers.as_mut_slice());
+    Line::of(equal, numbers)
+}
+
+/// `a` times the one line plus `b` times the other, without a common divisor, where all products and sums fit.
+pub fn made_line(
+    alloc: Global,
+    equal: bool,
+    a: i128,
+    left: &Line,
+    b: i128,
+    right: &Line,
+) -> Result<Option<Line>, AllocError>
+    ensures { IfOk result (λ made. made ≡ specs.made_line equal a left.now.numbers b right.now.numbers) }
+{
+    let made = combined(alloc, a, left.numbers(), b, right.numbers())?;
+    match made {
+        Some(numbers) => Ok(Some(divided_line(equal, numbers))),
+        None => Ok(None),
+    }
+}

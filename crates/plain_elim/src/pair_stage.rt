@@ -1,0 +1,135 @@
+ghost use Rattle.std.specs.Prelude.{◌≡◌, ◌<◌, ◌-◌, ◌^◌, ◌*◌, ◌+◌, ◌++◌, IfOk, length};
+ghost use Rattle.std.specs.Option.{option_map};
+ghost use Rattle.lin_rows.specs.System.{System};
+ghost use Rattle.farkas_cert.specs.BackSubstitution.{Bounded};
+ghost use Rattle.farkas_cert.specs.Elimination as specs;
+ghost use Rattle.farkas_cert.specs.Line as line_specs;
+ghost use Rattle.plain_elim.specs.Held.{work_of, next_of};
+ghost use Rattle.plain_elim.specs.Stages.{made_with};
+
+use crate::follows::follows;
+use crate::kept::Kept;
+use crate::line::Line;
+use crate::pairing::with_all_pairs;
+use crate::work::{Next, Work};
+use farkas_cert::LeaveKind;
+use lin_rows::RowsView;
+use std::alloc::{AllocError, Global};
+
+/// So many rows may be given and made by pairs.
+const ROW_LIMIT: u64 = 8192;
+
+/// The lowest column of all lines.
+#[tactic(auto, unfolding(farkas_cert::specs::Line::lowest_of))]
+fn lowest_of(lines: &[Line], columns: u32) -> u32
+    ensures { result ≡ line_specs.lowest_of columns lines.now }
+{
+    let mut lowest = columns;
+    for line in lines {
+        lowest = lowest.min(line.lowest_column(columns));
+    }
+    lowest
+}
+
+fn count_positives(lines: &[Line], column: u32) -> usize
+    ensures { result ≡ length (specs.positives column lines.now) }
+{
+    lines
+        .iter()
+        .filter(|line| line.is_positive_at(column))
+        .count()
+}
+
+fn count_negatives(lines: &[Line], column: u32) -> usize
+    ensures { result ≡ length (specs.negatives column lines.now) }
+{
+    lines
+        .iter()
+        .filter(|line| line.is_negative_at(column))
+        .count()
+}
+
+/// How many lines pairs made so far and in a stage, where they are not too many.
+fn made_with(rows: &RowsView<'_>, made: u64, positives: usize, negatives: usize) -> Option<u64>
+    ensures { result ≡ made_with rows.now made positives negatives }
+{
+    let pairs = positives.checked_mul(negatives)?;
+    let made = made.checked_add(pairs as u64)?;
+    let all = made.checked_add(u64::from(rows.count()))?;
+    if all <= ROW_LIMIT { Some(made) } else { None }
+}
+
+/// The lines with a column, and those without it.
+#[derive(Drop)]
+struct Parts {
+    with: Vec<Line>,
+    without: Vec<Line>,
+}
+
+/// How many lines a stage keeps, and how many it goes on with at most.
+#[derive(Clone, Copy)]
+struct Room {
+    with: usize,
+    without: usize,
+}
+
+fn room_for(lines: usize, positives: usize, negatives: usize) -> Room {
+    let with = positives.saturating_add(negatives);
+    let pairs = positives.saturating_mul(negatives);
+    Room {
+        with,
+        without: lines.saturating_sub(with).saturating_add(pairs),
+    }
+}
+
+/// The lines are moved in order.
+fn split(alloc: Global, column: u32, lines: Vec<Line>, room: Room) -> Result<Parts, AllocError>
+    ensures with { IfOk result (λ parts. parts.with.items ≡ specs.with_column column lines.items) }
+    ensures without { IfOk result (λ parts. parts.without.items ≡ specs.without_column column lines.items) }
+{
+    let mut with = Vec::with_capacity(alloc, room.with)?;
+    let mut without = Vec::with_capacity(alloc, room.without)?;
+    for line in lines {
+        if line.has_column(column) {
+            with.push(line)?;
+        } else {
+            without.push(line)?;
+        }
+    }
+    Ok(Parts { with, without })
+}
+
+/// The lines with the column are kept for it, and the pairs come after the others.
+fn pairs_follow(
+    alloc: Global,
+    column: u32,
+    work: Work,
+    made: u64,
+    room: Room,
+) -> Result<Next, AllocError>
+    requires { length work.kept.items < 2 ^ 32 - 1 }
+    ensures { IfOk result (λ next. (system : System) → next_of system next ≡ specs.follows (work_of work) (Bounded column (specs.with_column column work.lines.items)) made (option_map (λ pairs. specs.without_column column work.lines.items ++ pairs) (specs.pairs_at column work.lines.items))) }
+{
+    let parts = split(alloc, column, work.lines, room)?;
+    let with = parts.with;
+    let lines = with_all_pairs(alloc, column, with.as_slice(), parts.without)?;
+    follows(work.kept, Kept::Bounded(column, with), made, lines)
+}
+
+/// The stage of the lowest column of all lines, where none is an equality.
+pub fn pair_stage(alloc: Global, rows: &RowsView<'_>, work: Work) -> Result<Next, AllocError>
+    requires { length work.kept.items < rows.now.columns }
+    ensures { IfOk result (λ next. next_of rows.now next ≡ specs.pair_stage rows.now (work_of work)) }
+{
+    let column = lowest_of(work.lines.as_slice(), rows.columns());
+    let positives = count_positives(work.lines.as_slice(), column);
+    let negatives = count_negatives(work.lines.as_slice(), column);
+    let made = made_with(rows, work.made, positives, negatives);
+    match made {
+        Some(made) => {
+            let room = room_for(work.lines.len(), positives, negatives);
+            pairs_follow(alloc, column, work, made, room)
+        }
+        None => Ok(Next::Leaves(work.kept.len() as u32 + 1, LeaveKind::Rows)),
+    }
+}

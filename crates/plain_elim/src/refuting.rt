@@ -1,0 +1,66 @@
+ghost use Rattle.std.specs.Prelude.{◌≡◌, ◌<◌, ◌-◌, ◌^◌, ◌&&◌, pos, int_lt, IfOk, length};
+ghost use Rattle.std.specs.List.{AllByRecursion};
+ghost use Rattle.thr_base.specs.Number.{Fits};
+ghost use Rattle.farkas_cert.specs.Line as specs;
+ghost use Rattle.plain_elim.specs.Stages.{IsWide, refutation_of};
+
+use crate::line::{Line, is_nonzero};
+use farkas_cert::Cert;
+use lin_rows::{RowsView, opposites_of};
+use std::alloc::{AllocError, Global};
+
+/// The multipliers that are not 0, with the numbers of their rows.
+fn listed(alloc: Global, multipliers: &[i128]) -> Result<Cert, AllocError>
+    requires few { length multipliers.now < 2 ^ 32 - 1 }
+    requires fit { AllByRecursion Fits multipliers.now }
+    ensures { IfOk result (λ cert. cert ≡ specs.listed 1 multipliers.now) }
+{
+    let mut pairs = Vec::new(alloc);
+    for (place, multiplier) in multipliers.iter().enumerate() {
+        if is_nonzero(*multiplier) {
+            pairs.push((place as u32 + 1, *multiplier))?;
+        }
+    }
+    Ok(Cert::of(pairs))
+}
+
+/// Whether a false line refutes by its multipliers with the other signs.
+fn is_turned(line: &Line, columns: u32) -> bool
+    ensures { result ≡ (line.now.equal && int_lt (pos 0) (specs.bound_of columns line.now)) }
+{
+    line.is_equality() && 0 < line.bound(columns)
+}
+
+/// The multipliers by which a false line refutes, as a certificate.
+fn certificate(alloc: Global, rows: &RowsView<'_>, line: &Line) -> Result<Cert, AllocError>
+    requires { IsWide rows.now line.now }
+    ensures { IfOk result (λ cert. cert ≡ specs.listed 1 (specs.refuting rows.now.columns line.now)) }
+{
+    let columns = rows.columns();
+    let multipliers = line.multipliers(columns);
+    if is_turned(line, columns) {
+        let opposites = opposites_of(alloc, multipliers)?;
+        listed(alloc, opposites.as_slice())
+    } else {
+        listed(alloc, multipliers)
+    }
+}
+
+/// The certificate of the first false line, where there is one.
+pub fn refutation(
+    alloc: Global,
+    rows: &RowsView<'_>,
+    lines: &[Line],
+) -> Result<Option<Cert>, AllocError>
+    requires { AllByRecursion (IsWide rows.now) lines.now }
+    ensures { IfOk result (λ found. found ≡ refutation_of rows.now lines.now) }
+{
+    let columns = rows.columns();
+    match lines.iter().find(|line| line.is_false(columns)) {
+        Some(line) => {
+            let cert = certificate(alloc, rows, line)?;
+            Ok(Some(cert))
+        }
+        None => Ok(None),
+    }
+}
