@@ -1,9 +1,12 @@
 -- The parts of a stage, put together as the definition has them.
-use Rattle.std.proofs.Common.{◌≡◌, ℕ, zero, suc, ◌+◌, ◌*◌, refl, sym, ◌∙◌, ap, ap₂, List, [], ◌∷◌, ◌++◌, map, length, get_or, Bool, true, false, cond, Option, Some, None, Result, Ok, Err}
-use Rattle.std.specs.Prelude.{ℤ, pos, negsuc, neg_ℤ, ◌*ℤ◌, int_lt, unsigned_abs, flat_map, reverse, IfOk}
-use Rattle.std.specs.Int.{int_signum}
+use Rattle.std.proofs.Common.{◌≡◌, ℕ, zero, suc, ◌+◌, ◌*◌, refl, sym, ◌∙◌, ap, ap₂, List, [], ◌∷◌, ◌++◌, map, length, get_or, Bool, true, false, cond, Option, Some, None, Result, Ok, Err, to_z, of_z, arith}
+use Rattle.std.specs.Prelude.{ℤ, pos, negsuc, neg_ℤ, ◌-ℤ◌, ◌*ℤ◌, int_lt, unsigned_abs, flat_map, reverse, IfOk}
+use Rattle.std.specs.Int.{w128, int_signum}
 use Rattle.std.specs.Option.{option_map}
 use Rattle.std.specs.List.{position, remove}
+use Rattle.std.proofs.lemmas.Int.{ints}
+use Rattle.thr_base.specs.Number.{Fits}
+use Rattle.lin_rows.proofs.Numbers.{read_back, Fits-neg}
 use Rattle.lin_rows.specs.Gcd.{gcd}
 use Rattle.lin_rows.specs.System.{System}
 use Rattle.farkas_cert.specs.Divided.{over}
@@ -45,6 +48,12 @@ pub paired_by : (c : ℕ) (positive negative : Line) (p q a b : ℤ) → p ≡ c
     → made_line false a positive.numbers b negative.numbers ≡ paired c positive negative
 unfolding paired
 paired_by c positive negative p q a b e f g h = rw (g, h, e, f) refl
+
+-- a number with the other sign, as it is read back
+pub read_turned : (z : ℤ) → Fits z → to_z w128 (of_z w128 (pos 0 -ℤ to_z w128 (of_z w128 z))) ≡ neg_ℤ z
+read_turned z h =
+    let back : pos 0 -ℤ z ≡ neg_ℤ z = omega (arith, ints) in
+    ap (λ z. to_z w128 (of_z w128 (pos 0 -ℤ z))) (read_back z h) ∙ ap (λ z. to_z w128 (of_z w128 z)) back ∙ read_back (neg_ℤ z) (Fits-neg z h)
 
 -- a line with a negative coefficient, turned round
 pub turned_nonzero : (z : ℤ) → int_lt z (pos 0) ≡ true → is_nonzero (neg_ℤ z) ≡ true

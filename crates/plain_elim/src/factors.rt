@@ -1,11 +1,10 @@
-ghost use Rattle.std.specs.Prelude.{◌≡◌, true, pos, neg_ℤ, ◌*ℤ◌, ◌<ℤ◌, unsigned_abs};
+ghost use Rattle.std.specs.Prelude.{◌≡◌, true, pos, ◌*ℤ◌, ◌<ℤ◌, unsigned_abs};
 ghost use Rattle.std.specs.Int.{int_signum};
 ghost use Rattle.thr_base.specs.Number.{Fits};
 ghost use Rattle.lin_rows.specs.Gcd.{gcd};
-ghost use Rattle.farkas_cert.specs.Divided.{over};
 ghost use Rattle.farkas_cert.specs.Line as specs;
 
-use lin_rows::{divisor_of, floor_of};
+use lin_rows::divisor_of;
 
 /// The greatest common divisor of two numbers, of which the second is not 0.
 pub fn common_divisor(p: i128, q: i128) -> i128
@@ -19,7 +18,7 @@ pub fn common_divisor(p: i128, q: i128) -> i128
 }
 
 /// The number with the sign of `p`, or 0 where `p` is 0.
-fn with_sign_of(p: i128, q: i128) -> i128
+pub fn with_sign_of(p: i128, q: i128) -> i128
     requires { Fits q }
     ensures sign { result ≡ int_signum p *ℤ q }
     ensures fits { Fits result }
@@ -31,24 +30,4 @@ fn with_sign_of(p: i128, q: i128) -> i128
     } else {
         q
     }
-}
-
-/// By what a line is multiplied that has q at a column where the equality has p: |p| over the divisor.
-pub fn line_factor(p: i128, q: i128) -> i128
-    requires fits_p { Fits p }
-    requires fits_q { Fits q }
-    requires other { specs.is_nonzero q ≡ true }
-    ensures { result ≡ over (gcd (unsigned_abs p) (unsigned_abs q)) (pos (unsigned_abs p)) }
-{
-    floor_of(p.abs(), common_divisor(p, q))
-}
-
-/// By what the equality is multiplied.
-pub fn equality_factor(p: i128, q: i128) -> i128
-    requires fits_p { Fits p }
-    requires fits_q { Fits q }
-    requires other { specs.is_nonzero q ≡ true }
-    ensures { result ≡ neg_ℤ (over (gcd (unsigned_abs p) (unsigned_abs q)) (int_signum p *ℤ q)) }
-{
-    -floor_of(with_sign_of(p, q), common_divisor(p, q))
 }

@@ -4,12 +4,12 @@ ghost use Rattle.plain_elim.specs.Held.{work_of, next_of};
 ghost use Rattle.plain_elim.specs.Stages.{lines_in};
 
 use crate::combination::made_line;
-use crate::factors::{equality_factor, line_factor};
+use crate::factors::{common_divisor, with_sign_of};
 use crate::follows::follows;
 use crate::kept::Kept;
 use crate::line::{Line, is_nonzero};
 use crate::work::{Next, Work};
-use lin_rows::RowsView;
+use lin_rows::{RowsView, floor_of};
 use std::alloc::{AllocError, Global};
 
 /// The line from which the equality takes the column out. A line without the column stays as it is.
@@ -26,8 +26,9 @@ fn substituted(
         return Ok(Some(line));
     }
     let p = equality.coefficient_at(column);
-    let a = line_factor(p, q);
-    let b = equality_factor(p, q);
+    let divisor = common_divisor(p, q);
+    let a = floor_of(p.abs(), divisor);
+    let b = -floor_of(with_sign_of(p, q), divisor);
     made_line(alloc, line.is_equality(), a, &line, b, equality)
 }
 

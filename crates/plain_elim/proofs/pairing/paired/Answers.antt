@@ -1,18 +1,10 @@
-use Rattle.std.proofs.Common.{◌≡◌, ◌∙◌, ap, subst, Option, to_z, of_z, to_z-of_z, arith}
-use Rattle.std.specs.Prelude.{ℤ, pos, ◌-ℤ◌, neg_ℤ, IfOk}
+use Rattle.std.proofs.Common.{◌≡◌, ◌∙◌, ap, subst, Option, to_z, of_z, to_z-of_z}
+use Rattle.std.specs.Prelude.{pos, ◌-ℤ◌, neg_ℤ, IfOk}
 use Rattle.std.specs.Int.{w128, int_div_euclid}
-use Rattle.std.proofs.lemmas.Int.{ints}
-use Rattle.lin_rows.proofs.Numbers.{read_back, Fits-neg}
+use Rattle.lin_rows.proofs.Numbers.{read_back}
 use Rattle.farkas_cert.specs.Line.{Line}
-use Rattle.thr_base.specs.Number.{Fits}
-use Rattle.plain_elim.proofs.StageLemmas.{paired_by}
+use Rattle.plain_elim.proofs.StageLemmas.{paired_by, read_turned}
 use Rattle.plain_elim.proofs.pairing.paired.Goals as goal
-
--- the number that is read is the negative one, turned round
-turned : (z : ℤ) → Fits z → to_z w128 (of_z w128 (pos 0 -ℤ to_z w128 (of_z w128 z))) ≡ neg_ℤ z
-turned z h =
-    let back : pos 0 -ℤ z ≡ neg_ℤ z = omega (arith, ints) in
-    ap (λ z. to_z w128 (of_z w128 (pos 0 -ℤ z))) (read_back z h) ∙ ap (λ z. to_z w128 (of_z w128 z)) back ∙ read_back (neg_ℤ z) (Fits-neg z h)
 
 pub returns : goal.returns
 returns c =
@@ -23,7 +15,7 @@ returns c =
     let b = c.floor_of-b.result in
     let d = c.common_divisor-divisor.result in
     let is_p = read_back c.coefficient_at-p.result c.coefficient_at-p.ensures.fits ∙ c.coefficient_at-p.ensures.coefficient in
-    let is_q = turned z c.coefficient_at-q.ensures.fits ∙ ap neg_ℤ c.coefficient_at-q.ensures.coefficient in
+    let is_q = read_turned z c.coefficient_at-q.ensures.fits ∙ ap neg_ℤ c.coefficient_at-q.ensures.coefficient in
     let read_a : to_z w128 (of_z w128 a) ≡ a = to_z-of_z {w = w128} record { sfits = c.floor_of-a.type_inv } in
     let read_b : to_z w128 (of_z w128 b) ≡ b = to_z-of_z {w = w128} record { sfits = c.floor_of-b.type_inv } in
     let read_d : to_z w128 (of_z w128 d) ≡ d = to_z-of_z {w = w128} record { sfits = c.common_divisor-divisor.type_inv } in
