@@ -77,13 +77,19 @@ pub pairs_at-is : (c : ℕ) (lines : List Line) → pairs_at c lines ≡ pairs_o
 unfolding pairs_at
 pairs_at-is c lines = refl
 
+pub positives_with_column : (c : ℕ) (lines : List Line) → positives c (with_column c lines) ≡ positives c lines
+positives_with_column c lines =
+    filter-filter (λ line. int_lt (pos 0) (coefficient_at c line)) (λ line. is_nonzero (coefficient_at c line)) lines (λ line t. positive_nonzero (coefficient_at c line) t)
+
+pub negatives_with_column : (c : ℕ) (lines : List Line) → negatives c (with_column c lines) ≡ negatives c lines
+negatives_with_column c lines =
+    filter-filter (λ line. int_lt (coefficient_at c line) (pos 0)) (λ line. is_nonzero (coefficient_at c line)) lines (λ line t. negative_nonzero (coefficient_at c line) t)
+
 -- lines without the column have no part in pairs
 pub pairs_with_column : (c : ℕ) (lines : List Line) → pairs_at c (with_column c lines) ≡ pairs_at c lines
 unfolding pairs_at
 pairs_with_column c lines =
-    let p = filter-filter (λ line. int_lt (pos 0) (coefficient_at c line)) (λ line. is_nonzero (coefficient_at c line)) lines (λ line t. positive_nonzero (coefficient_at c line) t) in
-    let n = filter-filter (λ line. int_lt (coefficient_at c line) (pos 0)) (λ line. is_nonzero (coefficient_at c line)) lines (λ line t. negative_nonzero (coefficient_at c line) t) in
-    ap₂ (λ some others. every (flat_map (λ positive. map (paired c positive) others) some)) p n
+    ap₂ (λ some others. every (flat_map (λ positive. map (paired c positive) others) some)) (positives_with_column c lines) (negatives_with_column c lines)
 
 -- ---- what follows
 

@@ -1,11 +1,11 @@
-ghost use Rattle.std.specs.Prelude.{◌≡◌, ◌<◌, ◌-◌, ◌^◌, ◌*◌, ◌+◌, ◌++◌, IfOk, length};
+ghost use Rattle.std.specs.Prelude.{◌≡◌, ◌<◌, ◌-◌, ◌^◌, ◌++◌, IfOk, length};
 ghost use Rattle.std.specs.Option.{option_map};
 ghost use Rattle.lin_rows.specs.System.{System};
 ghost use Rattle.farkas_cert.specs.BackSubstitution.{Bounded};
 ghost use Rattle.farkas_cert.specs.Elimination as specs;
 ghost use Rattle.farkas_cert.specs.Line as line_specs;
 ghost use Rattle.plain_elim.specs.Held.{work_of, next_of};
-ghost use Rattle.plain_elim.specs.Stages.{made_with};
+ghost use Rattle.plain_elim.specs.Stages.{after_stages, made_with};
 
 use crate::follows::follows;
 use crate::kept::Kept;
@@ -66,29 +66,13 @@ struct Parts {
     without: Vec<Line>,
 }
 
-/// How many lines a stage keeps, and how many it goes on with at most.
-#[derive(Clone, Copy)]
-struct Room {
-    with: usize,
-    without: usize,
-}
-
-fn room_for(lines: usize, positives: usize, negatives: usize) -> Room {
-    let with = positives.saturating_add(negatives);
-    let pairs = positives.saturating_mul(negatives);
-    Room {
-        with,
-        without: lines.saturating_sub(with).saturating_add(pairs),
-    }
-}
-
 /// The lines are moved in order.
-fn split(alloc: Global, column: u32, lines: Vec<Line>, room: Room) -> Result<Parts, AllocError>
+fn split(alloc: Global, column: u32, lines: Vec<Line>) -> Result<Parts, AllocError>
     ensures with { IfOk result (λ parts. parts.with.items ≡ specs.with_column column lines.items) }
     ensures without { IfOk result (λ parts. parts.without.items ≡ specs.without_column column lines.items) }
 {
-    let mut with = Vec::with_capacity(alloc, room.with)?;
-    let mut without = Vec::with_capacity(alloc, room.without)?;
+    let mut with = Vec::with_capacity(alloc, lines.len())?;
+    let mut without = Vec::with_capacity(alloc, lines.len())?;
     for line in lines {
         if line.has_column(column) {
             with.push(line)?;
@@ -103,33 +87,31 @@ fn split(alloc: Global, column: u32, lines: Vec<Line>, room: Room) -> Result<Par
 fn pairs_follow(
     alloc: Global,
     column: u32,
-    work: Work,
+    parts: Parts,
+    kept: Vec<Kept>,
     made: u64,
-    room: Room,
 ) -> Result<Next, AllocError>
-    requires { length work.kept.items < 2 ^ 32 - 1 }
-    ensures { IfOk result (λ next. (system : System) → next_of system next ≡ specs.follows (work_of work) (Bounded column (specs.with_column column work.lines.items)) made (option_map (λ pairs. specs.without_column column work.lines.items ++ pairs) (specs.pairs_at column work.lines.items))) }
+    requires { length kept.items < 2 ^ 32 - 1 }
+    ensures { IfOk result (λ next. (system : System) → next_of system next ≡ specs.follows (after_stages kept.items) (Bounded column parts.with.items) made (option_map (λ pairs. parts.without.items ++ pairs) (specs.pairs_at column parts.with.items))) }
 {
-    let parts = split(alloc, column, work.lines, room)?;
     let with = parts.with;
     let lines = with_all_pairs(alloc, column, with.as_slice(), parts.without)?;
-    follows(work.kept, Kept::Bounded(column, with), made, lines)
+    follows(kept, Kept::Bounded(column, with), made, lines)
 }
 
-/// The stage of the lowest column of all lines, where none is an equality.
+/// The stage of the lowest column of all lines, where none is an equality. Once the column is known, a line without it is looked
+/// at once.
 pub fn pair_stage(alloc: Global, rows: &RowsView<'_>, work: Work) -> Result<Next, AllocError>
     requires { length work.kept.items < rows.now.columns }
     ensures { IfOk result (λ next. next_of rows.now next ≡ specs.pair_stage rows.now (work_of work)) }
 {
     let column = lowest_of(work.lines.as_slice(), rows.columns());
-    let positives = count_positives(work.lines.as_slice(), column);
-    let negatives = count_negatives(work.lines.as_slice(), column);
+    let parts = split(alloc, column, work.lines)?;
+    let positives = count_positives(parts.with.as_slice(), column);
+    let negatives = count_negatives(parts.with.as_slice(), column);
     let made = made_with(rows, work.made, positives, negatives);
     match made {
-        Some(made) => {
-            let room = room_for(work.lines.len(), positives, negatives);
-            pairs_follow(alloc, column, work, made, room)
-        }
+        Some(made) => pairs_follow(alloc, column, parts, work.kept, made),
         None => Ok(Next::Leaves(work.kept.len() as u32 + 1, LeaveKind::Rows)),
     }
 }
