@@ -1,5 +1,5 @@
 -- What the program holds while it eliminates. No public clause cites this file.
-use Rattle.std.specs.Prelude.{◌≡◌, ℕ, suc, ◌+◌, ◌<◌, List, true, length, map, reverse, if◌then◌else◌, is_none, ⊤}
+use Rattle.std.specs.Prelude.{◌≡◌, ℕ, suc, ◌+◌, ◌<◌, true, length, map, reverse, if◌then◌else◌, is_none, ⊤}
 use Rattle.std.specs.List.{AllByRecursion}
 use Rattle.lin_rows.specs.System.{System}
 use Rattle.farkas_cert.specs.Cert.{Pairs}

@@ -1,13 +1,12 @@
 -- What the answers of the solver say.
 use Rattle.std.specs.Prelude.{◌≡◌, ℕ, Option, Some, None, ⊤}
 use Rattle.lin_rows.specs.Row.{Row}
-use Rattle.lin_rows.specs.System.{System, IsRationalPoint}
-use Rattle.farkas_cert.specs.Proof.{Entails, denying}
+use Rattle.lin_rows.specs.System.{System}
+use Rattle.farkas_cert.specs.Proof.{Entails}
 use Rattle.farkas_cert.specs.Elimination.{Outcome, Refuted, Point, Leaves, outcome_of}
 use Rattle.farkas_cert.specs.declared.answers.LeaveKind.{LeaveKind}
 use Rattle.farkas_cert.specs.declared.answers.Decided.{Decided}
 use Rattle.farkas_cert.specs.declared.answers.Decided.TheVariants as decided
-use Rattle.plain_elim.specs.Decision.{IsCertificate}
 use Rattle.rational_entail.specs.declared.denial.Entailed.{Entailed}
 use Rattle.rational_entail.specs.declared.denial.Entailed.TheVariants as entailed
 

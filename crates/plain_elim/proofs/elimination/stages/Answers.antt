@@ -19,7 +19,7 @@ returns-then-is_empty c =
     let work = work_of c.stages.work in
     let none : length c.stages.work.lines.items ≡ 0 = let test = sym c.is_empty.ensures ∙ c.if-is_empty.true in let same = c.stages.work.lines.ok.0 in grind (arith, nat_tests) in
     let is_point = c.stages.invariant.2 ∙ stages-closed (rows.columns - c.stages.taken) rows work none
-        ∙ ap (λ n. specs.point_of n work.kept) (sym c.requires.columns) in
+    ∙ ap (λ n. specs.point_of n work.kept) (sym c.requires.columns) in
     subst (λ o. IfOk c.point_of.result (λ d. outcome_in d ≡ o)) (sym is_point) c.point_of.ensures
 
 pub refuted-requires-clause-leads : goal.refuted-requires-clause-leads
@@ -49,7 +49,7 @@ stages-preserved c =
     let ready = subst (IsReadyNext rows) goes c.in_ok-next.ensures.ready in
     let kept = stage-keeps rows work more (sym c.in_ok-next.ensures.next ∙ goes) in
     let leads = leads-on rows.columns c.stages.taken rows work (next_of rows c.in_ok-next.next) (specs.outcome_of rows) within some c.stages.invariant.2 c.in_ok-next.ensures.next
-        ∙ ap (specs.or_ends (specs.stages (rows.columns - (c.stages.taken + 1)) rows)) goes in
+    ∙ ap (specs.or_ends (specs.stages (rows.columns - (c.stages.taken + 1)) rows)) goes in
     let before = length-reverse (map kept_of c.stages.work.kept.items) ∙ length-map c.stages.work.kept.items kept_of in
     let after = length-reverse (map kept_of c.in-Goes.more.kept.items) ∙ length-map c.in-Goes.more.kept.items kept_of in
     (ready, omega (arith, before, after, kept, c.stages.invariant.1), leads)
@@ -59,5 +59,5 @@ returns c =
     let rows = c.args.rows.now in
     let work = work_of c.stages.work in
     let is_point = c.stages.invariant.2 ∙ stages-end rows.columns c.stages.taken rows work (omega (arith, c.stages-test.false, c.stages.auto.taken-end, c.requires.columns))
-        ∙ ap (λ n. specs.point_of n work.kept) (sym c.requires.columns) in
+    ∙ ap (λ n. specs.point_of n work.kept) (sym c.requires.columns) in
     subst (λ o. IfOk c.point_of-2.result (λ d. outcome_in d ≡ o)) (sym is_point) c.point_of-2.ensures

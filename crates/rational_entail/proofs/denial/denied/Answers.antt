@@ -1,4 +1,4 @@
-use Rattle.std.proofs.Common.{◌≡◌, ◌∙◌, ap}
+use Rattle.std.proofs.Common.{◌∙◌, ap}
 use Rattle.lin_rows.specs.System.{with_row}
 use Rattle.lin_rows.specs.View.{row_of}
 use Rattle.rational_entail.proofs.Denials.{next_row}

@@ -1,4 +1,4 @@
-use Rattle.std.proofs.Common.{◌≡◌, sym, ◌∙◌, subst}
+use Rattle.std.proofs.Common.{sym, ◌∙◌, subst}
 use Rattle.plain_elim.specs.Decision.{IsEvidence}
 use Rattle.rational_entail.specs.Entailment.{decided_in}
 use Rattle.rational_entail.proofs.Denials.{evidence-says}
