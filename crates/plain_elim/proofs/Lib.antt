@@ -5,7 +5,7 @@ pub mod PointStages
 pub mod Stages
 pub mod Combinations
 pub mod GivenLines
-pub mod Tests
+pub mod ConstantTests
 pub mod Everyone
 pub mod Positions
 pub mod Ready

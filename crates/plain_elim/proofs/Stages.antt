@@ -1,5 +1,5 @@
 -- How stages follow one another, and what their outcome says.
-use Rattle.std.proofs.Common.{◌≡◌, ℕ, zero, suc, ◌+◌, ◌-◌, ◌*◌, ◌<◌, Bool, true, false, List, [], ◌∷◌, ◌++◌, length, map, reverse, Option, Some, None, find, is_none, Result, Ok, Err, IfOk, if◌then◌else◌, refl, sym, ◌∙◌, ap, subst, arith}
+use Rattle.std.proofs.Common.{◌≡◌, ℕ, zero, suc, ◌+◌, ◌-◌, ◌*◌, ◌<◌, Bool, true, false, List, [], ◌∷◌, ◌++◌, length, reverse, Option, Some, None, find, is_none, Result, Ok, Err, IfOk, if◌then◌else◌, refl, sym, ◌∙◌, ap, subst, arith}
 use Rattle.std.specs.Bool.{⊤}
 use Rattle.std.specs.Option.{option_map}
 use Rattle.std.specs.List.{AllByRecursion}
@@ -10,7 +10,7 @@ use Rattle.farkas_cert.specs.Cert.{Pairs}
 use Rattle.farkas_cert.specs.Proof.{Proves, overflow_of}
 use Rattle.farkas_cert.specs.Line.{Line, is_false, given_lines, lowest_of}
 use Rattle.farkas_cert.specs.BackSubstitution.{Kept, Bounded}
-use Rattle.farkas_cert.specs.Elimination.{Work, Next, Goes, Ends, Outcome, Refuted, Point, Leaves, stage, stages, goes_on, or_ends, outcome_of, outcome_within, point_of, follows, taken_out, taken_out_by, then_tested, tested, tested_by, equality_stage, pair_stage, begun, positives, negatives, with_column, without_column, pairs_at, are_too_many}
+use Rattle.farkas_cert.specs.Elimination.{Work, Next, Goes, Ends, Outcome, Refuted, Leaves, stage, stages, goes_on, or_ends, outcome_of, outcome_within, point_of, follows, taken_out, taken_out_by, then_tested, tested, tested_by, equality_stage, pair_stage, begun, positives, negatives, with_column, without_column, pairs_at, are_too_many}
 use Rattle.farkas_cert.specs.declared.answers.LeaveKind.TheVariants.{Overflow, Rows}
 use Rattle.farkas_cert.specs.declared.answers.Decided.{Decided}
 use Rattle.farkas_cert.specs.declared.answers.Decided.TheVariants as decided

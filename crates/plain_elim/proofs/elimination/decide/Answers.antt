@@ -1,4 +1,4 @@
-use Rattle.std.proofs.Common.{◌≡◌, length, map, sym, ◌∙◌, ap}
+use Rattle.std.proofs.Common.{map, sym, ◌∙◌, ap}
 use Rattle.std.proofs.lemmas.List.{length-reverse, length-map}
 use Rattle.farkas_cert.specs.Elimination as specs
 use Rattle.plain_elim.specs.Held.{kept_of, work_of, next_of}

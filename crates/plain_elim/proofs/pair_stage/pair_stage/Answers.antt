@@ -1,7 +1,6 @@
-use Rattle.std.proofs.Common.{◌≡◌, ◌+◌, ◌++◌, suc, length, ◌∙◌, ap, ap₂, sym, refl, arith}
-use Rattle.std.specs.Option.{option_map}
+use Rattle.std.proofs.Common.{◌≡◌, ◌+◌, suc, length, ◌∙◌, ap, ap₂, sym, refl, arith}
 use Rattle.farkas_cert.specs.Line.{lowest_of}
-use Rattle.farkas_cert.specs.Elimination.{Ends, Leaves, pair_stage, positives, negatives, pairs_at}
+use Rattle.farkas_cert.specs.Elimination.{Ends, Leaves, pair_stage, positives, negatives}
 use Rattle.farkas_cert.specs.declared.answers.LeaveKind.TheVariants.{Rows}
 use Rattle.plain_elim.specs.declared.work.Next.{Next as HeldNext}
 use Rattle.plain_elim.specs.Held.{work_of, next_of}

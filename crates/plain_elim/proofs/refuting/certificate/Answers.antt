@@ -1,6 +1,6 @@
 use Rattle.std.proofs.Common.{◌≡◌, ◌∙◌, ap, sym, subst, List, map}
 use Rattle.std.specs.Prelude.{ℤ, neg_ℤ, IfOk}
-use Rattle.plain_elim.proofs.Tests.{refuting-turned, refuting-plain}
+use Rattle.plain_elim.proofs.ConstantTests.{refuting-turned, refuting-plain}
 use Rattle.std.specs.List.{AllByRecursion}
 use Rattle.thr_base.specs.Number.{Fits}
 use Rattle.lin_rows.proofs.Lists.{AllByRecursion-map}

@@ -4,7 +4,7 @@ use Rattle.thr_base.specs.Number.{Fits}
 use Rattle.lin_rows.proofs.Lists.{AllByRecursion-at}
 use Rattle.lin_rows.proofs.Numbers.{read_back}
 use Rattle.farkas_cert.specs.Line.{is_nonzero}
-use Rattle.plain_elim.proofs.Tests.{listed-more, listed-skips, listed-ends}
+use Rattle.plain_elim.proofs.ConstantTests.{listed-more, listed-skips, listed-ends}
 use Rattle.plain_elim.proofs.refuting.listed.Goals as goal
 use Rattle.plain_elim.proofs.refuting.listed.Goals.{then-is_nonzero+in_ok-push, else-is_nonzero}
 

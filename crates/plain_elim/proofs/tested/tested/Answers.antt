@@ -4,7 +4,7 @@ use Rattle.farkas_cert.specs.Line.{has_variable}
 use Rattle.farkas_cert.specs.Elimination.{Ends}
 use Rattle.plain_elim.specs.Held.{work_of, refuted_by}
 use Rattle.plain_elim.specs.Stages.{refutation_of}
-use Rattle.plain_elim.proofs.Tests.{tested-refutes, tested-goes}
+use Rattle.plain_elim.proofs.ConstantTests.{tested-refutes, tested-goes}
 use Rattle.plain_elim.proofs.tested.tested.Goals as goal
 
 pub returns-in-Some : goal.returns-in-Some
