@@ -22,9 +22,11 @@ pub record NamesFile (words : List (List ℕ)) (name : List ℕ) : Type 0 where
   pub words_are : words ≡ codes "tables" ∷ name ∷ []
   pub operand : IsTrue (is_operand name)
 
+-- what is written where the words are refused
 abbrev pub usage_text : List ℕ
 usage_text = codes "usage: threader verify|tables|check|replay|generate|bench|help\n"
 
+-- what is written where a program's text is refused
 abbrev pub refusal_text : Refusal → List ℕ
 refusal_text refusal = codes "program E" ++ decimal refusal.code ++ codes " " ++ decimal refusal.place ++ codes "\n"
 
@@ -58,6 +60,7 @@ pub data Refuses (bytes : List ℕ) : Refusal → Type 0 where
   not_in_profile : (refusal : Refusal) → IsUtf8 bytes → parsed bytes ≡ Err refusal → Refuses bytes refusal
   -- The narrow language has no such text.
   not_built : (tokens : List Lexeme) → IsText bytes tokens → ((p : Program) → IsAccepted tokens p → ⊥) → Refuses bytes (record { code = 14; place = 0 })
+  -- The program creates no thread.
   no_thread : (tokens : List Lexeme) (p : Program) (place : ℕ) → IsText bytes tokens → IsAccepted tokens p → p.creations ≡ [] → IsMainAt tokens place
       → Refuses bytes (record { code = 10; place = place })
 

@@ -7,6 +7,7 @@ use std::test::Fail;
 
 /// What is wrong, the answer, and a text.
 const REFUSED: &str = "\
+a byte alone => E2 0 => @
 a type without a name => E4 5 => int x
 no semicolon => E4 6 => int x void *f(void *a) { } MAIN
 a word that is no type => E4 0 => const int x; MAIN
@@ -32,6 +33,7 @@ a reserved parameter => E4 14 => void *f(void *main) { } MAIN
 a reserved handle => E4 23 => int main() { pthread_t abort; return 0; }
 a reserved variable => E4 4 => int while; MAIN
 a loop that C has and the profile has not => E5 19 => void *f(void *a) { do ; while (0); } MAIN
+the same on the second line => E5 20 => NEWLINEvoid *f(void *a) { do ; while (0); }NEWLINEMAINNEWLINE
 an array => E5 5 => int x[2]; MAIN
 a remainder => E5 32 => int x; void *f(void *a) { x = x % 2; } MAIN
 a quotient => E5 32 => int x; void *f(void *a) { x = x / 2; } MAIN
@@ -48,12 +50,15 @@ a byte that begins no token => E2 7 => int x; @ MAIN
 a backslash => E2 7 => int x; \\ MAIN
 a letter that is not of ASCII => E2 4 => int é; MAIN
 a comment that does not end => E2 7 => int x; /* MAIN
+a comment that is lost => E2 7 => int x; /* lost
 a comment that begins with its own end => E2 7 => int x; /*/ MAIN
 a bad byte behind what the grammar refuses => E2 9 => int int; @
 a needless zero => E3 30 => int x; void *f(void *a) { x = 01; } MAIN
 a needless zero of a first value => E3 8 => int x = 00; void *f(void *a) { } MAIN
 the number 2^127 => E3 30 => int x; void *f(void *a) { x = 170141183460469231731687303715884105728; } MAIN
 the number -2^127 => E3 31 => int x; void *f(void *a) { x = -170141183460469231731687303715884105728; } MAIN
+the number 2^127 as a first value => E3 8 => int x = 170141183460469231731687303715884105728;NEWLINEvoid *f(void *a) {  }NEWLINEMAINNEWLINE
+two needless zeros => E3 8 => int x = 007;
 a number that a letter follows => E3 8 => int x = 1u; MAIN
 a number that `_` follows => E3 8 => int x = 1_; MAIN
 a hexadecimal number => E3 8 => int x = 0x1; MAIN

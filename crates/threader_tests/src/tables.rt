@@ -48,6 +48,8 @@ fn an_assertion_of_zero_fails(rt: HostRuntime) -> Result<(), Fail> {
 
 /// A program of one thread, and the lines of its table: no action, actions behind a failing assertion, choices, loops.
 const ONE_THREAD: &str = "\
+int x = 170141183460469231731687303715884105727;NEWLINEvoid *f(void *a) {  }NEWLINEMAINNEWLINE => s 1 1
+#include <pthread.h>NEWLINEint x; /* shared */ void *f(void *a) { x = 1; } MAIN // done => s 1 1, s 1 2, e 1 1
 int x; void *f(void *a) { } MAIN => s 1 1
 int x; void *f(void *a) { ; { } { ; { } } } MAIN => s 1 1
 int x; void *f(void *a) { ; { } x = 1; { ; } } MAIN => s 1 1, s 1 2, e 1 1
