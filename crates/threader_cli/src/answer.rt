@@ -1,5 +1,5 @@
-ghost use Rattle.std.specs.Prelude.{◌≡◌, ◌≤◌, ◌++◌, map, length, codes, decimal, string_bytes, IfOk, IfErr};
-ghost use Rattle.threader_cli.specs.Answer.{AnswersBytes, Ends, refusal_text, usage_text, text_limit, Wrote};
+ghost use Rattle.std.specs.Prelude.{◌≡◌, ◌≤◌, map, length, string_bytes, IfOk, IfErr};
+ghost use Rattle.threader_cli.specs.Answer.{AnswersBytes, Ends, refusal_text, text_limit, Wrote};
 ghost use Rattle.threader_cli.specs.Refusals.{StopsBytes};
 
 use crate::reader::{accepted_program, main_place, text_of, tokens_of};
