@@ -1,10 +1,14 @@
+/* Two threads run the same function. Without predicates a number says nothing,
+   so each location that the text leads to is found. */
+#include <pthread.h>
+
 int count;
 
 void *worker(void *arg) {
     count = 0;
     while (__VERIFIER_nondet_int()) {
         if (__VERIFIER_nondet_int())
-            count = 1;
+            count = 1; // as often as it likes
         else
             count = -1;
     }

@@ -1,3 +1,7 @@
+// The assertion may fail: the table has the line `s 1 0 :`.
+#include <assert.h>
+#include <pthread.h>
+
 int state;
 
 void *run(void *arg) {

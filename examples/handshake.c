@@ -1,9 +1,12 @@
+/* One thread tells, the other answers; neither looks at what it is told yet. */
+#include <pthread.h>
+
 int ready = 0;
 int done = 0;
 
 void *producer(void *arg) {
     while (__VERIFIER_nondet_int())
-        ready = 1;
+        ready = 1; /* and again */
     done = 1;
 }
 

@@ -1,52 +1,57 @@
 -- Why an answer is the one to the bytes of a file.
-use Rattle.std.proofs.Common.{◌≡◌, ℕ, Bool, true, false, cond, ◌&&◌, ◌||◌, List, [], ◌∷◌, ◌++◌, map, flat_map, filter_map, find, codes, bytes_eq, Option, Some, None, is_some, option_map, IsSome, All, refl, ap, subst, ◌∙◌}
+use Rattle.std.proofs.Common.{◌≡◌, ℕ, Bool, true, false, cond, ◌&&◌, ◌||◌, List, [], ◌∷◌, ◌++◌, map, flat_map, filter_map, find, codes, length, bytes_eq, Option, Some, None, is_some, option_map, IsSome, IsUtf8, All, refl, sym, ap, subst, ◌∙◌}
 use Rattle.std.proofs.lemmas.List.Elements.{All-nil, All-cons}
 use Rattle.std.specs.List.{list_any, cons_option}
 use Rattle.thr_base.specs.Outside.{StoreMeaning, SinkMeaning}
+use Rattle.thr_base.specs.declared.stops.Stop.{Stop}
+use Rattle.thr_base.specs.declared.stops.Stop.TheVariants.{Refused, Memory}
+use Rattle.c_lex.specs.Tokens.{Lexeme, views, lexed, Stops}
+use Rattle.c_lex.specs.declared.token.Token.{Token}
+use Rattle.c_tree.specs.Item.{tree_of, parsed}
 use Rattle.threader_cli.proofs.GraphEnds.{graph_of-HasEnds}
 use Rattle.threader_cli.proofs.ReadingComplete.{IsAccepted-read}
 use Rattle.threader_cli.proofs.ReadingSound.{program_sound}
 use Rattle.threader_cli.proofs.ReadingSteps.{left_true, right_true}
 use Rattle.threader_cli.specs.Accepted.{IsAccepted, is_allowed, has_few_creations, is_small, text_declares, main_declares, find_function}
-use Rattle.threader_cli.specs.Answer.{Answers, Ends, whole, write_fault, Wrote, all, front, thread_of}
+use Rattle.threader_cli.specs.Answer.{IsText, Refuses, not_in_profile, not_built, Answers, Ends, whole, write_fault, Wrote, all, front, thread_of}
 use Rattle.threader_cli.specs.Graph.{ThreadGraph, graph_of}
 use Rattle.threader_cli.specs.Reach.{HasEnds}
 use Rattle.threader_cli.specs.Reading.{Tokens, program_at}
-use Rattle.threader_cli.specs.Seen.{token_of, texts}
+use Rattle.threader_cli.specs.Refusals.{Fails, StopsTokens, StopsBytes}
+use Rattle.threader_cli.specs.Seen.{texts}
 use Rattle.threader_cli.specs.Spelling.{spell_program, spell_variable, spell_function, spell_handle, spell_creation}
-use Rattle.threader_cli.specs.Token as specs
 use Rattle.threader_cli.specs.Tree.{Program, Creation, Function}
 use Rattle.threader_cli.specs.Word.{pieces}
-use Rattle.threader_cli.specs.declared.token.Token.{Token}
+
+-- the texts of tokens
+abbrev pub texts_of : List Lexeme → Tokens
+texts_of tokens = map (λ t. t.bytes) tokens
 
 -- the texts of the tokens that the code holds
-pub texts-tokens_of : (tokens : List Token) → texts tokens ≡ map (λ (t : specs.Token). t.text) (map token_of tokens)
-texts-tokens_of [] = refl
-texts-tokens_of (t ∷ tokens) = ap (λ ts. t.text.now ∷ ts) (texts-tokens_of tokens)
-
-abbrev pub texts_of : List ℕ → Tokens
-texts_of bytes = map (λ (t : specs.Token). t.text) (specs.tokens_of bytes)
+pub texts-views : (tokens : List Token) → texts tokens ≡ texts_of (views tokens)
+texts-views [] = refl
+texts-views (t ∷ tokens) = ap (λ ts. t.text.now ∷ ts) (texts-views tokens)
 
 -- what cannot be read is not accepted
-pub unread : (bytes : List ℕ) → program_at (texts_of bytes) ≡ None → (p : Program) → IsAccepted bytes p → ⊥
-unread bytes none p accepted = let read = IsAccepted-read bytes p accepted in cc
+pub unread : (tokens : List Lexeme) → program_at (texts_of tokens) ≡ None → (p : Program) → IsAccepted tokens p → ⊥
+unread tokens none p accepted = let read = IsAccepted-read tokens p accepted in cc
 
-allowed : (bytes : List ℕ) (p : Program) → IsAccepted bytes p → is_allowed p ≡ true
-allowed bytes p a = by_parts (has_few_creations p) (is_small p) (text_declares p) (main_declares p) a.few_creations a.small a.text_declared a.main_declared
+allowed : (tokens : List Lexeme) (p : Program) → IsAccepted tokens p → is_allowed p ≡ true
+allowed tokens p a = by_parts (has_few_creations p) (is_small p) (text_declares p) (main_declares p) a.few_creations a.small a.text_declared a.main_declared
   where
     by_parts : (a b c d : Bool) → a ≡ true → b ≡ true → c ≡ true → d ≡ true → (a && b && c && d) ≡ true
     by_parts a b c d ea eb ec ed = rw (ea, eb, ec, ed) refl
 
 -- what is read and not allowed is not accepted
-pub unallowed : (bytes : List ℕ) (read : Program) → program_at (texts_of bytes) ≡ Some read → is_allowed read ≡ false → (p : Program) → IsAccepted bytes p → ⊥
-unallowed bytes read found denied p accepted =
-    let same : p ≡ read = let again = IsAccepted-read bytes p accepted in cc in
-    let okay = subst (λ (q : Program). is_allowed q ≡ true) same (allowed bytes p accepted) in cc
+pub unallowed : (tokens : List Lexeme) (read : Program) → program_at (texts_of tokens) ≡ Some read → is_allowed read ≡ false → (p : Program) → IsAccepted tokens p → ⊥
+unallowed tokens read found denied p accepted =
+    let same : p ≡ read = let again = IsAccepted-read tokens p accepted in cc in
+    let okay = subst (λ (q : Program). is_allowed q ≡ true) same (allowed tokens p accepted) in cc
 
 -- what is read and allowed is accepted
-pub accepted : (bytes : List ℕ) (p : Program) → program_at (texts_of bytes) ≡ Some p → is_allowed p ≡ true → IsAccepted bytes p
-accepted bytes p found okay =
-    let sound = program_sound (texts_of bytes) p found in
+pub accepted : (tokens : List Lexeme) (p : Program) → program_at (texts_of tokens) ≡ Some p → is_allowed p ≡ true → IsAccepted tokens p
+accepted tokens p found okay =
+    let sound = program_sound (texts_of tokens) p found in
     let three = left_true (has_few_creations p && is_small p && text_declares p) (main_declares p) okay in
     let two = left_true (has_few_creations p && is_small p) (text_declares p) three in
     record {
@@ -58,6 +63,27 @@ accepted bytes p found okay =
       text_declared = right_true (has_few_creations p && is_small p) (text_declares p) three;
       main_declared = right_true (has_few_creations p && is_small p && text_declares p) (main_declares p) okay;
     }
+
+-- ---- why there is no table
+
+-- what stops the tokens stops the tree
+pub StopsBytes-lexed : (stop : Stop) (text : List ℕ) → IsUtf8 text → Stops stop (lexed text) → StopsBytes text stop
+StopsBytes-lexed Memory text utf8 h = tt
+StopsBytes-lexed (Refused refusal) text utf8 h = not_in_profile refusal utf8 (ap (tree_of (length text)) h)
+
+pub StopsBytes-parsed : (stop : Stop) (text : List ℕ) → IsUtf8 text → Stops stop (parsed text) → StopsBytes text stop
+StopsBytes-parsed Memory text utf8 h = tt
+StopsBytes-parsed (Refused refusal) text utf8 h = not_in_profile refusal utf8 h
+
+pub StopsBytes-tokens : (stop : Stop) (bytes : List ℕ) (tokens : List Lexeme) → IsText bytes tokens → StopsTokens tokens stop → StopsBytes bytes stop
+StopsBytes-tokens Memory bytes tokens is h = tt
+StopsBytes-tokens (Refused refusal) bytes tokens is h = subst (Refuses bytes) (sym h.0) (not_built tokens is h.1)
+
+pub StopsTokens-unread : (stop : Stop) (tokens : List Token) → Fails stop (program_at (texts tokens)) → StopsTokens (views tokens) stop
+StopsTokens-unread Memory tokens h = tt
+StopsTokens-unread (Refused refusal) tokens h = (h.0, unread (views tokens) (ap program_at (sym (texts-views tokens)) ∙ h.1))
+
+-- ---- the word `main`
 
 abbrev is_main : List ℕ → Bool
 is_main text = bytes_eq text (codes "main")
@@ -86,19 +112,19 @@ spells_main p =
     (any-left (flat_map spell_variable p.variables ++ flat_map spell_function p.functions ++ pieces (codes "int main ( ) {")) _
     (any-right (flat_map spell_variable p.variables ++ flat_map spell_function p.functions) (pieces (codes "int main ( ) {")) refl)))
 
-found_main : (tokens : List specs.Token) → list_any is_main (map (λ (t : specs.Token). t.text) tokens) ≡ true → is_some (find (λ (t : specs.Token). is_main t.text) tokens) ≡ true
+found_main : (tokens : List Lexeme) → list_any is_main (map (λ (t : Lexeme). t.bytes) tokens) ≡ true → is_some (find (λ (t : Lexeme). is_main t.bytes) tokens) ≡ true
 found_main [] h = h
-found_main (t ∷ tokens) h = by_first (is_main t.text) h (found_main tokens)
+found_main (t ∷ tokens) h = by_first (is_main t.bytes) h (found_main tokens)
   where
-    by_first : (b : Bool) → (b || list_any is_main (map (λ (t : specs.Token). t.text) tokens)) ≡ true
-        → (list_any is_main (map (λ (t : specs.Token). t.text) tokens) ≡ true → is_some (find (λ (t : specs.Token). is_main t.text) tokens) ≡ true)
-        → is_some (cond b (Some t) (find (λ (t : specs.Token). is_main t.text) tokens)) ≡ true
+    by_first : (b : Bool) → (b || list_any is_main (map (λ (t : Lexeme). t.bytes) tokens)) ≡ true
+        → (list_any is_main (map (λ (t : Lexeme). t.bytes) tokens) ≡ true → is_some (find (λ (t : Lexeme). is_main t.bytes) tokens) ≡ true)
+        → is_some (cond b (Some t) (find (λ (t : Lexeme). is_main t.bytes) tokens)) ≡ true
     by_first true e later = refl
     by_first false e later = later e
 
 -- a program has its word `main`
-pub main_there : (bytes : List ℕ) (p : Program) → IsAccepted bytes p → IsSome (find (λ (t : specs.Token). bytes_eq t.text (codes "main")) (specs.tokens_of bytes))
-main_there bytes p a = found_main (specs.tokens_of bytes) (ap (list_any is_main) a.spelled ∙ spells_main p)
+pub main_there : (tokens : List Lexeme) (p : Program) → IsAccepted tokens p → IsSome (find (λ (t : Lexeme). bytes_eq t.bytes (codes "main")) tokens)
+main_there tokens p a = found_main tokens (ap (list_any is_main) a.spelled ∙ spells_main p)
 
 ends_of : (o : Option Function) (rest : List ThreadGraph) → All HasEnds rest → All HasEnds (cons_option (option_map (λ f. graph_of f.body) o) rest)
 ends_of None rest h = h

@@ -15,6 +15,5 @@ pub mod SeenLemmas
 pub mod StatementComplete
 pub mod StatementSound
 pub mod TableLemmas
-pub mod TokenLemmas
 pub mod WordLemmas
 pub mod WordsLemmas

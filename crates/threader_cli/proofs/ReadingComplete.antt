@@ -1,6 +1,7 @@
 -- What is spelled so, and is proper, is read.
 use Rattle.std.proofs.Common.{◌≡◌, ℕ, suc, Bool, true, false, not, ◌&&◌, List, [], ◌∷◌, ◌++◌, map, length, codes, flat_map, Option, Some, None, IsTrue, refl, ap, ap₂, ◌∙◌, arith, leb-true}
 use Rattle.std.specs.List.{list_all}
+use Rattle.c_lex.specs.Tokens.{Lexeme}
 use Rattle.threader_cli.proofs.ReadingSteps.{left_true, right_true}
 use Rattle.threader_cli.proofs.ReadingShrinks.{statement_shrinks, variable_shrinks, function_shrinks, handle_shrinks, creation_shrinks}
 use Rattle.threader_cli.proofs.ReadingSound.{is_proper_variable, is_proper_function, is_proper_creation, is_shallow_function, from_creations, from_main, from_functions, spell_program-parts}
@@ -9,7 +10,6 @@ use Rattle.threader_cli.proofs.StatementComplete.{Again, many_again, no_main}
 use Rattle.threader_cli.specs.Accepted.{IsAccepted, are_proper, is_proper_start, is_proper_program, is_shallow, deepest}
 use Rattle.threader_cli.specs.Reading.{Tokens, Reading, begins, each, statement_at, level_limit, variable_at, function_at, handle_at, creation_at, is_variable, program_at}
 use Rattle.threader_cli.specs.Spelling.{spell_variable, spell_function, spell_handle, spell_creation, spell_program}
-use Rattle.threader_cli.specs.Token.{tokens_of}
 use Rattle.threader_cli.specs.Tree.{Variable, Function, Creation, Program}
 use Rattle.threader_cli.specs.Word.{pieces, is_name}
 
@@ -126,6 +126,6 @@ program_complete p proper shallow =
     each_again (begins (codes "pthread_create")) creation_at spell_creation is_proper_creation creation_turn cs (pieces (codes "return 0 ; }")) (right_true (a && b && c) d proper) refl in
     ap program_at (spell_program-parts p) ∙ rw (variables, functions, handles, creations) refl
 
--- what is accepted is read from the text's tokens
-pub IsAccepted-read : (bytes : List ℕ) (p : Program) → IsAccepted bytes p → program_at (map (λ token. token.text) (tokens_of bytes)) ≡ Some p
-IsAccepted-read bytes p accepted = ap program_at accepted.spelled ∙ program_complete p accepted.proper accepted.shallow
+-- what is accepted is read from the tokens
+pub IsAccepted-read : (tokens : List Lexeme) (p : Program) → IsAccepted tokens p → program_at (map (λ token. token.bytes) tokens) ≡ Some p
+IsAccepted-read tokens p accepted = ap program_at accepted.spelled ∙ program_complete p accepted.proper accepted.shallow

@@ -1,9 +1,9 @@
 -- Which texts are programs of the narrow language.
 use Rattle.std.specs.Prelude.{◌≡◌, ℕ, ◌+◌, Bool, true, false, not, ◌&&◌, max, List, [], ◌∷◌, ◌++◌, map, length, find, is_some, Option, Some, None, bytes_eq, nat_le, IsTrue}
 use Rattle.std.specs.List.{list_any, list_all}
+use Rattle.c_lex.specs.Tokens.{Lexeme}
 use Rattle.threader_cli.specs.Graph.{graph_of}
 use Rattle.threader_cli.specs.Spelling.{spell_program}
-use Rattle.threader_cli.specs.Token.{tokens_of}
 use Rattle.threader_cli.specs.Tree.{Statement, Block, Empty, Assign, AssertFalse, If, IfElse, While, Statements, End, Then, Function, Creation, Program}
 use Rattle.threader_cli.specs.Word.{is_name, is_number}
 
@@ -114,9 +114,9 @@ is_shallow p = list_all (λ f. nat_le (deepest f.body) 64) p.functions
 abbrev pub is_allowed : Program → Bool
 is_allowed p = has_few_creations p && is_small p && text_declares p && main_declares p
 
--- The bytes are a text of the narrow language, and this is its tree.
-pub record IsAccepted (bytes : List ℕ) (p : Program) : Type 0 where
-  pub spelled : map (λ token. token.text) (tokens_of bytes) ≡ spell_program p
+-- The tokens are those of a text of the narrow language, and this is its tree.
+pub record IsAccepted (tokens : List Lexeme) (p : Program) : Type 0 where
+  pub spelled : map (λ token. token.bytes) tokens ≡ spell_program p
   pub proper : IsTrue (is_proper_program p)
   pub shallow : IsTrue (is_shallow p)
   pub few_creations : IsTrue (has_few_creations p)

@@ -9,6 +9,5 @@ pub mod Refusals
 pub mod Seen
 pub mod Spelling
 pub mod Table
-pub mod Token
 pub mod Tree
 pub mod Word

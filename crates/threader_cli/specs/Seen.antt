@@ -1,11 +1,10 @@
 -- What a contract sees of the trees that the code holds.
 use Rattle.std.specs.Prelude.{ℕ, List, map, option_map}
+use Rattle.c_lex.specs.declared.token.Token.{Token}
 use Rattle.threader_cli.specs.Graph as graph
-use Rattle.threader_cli.specs.Token as specs
 use Rattle.threader_cli.specs.declared.graph.Edge.{Edge}
 use Rattle.threader_cli.specs.declared.graph.Graph.{Graph}
 use Rattle.threader_cli.specs.Tree as tree
-use Rattle.threader_cli.specs.declared.token.Token.{Token}
 use Rattle.threader_cli.specs.declared.tree.Statement.{Statement, Block', Empty, Assign, AssertFalse, If', IfElse', While', Row_of-Statement, end_of-Statement, more_of-Statement}
 use Rattle.threader_cli.specs.declared.tree.Variable.{Variable}
 use Rattle.threader_cli.specs.declared.tree.Function.{Function}
@@ -46,9 +45,6 @@ program_of p = record {
   handles = map (λ name. name.items) p.handles.items;
   creations = map creation_of p.creations.items;
 }
-
-abbrev pub token_of : Token → specs.Token
-token_of t = record { from = t.from; text = t.text.now }
 
 -- the texts of tokens
 abbrev pub texts : List Token → List (List ℕ)

@@ -1,20 +1,19 @@
-ghost use Rattle.std.specs.Prelude.{◌≡◌, ◌≤◌, ◌++◌, map, length, codes, decimal, bytes_eq, find, option_map, string_bytes, IfOk, IsSome};
-ghost use Rattle.threader_cli.specs.Answer.{AnswersBytes, Ends, refusal_text, usage_text, text_limit, Wrote};
-ghost use Rattle.threader_cli.specs.Seen.{token_of};
+ghost use Rattle.std.specs.Prelude.{◌≡◌, ◌≤◌, map, length, string_bytes, IfOk, IfErr};
+ghost use Rattle.threader_cli.specs.Answer.{AnswersBytes, Ends, refusal_text, text_limit, Wrote};
+ghost use Rattle.threader_cli.specs.Refusals.{StopsBytes};
 
-use crate::accept::is_accepted;
-use crate::program::program;
+use crate::reader::{accepted_program, main_place, text_of, tokens_of};
 use crate::table::table;
 use crate::threads::threads;
-use crate::token::{Token, tokens};
-use crate::word::is_text;
 use crate::words::tables_file;
 use itoa::Buffer;
 use std::alloc::{AllocError, Global};
-use thr_base::{Failed, ReadStop, Sink, Stop, Store, read_all, write_all};
+use thr_base::{Failed, ReadStop, Refusal, Sink, Stop, Store, read_all, write_all};
 
 /// How many bytes a program's text may have.
 const TEXT_LIMIT: u32 = 1_048_576;
+
+const NO_THREAD: u8 = 10;
 
 /// All that the program does for its words: the answer goes to the sink, and the result is the status.
 pub fn threader_serial<S: Store, K: Sink>(
@@ -66,45 +65,42 @@ fn answer_to(alloc: Global, bytes: &[u8]) -> Result<Answer, AllocError>
     requires { length bytes.now ≤ text_limit }
     ensures { IfOk result (λ answer. AnswersBytes bytes.now answer.status answer.text.items) }
 {
-    let tokens = tokens(alloc, bytes)?;
-    let program = match program(alloc, &tokens) {
-        Ok(program) => program,
-        Err(Stop::Refused(_)) => return refusal(alloc, 14, 0),
-        Err(Stop::Memory) => return Err(AllocError),
-    };
-    if !is_accepted(alloc, &program)? {
-        return refusal(alloc, 14, 0);
+    match table_of(alloc, bytes) {
+        Ok(text) => Ok(Answer { status: 0, text }),
+        Err(Stop::Refused(refusal)) => Ok(Answer {
+            status: 3,
+            text: refusal_text(alloc, refusal)?,
+        }),
+        Err(Stop::Memory) => Err(AllocError),
     }
+}
+
+/// The table of the program that the bytes are the text of.
+fn table_of(alloc: Global, bytes: &[u8]) -> Result<Vec<u8>, Stop>
+    requires { length bytes.now ≤ text_limit }
+    ensures table { IfOk result (λ text. AnswersBytes bytes.now 0 text.items) }
+    ensures stops { IfErr result (StopsBytes bytes.now) }
+{
+    let text = text_of(bytes)?;
+    let tokens = tokens_of(alloc, text)?;
+    let program = accepted_program(alloc, &tokens)?;
     if program.creations.is_empty() {
-        return refusal(alloc, 10, main_place(&tokens));
+        return Err(Stop::Refused(Refusal {
+            code: NO_THREAD,
+            place: main_place(&tokens),
+        }));
     }
     let threads = threads(alloc, &program)?;
-    Ok(Answer {
-        status: 0,
-        text: table(alloc, &threads)?,
-    })
+    Ok(table(alloc, &threads)?)
 }
 
-fn refusal(alloc: Global, code: u8, place: u32) -> Result<Answer, AllocError>
-    ensures { IfOk result (λ answer. (answer.status ≡ 3) × (answer.text.items ≡ refusal_text code place)) }
+fn refusal_text(alloc: Global, refusal: Refusal) -> Result<Vec<u8>, AllocError>
+    ensures { IfOk result (λ text. text.items ≡ refusal_text refusal) }
 {
     let mut text = Vec::from_slice(alloc, b"program E")?;
-    text.extend_from_slice(Buffer::new().format(code).as_bytes())?;
+    text.extend_from_slice(Buffer::new().format(refusal.code).as_bytes())?;
     text.extend_from_slice(b" ")?;
-    text.extend_from_slice(Buffer::new().format(place).as_bytes())?;
+    text.extend_from_slice(Buffer::new().format(refusal.place).as_bytes())?;
     text.extend_from_slice(b"\n")?;
-    Ok(Answer { status: 3, text })
-}
-
-/// The place of the word `main`, where there is one.
-fn main_place(tokens: &[Token<'_>]) -> u32
-    requires { IsSome (find (λ token. bytes_eq token.text (codes "main")) (map token_of tokens.now)) }
-    ensures { option_map (λ token. token.from) (find (λ token. bytes_eq token.text (codes "main")) (map token_of tokens.now)) ≡ Some result }
-{
-    for token in tokens {
-        if is_text(token.text, "main") {
-            return token.from;
-        }
-    }
-    unreachable!()
+    Ok(text)
 }

@@ -3,8 +3,8 @@ ghost use Rattle.threader_cli.specs.Reading as specs;
 ghost use Rattle.threader_cli.specs.Refusals.{not_built, Gives};
 ghost use Rattle.threader_cli.specs.Seen.{texts};
 
-use crate::token::Token;
-use crate::word::{is_name, is_number, is_text};
+use crate::word::{is_name, is_number};
+use c_lex::Token;
 use std::alloc::Global;
 use std::marker::Model;
 use thr_base::{Refusal, Stop};
@@ -40,7 +40,7 @@ impl<'a> Cursor<'a> {
     pub fn begins(&self, text: &str) -> bool
         ensures { result ≡ specs.begins text.now self.now }
     {
-        self.at < self.tokens.len() && is_text(self.tokens[self.at].text, text)
+        self.at < self.tokens.len() && self.tokens[self.at].text == text
     }
 
     /// Whether the token behind the next one is this one.
@@ -55,7 +55,7 @@ impl<'a> Cursor<'a> {
         ahead.begins(text)
     }
 
-    pub fn next(&mut self) -> Option<&'a [u8]>
+    pub fn next(&mut self) -> Option<&'a str>
         ensures { MatchOption result ((self.old ≡ []) × (self.new ≡ [])) (λ first. self.old ≡ first.now ∷ self.new) }
     {
         if self.at == self.tokens.len() {
@@ -83,7 +83,7 @@ impl<'a> Cursor<'a> {
         ensures { Gives (λ name. (name.items, self.new)) result (specs.name_at self.old) }
     {
         match self.next() {
-            Some(first) if is_name(first) => Ok(Vec::from_slice(alloc, first)?),
+            Some(first) if is_name(first) => Ok(Vec::from_slice(alloc, first.as_bytes())?),
             _ => Err(NOT_BUILT),
         }
     }
@@ -92,7 +92,7 @@ impl<'a> Cursor<'a> {
         ensures { Gives (λ digits. (digits.items, self.new)) result (specs.number_at self.old) }
     {
         match self.next() {
-            Some(first) if is_number(first) => Ok(Vec::from_slice(alloc, first)?),
+            Some(first) if is_number(first) => Ok(Vec::from_slice(alloc, first.as_bytes())?),
             _ => Err(NOT_BUILT),
         }
     }

@@ -5,8 +5,8 @@ ghost use Rattle.threader_cli.specs.Seen.{variable_of, function_of, creation_of,
 
 use crate::cursor::{Cursor, NOT_BUILT};
 use crate::statement::body;
-use crate::token::Token;
 use crate::tree::{Creation, Function, Program, Variable};
+use c_lex::Token;
 use std::alloc::Global;
 use thr_base::Stop;
 

@@ -1,9 +1,10 @@
-ghost use Rattle.std.specs.Prelude.{◌≡◌, ◌^◌, true, map, nat_lt, bytes_eq};
+ghost use Rattle.std.specs.Prelude.{◌≡◌, ◌^◌, ◌<◌, true, length, map, nat_lt, bytes_eq};
+ghost use Rattle.std.specs.Char.{is_ascii_digit};
 ghost use Rattle.std.specs.List.{list_any, list_all};
-ghost use Rattle.threader_cli.specs.Token.{is_word_byte, is_digit};
+ghost use Rattle.std.specs.Str.Parse.{digits_value};
+ghost use Rattle.c_lex.specs.Bytes.{is_letter, is_word_byte};
+ghost use Rattle.c_lex.specs.Piece.{is_number_text};
 ghost use Rattle.threader_cli.specs.Word as specs;
-
-use crate::token;
 
 /// The words that are no names: those of the profile, and those of C that it refuses.
 pub const RESERVED: [&str; 61] = [
@@ -70,19 +71,12 @@ pub const RESERVED: [&str; 61] = [
     "while",
 ];
 
-/// Whether the bytes are these.
-pub fn is_text(bytes: &[u8], text: &str) -> bool
-    ensures { result ≡ bytes_eq bytes.now text.now }
+/// Whether the text is among the words.
+fn is_among(text: &str, words: &[&str]) -> bool
+    ensures { result ≡ list_any (bytes_eq text.now) (map (λ word. word.now) words.now) }
 {
-    bytes == text.as_bytes()
-}
-
-/// Whether the bytes are among the texts.
-fn is_among(bytes: &[u8], texts: &[&str]) -> bool
-    ensures { result ≡ list_any (bytes_eq bytes.now) (map (λ text. text.now) texts.now) }
-{
-    for text in texts {
-        if is_text(bytes, text) {
+    for word in words {
+        if text == *word {
             return true;
         }
     }
@@ -90,62 +84,68 @@ fn is_among(bytes: &[u8], texts: &[&str]) -> bool
 }
 
 #[tactic(auto, unfolding(crate::specs::Word::reserved))]
-fn is_reserved(text: &[u8]) -> bool
+fn is_reserved(text: &str) -> bool
     ensures { result ≡ list_any (bytes_eq text.now) specs.reserved }
 {
     is_among(text, &RESERVED)
 }
 
+fn is_letter(byte: u8) -> bool
+    ensures { result ≡ is_letter byte }
+{
+    byte.is_ascii_alphabetic() || byte == b'_'
+}
+
 fn are_word_bytes(bytes: &[u8]) -> bool
     ensures { result ≡ list_all is_word_byte bytes.now }
 {
-    bytes.iter().all(|b| token::is_word_byte(*b))
+    bytes.iter().all(|b| is_letter(*b) || b.is_ascii_digit())
 }
 
-fn is_word(text: &[u8]) -> bool
+fn is_word(text: &str) -> bool
     ensures { result ≡ specs.is_word text.now }
 {
-    match text {
+    match text.as_bytes() {
         [] => false,
-        [first, rest @ ..] => token::is_letter(*first) && are_word_bytes(rest),
+        [first, rest @ ..] => is_letter(*first) && are_word_bytes(rest),
     }
 }
 
 #[tactic(auto, unfolding(crate::specs::Word::is_name))]
-pub fn is_name(text: &[u8]) -> bool
+pub fn is_name(text: &str) -> bool
     ensures { result ≡ specs.is_name text.now }
 {
     is_word(text) && !is_reserved(text)
 }
 
-fn are_digits(bytes: &[u8]) -> bool
-    ensures { result ≡ list_all is_digit bytes.now }
+fn are_digits(text: &str) -> bool
+    ensures { result ≡ list_all is_ascii_digit text.now }
 {
-    bytes.iter().all(|b| token::is_digit(*b))
+    text.as_bytes().iter().all(|b| b.is_ascii_digit())
 }
 
 /// Whether digits stand for a number below 2^127.
-fn is_small(digits: &[u8]) -> bool
-    requires { list_all is_digit digits.now ≡ true }
-    ensures { result ≡ nat_lt (specs.value_of digits.now) (2 ^ 127) }
+fn fits(digits: &str) -> bool
+    requires some { 0 < length digits.now }
+    requires digits { list_all is_ascii_digit digits.now ≡ true }
+    ensures { result ≡ nat_lt (digits_value 10 digits.now) (2 ^ 127) }
 {
-    let mut value = 0u128;
-    for digit in digits {
-        if value >= 1 << 124 {
-            return false;
-        }
-        value = 10 * value + (*digit - b'0') as u128;
-    }
-    value < 1 << 127
+    digits.parse::<i128>().is_ok()
+}
+
+/// Whether digits have no needless zero, and stand for a number below 2^127.
+fn is_number_text(digits: &str) -> bool
+    requires some { 0 < length digits.now }
+    requires digits { list_all is_ascii_digit digits.now ≡ true }
+    ensures { result ≡ is_number_text digits.now }
+{
+    let bytes = digits.as_bytes();
+    (bytes.len() == 1 || bytes[0] != b'0') && fits(digits)
 }
 
 #[tactic(auto, unfolding(crate::specs::Word::is_number))]
-pub fn is_number(text: &[u8]) -> bool
+pub fn is_number(text: &str) -> bool
     ensures { result ≡ specs.is_number text.now }
 {
-    match text {
-        [] => false,
-        [only] => token::is_digit(*only),
-        [first, ..] => *first != b'0' && are_digits(text) && is_small(text),
-    }
+    !text.is_empty() && are_digits(text) && is_number_text(text)
 }

@@ -16,7 +16,10 @@ fn a_missing_file_is_a_fault(rt: HostRuntime) -> Result<(), Fail> {
 
 /// The status, where this call of the store fails, and whether the text that goes with it is written.
 fn where_store_fails(alloc: Global, call: u64) -> Result<(u8, bool), Fail> {
-    let mut store = MemStore::new(files(alloc, ASSIGNS_ONCE)?, vec![in alloc; call]?);
+    let mut store = MemStore::new(
+        files(alloc, ASSIGNS_ONCE.as_bytes())?,
+        vec![in alloc; call]?,
+    );
     let mut out = RoomSink::new(alloc, 64)?;
     let status = threader_serial(alloc, &words(alloc, "tables x.c")?, &mut store, &mut out);
     let text = if status == 0 {
@@ -54,7 +57,7 @@ impl Sink for FourAtOnce {
 
 /// The status, where this call of a sink that takes four bytes at once fails, and how many bytes of the table are written.
 fn where_sink_fails(alloc: Global, call: u64) -> Result<(u8, usize), Fail> {
-    let mut store = HonestStore::new(files(alloc, ASSIGNS_ONCE)?);
+    let mut store = HonestStore::new(files(alloc, ASSIGNS_ONCE.as_bytes())?);
     let sink = MemSink::new(alloc, 64, vec![in alloc; call]?)?;
     let mut out = FourAtOnce { sink };
     let status = threader_serial(alloc, &words(alloc, "tables x.c")?, &mut store, &mut out);
@@ -88,7 +91,7 @@ fn each_fault_of_the_sink_leaves_a_front(rt: HostRuntime) -> Result<(), Fail> {
 #[test]
 fn a_sink_that_takes_nothing_is_a_fault(rt: HostRuntime) -> Result<(), Fail> {
     for line in ["tables x.c", "tables y.c", ""] {
-        let mut store = HonestStore::new(files(rt.alloc(), ASSIGNS_ONCE)?);
+        let mut store = HonestStore::new(files(rt.alloc(), ASSIGNS_ONCE.as_bytes())?);
         let words = words(rt.alloc(), line)?;
         let status = threader_serial(rt.alloc(), &words, &mut store, &mut ZeroSink::new());
         assert_eq!(rt; status, 6, "{line}");

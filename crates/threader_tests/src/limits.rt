@@ -1,5 +1,6 @@
 use crate::runs::{NOT_BUILT, run, spelled};
 use std::alloc::{AllocError, Global};
+use std::str::FromStr;
 use std::test::Fail;
 
 /// A text so many times.
@@ -11,42 +12,47 @@ fn times(alloc: Global, count: u32, text: &str) -> Result<String, AllocError> {
     Ok(all)
 }
 
-/// So many times what the first two words say, round what the third says, is a function's body.
-fn status_of(alloc: Global, count: u32, front: &str, back: &str, inside: &str) -> Result<u8, Fail> {
+/// The status and what is written, where so many fronts, what is inside and so many backs are a function's body.
+fn run_body(
+    alloc: Global,
+    count: u32,
+    front: &str,
+    inside: &str,
+    back: &str,
+) -> Result<(u8, String), Fail> {
     let fronts = times(alloc, count, front)?;
     let backs = times(alloc, count, back)?;
-    let text = format!(in alloc; "int x; void *f(void *a) {{ {fronts} {inside} {backs} }} MAIN")?;
-    let (status, written) = run(alloc, "tables x.c", &spelled(alloc, &text)?)?;
-    if status == 3 && written.as_str() != NOT_BUILT {
-        return Err("another refusal")?;
-    }
-    Ok(status)
+    let text = format!(in alloc; "int x; void *f(void *a) {{ {fronts}{inside}{backs} }} MAIN")?;
+    run(alloc, "tables x.c", &spelled(alloc, &text)?)
 }
 
-/// How often, in front, behind and inside: the last count at which the body is accepted.
+/// The last count at which a body is accepted, the answer at the next, and the front, the inside and the back. A function
+/// has 128 locations: one for each action, the failing one, and the exit. Statements lie in 64 levels, where the block
+/// of an `else` is part of the nearer `if`.
+const LIMITS: &str = "\
+126|E14 0|x=1;||
+126|E14 0|if(?);||
+64|E11 90|{||}
+63|E11 90|{|x = 1;|}
+63|E11 1946|while(?)|;|
+63|E11 2132|if(?);else |;|
+60|E11 151|{|if(?) if(?); else { ; }|}";
+
 #[test]
 fn bodies_have_limits(rt: HostRuntime) -> Result<(), Fail> {
-    let cases = [
-        // 128 locations: one for each action, the failing one, and the exit
-        (126, "x = 1; ", "", ""),
-        (126, "if (?) ; ", "", ""),
-        // 64 levels
-        (64, "{ ", "} ", ""),
-        (63, "{ ", "} ", "x = 1;"),
-        (63, "while (?) ", "", ";"),
-        (63, "if (?) ; else ", "", ";"),
-        // the block is part of the nearer `if`
-        (60, "{ ", "} ", "if (?) if (?) ; else { ; }"),
-    ];
-    for (count, front, back, inside) in cases {
-        let within = status_of(rt.alloc(), count, front, back, inside)?;
-        assert_eq!(rt; within, 0, "{count} times {front} round {inside}");
-        let past = status_of(rt.alloc(), count + 1, front, back, inside)?;
-        assert_eq!(rt;
-            past,
-            3,
-            "{count} times and once more {front} round {inside}"
-        );
+    for case in LIMITS.split('\n') {
+        let mut parts = case.split('|');
+        let count = u8::from_str(parts.next().ok_or("no count")?)?;
+        let answer = parts.next().ok_or("no answer")?;
+        let front = parts.next().ok_or("no front")?;
+        let inside = parts.next().ok_or("no inside")?;
+        let back = parts.next().ok_or("no back")?;
+        let (within, _table) = run_body(rt.alloc(), count as u32, front, inside, back)?;
+        assert_eq!(rt; within, 0, "{case}");
+        let (past, written) = run_body(rt.alloc(), count as u32 + 1, front, inside, back)?;
+        assert_eq!(rt; past, 3, "{case}");
+        let refusal = format!(in rt.alloc(); "program {answer}\n")?;
+        assert_eq!(rt; written, refusal, "{case}");
     }
     Ok(())
 }

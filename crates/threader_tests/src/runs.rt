@@ -12,10 +12,12 @@ pub const ITS_TABLE: &str = "s 1 1 :\ns 1 2 :\ne 1 1 :\nend\n";
 
 pub const NOT_BUILT: &str = "program E14 0\n";
 
-/// A text in which `?` stands for a free choice, and `MAIN` for a `main` with one thread that runs `f`.
+/// A text in which `?` stands for a free choice, `NEWLINE` for the end of a line, and `MAIN` for a `main` with one thread
+/// that runs `f`.
 pub fn spelled(alloc: Global, text: &str) -> Result<String, AllocError> {
     let main = "int main() { pthread_t t; pthread_create(&t, 0, f, 0); return 0; }";
     text.replace(alloc, "?", "__VERIFIER_nondet_int()")?
+        .replace(alloc, "NEWLINE", "\n")?
         .replace(alloc, "MAIN", main)
 }
 
@@ -28,21 +30,31 @@ pub fn words(alloc: Global, line: &str) -> Result<Vec<String>, AllocError> {
     Ok(words)
 }
 
-/// One file, `x.c`, with this text.
-pub fn files(alloc: Global, text: &str) -> Result<Vec<(String, Vec<u8>)>, AllocError> {
+/// One file, `x.c`, with these bytes.
+pub fn files(alloc: Global, bytes: &[u8]) -> Result<Vec<(String, Vec<u8>)>, AllocError> {
     let mut files = Vec::new(alloc);
     files.push((
         String::from_str(alloc, "x.c")?,
-        Vec::from_slice(alloc, text.as_bytes())?,
+        Vec::from_slice(alloc, bytes)?,
     ))?;
     Ok(files)
 }
 
-/// The status, and what is written, where the words are these and the file `x.c` has this text.
-pub fn run(alloc: Global, line: &str, text: &str) -> Result<(u8, String), Fail> {
-    let mut store = HonestStore::new(files(alloc, text)?);
+/// The status, and what is written, where the words are these and the file `x.c` has these bytes.
+fn run_words(alloc: Global, line: &str, bytes: &[u8]) -> Result<(u8, String), Fail> {
+    let mut store = HonestStore::new(files(alloc, bytes)?);
     let mut out = RoomSink::new(alloc, 1 << 16)?;
     let status = threader_serial(alloc, &words(alloc, line)?, &mut store, &mut out);
     let written = str::from_utf8(out.written())?;
     Ok((status, String::from_str(alloc, written)?))
+}
+
+/// The status, and what is written, where the words are these and the file `x.c` has this text.
+pub fn run(alloc: Global, line: &str, text: &str) -> Result<(u8, String), Fail> {
+    run_words(alloc, line, text.as_bytes())
+}
+
+/// The status, and what is written, where the file `x.c` has these bytes.
+pub fn run_bytes(alloc: Global, bytes: &[u8]) -> Result<(u8, String), Fail> {
+    run_words(alloc, "tables x.c", bytes)
 }

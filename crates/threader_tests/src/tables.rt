@@ -10,6 +10,25 @@ fn main_alone_is_refused(rt: HostRuntime) -> Result<(), Fail> {
     Ok(())
 }
 
+/// The word `main` in front of other words, behind comments, and in one.
+const MAINS: &str = "\
+4 => int main() { return 0; }
+17 => /* main */   int main() { return 0; }
+17 => // main \u{e9} NEWLINE int main() { return 0; }
+36 => int x; void *f(void *main_) { } int main() { return 0; }";
+
+#[test]
+fn the_place_of_main_is_told(rt: HostRuntime) -> Result<(), Fail> {
+    for case in MAINS.split('\n') {
+        let (place, text) = case.split_once(" => ").ok_or("no place")?;
+        let (status, written) = run(rt.alloc(), "tables x.c", &spelled(rt.alloc(), text)?)?;
+        let refusal = format!(in rt.alloc(); "program E10 {place}\n")?;
+        assert_eq!(rt; status, 3, "{case}");
+        assert_eq!(rt; written, refusal, "{case}");
+    }
+    Ok(())
+}
+
 #[test]
 fn an_assignment_has_four_lines(rt: HostRuntime) -> Result<(), Fail> {
     let (status, written) = run(rt.alloc(), "tables x.c", ASSIGNS_ONCE)?;
@@ -29,6 +48,8 @@ fn an_assertion_of_zero_fails(rt: HostRuntime) -> Result<(), Fail> {
 
 /// A program of one thread, and the lines of its table: no action, actions behind a failing assertion, choices, loops.
 const ONE_THREAD: &str = "\
+int x = 170141183460469231731687303715884105727;NEWLINEvoid *f(void *a) {  }NEWLINEMAINNEWLINE => s 1 1
+#include <pthread.h>NEWLINEint x; /* shared */ void *f(void *a) { x = 1; } MAIN // done => s 1 1, s 1 2, e 1 1
 int x; void *f(void *a) { } MAIN => s 1 1
 int x; void *f(void *a) { ; { } { ; { } } } MAIN => s 1 1
 int x; void *f(void *a) { ; { } x = 1; { ; } } MAIN => s 1 1, s 1 2, e 1 1
