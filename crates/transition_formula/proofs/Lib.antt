@@ -5,3 +5,4 @@ pub mod Programs
 pub mod ProductLemmas
 pub mod InitialRows
 pub mod NextValues
+pub mod StepRows

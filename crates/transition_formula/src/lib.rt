@@ -12,5 +12,5 @@ mod program;
 pub use edges::edge_rows;
 pub use graph::{Column, Edge, Line, ThreadGraph};
 pub use initial::init_rows;
-pub use laws::init_rows_are_exact;
+pub use laws::{edge_rows_are_exact, init_rows_are_exact};
 pub use program::Program;
