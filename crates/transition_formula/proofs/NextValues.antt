@@ -1,5 +1,5 @@
 -- The state after a step, column by column.
-use Rattle.std.proofs.Common.{◌≡◌, ◌≢◌, inl, inr, ℕ, zero, suc, ◌+◌, ◌<◌, ◌≤◌, ℤ, pos, List, [], ◌∷◌, map, length, get_or, set, Bool, true, false, cond, filter, refl, sym, ◌∙◌, ap, subst, arith}
+use Rattle.std.proofs.Common.{◌≡◌, inl, inr, ℕ, zero, suc, ◌+◌, ◌<◌, ◌≤◌, ℤ, pos, List, [], ◌∷◌, map, length, get_or, set, Bool, true, false, cond, filter, refl, sym, ◌∙◌, ap, subst, arith}
 use Rattle.std.specs.Prelude.{◌==◌, ◌||◌, nat_eq}
 use Rattle.std.specs.List.{AllByRecursion, list_any, IsDistinct, range_with_len}
 use Rattle.std.proofs.lemmas.List.{length-set, get_or-set_same, get_or-set_other}
@@ -19,7 +19,7 @@ is_set sets c = list_any (λ set. set.0 == c) sets
 
 pub get_or-set : (xs : List ℤ) (d c : ℕ) (v : ℤ) → c < length xs → get_or (set xs d v) c (pos 0) ≡ cond (d == c) v (get_or xs c (pos 0))
 get_or-set xs d c v h = elim (eqb_tells d c) [
-  inl (hit, same) ↦ rw hit (subst (λ (k : ℕ). get_or (set xs k v) c (pos 0) ≡ v) (sym same) (get_or-set_same xs c v (pos 0) h))
+  | inl (hit, same) ↦ rw hit (subst (λ (k : ℕ). get_or (set xs k v) c (pos 0) ≡ v) (sym same) (get_or-set_same xs c v (pos 0) h))
   | inr (miss, other) ↦ rw miss (get_or-set_other xs d c v (pos 0) (λ e. other (sym e)))
 ]
 
@@ -41,7 +41,7 @@ pub next_value-from : (sets : List (ℕ × Form)) (w before after : List ℤ) (c
     → get_or after c (pos 0) ≡ next_value sets w before c
 next_value-from [] w before after c all kept = kept refl
 next_value-from ((d, form) ∷ sets) w before after c all kept = elim (eqb_tells d c) [
-  inl (hit, same) ↦ rw hit (subst (λ (k : ℕ). get_or after k (pos 0) ≡ value_of form w) same all.0)
+  | inl (hit, same) ↦ rw hit (subst (λ (k : ℕ). get_or after k (pos 0) ≡ value_of form w) same all.0)
   | inr (miss, other) ↦ rw miss (next_value-from sets w before after c all.1 (λ none. kept (ap (λ b. b || is_set sets c) miss ∙ none)))
 ]
 
@@ -49,7 +49,7 @@ next_value-from ((d, form) ∷ sets) w before after c all kept = elim (eqb_tells
 pub next_value-kept : (sets : List (ℕ × Form)) (w state : List ℤ) (c : ℕ) → is_set sets c ≡ false → next_value sets w state c ≡ get_or state c (pos 0)
 next_value-kept [] w state c none = refl
 next_value-kept ((d, form) ∷ sets) w state c none = elim (eqb_tells d c) [
-  inl (hit, same) ↦ let wrong : true ≡ false = sym (ap (λ b. b || is_set sets c) hit) ∙ none in cc
+  | inl (hit, same) ↦ let wrong : true ≡ false = sym (ap (λ b. b || is_set sets c) hit) ∙ none in cc
   | inr (miss, other) ↦ rw miss (next_value-kept sets w state c (sym (ap (λ b. b || is_set sets c) miss) ∙ none))
 ]
 
@@ -57,7 +57,7 @@ next_value-kept ((d, form) ∷ sets) w state c none = elim (eqb_tells d c) [
 differs : (d c : ℕ) (sets : List (ℕ × Form)) → AllByRecursion (λ y. nat_eq d y ≡ false) (map (λ set. set.0) sets) → is_set sets c ≡ true → (d == c) ≡ false
 differs d c [] apart found = cc
 differs d c ((e, form) ∷ sets) apart found = elim (eqb_tells e c) [
-  inl (hit, same) ↦ subst (λ (k : ℕ). (d == k) ≡ false) same apart.0
+  | inl (hit, same) ↦ subst (λ (k : ℕ). (d == k) ≡ false) same apart.0
   | inr (miss, other) ↦ differs d c sets apart.1 (sym (ap (λ b. b || is_set sets c) miss) ∙ found)
 ]
 
@@ -66,12 +66,11 @@ pub AreSet-from : (sets : List (ℕ × Form)) (w before after : List ℤ) → Is
 unfolding IsDistinct
 AreSet-from [] w before after apart values = tt
 AreSet-from ((d, form) ∷ sets) w before after apart values =
-    let same : (d == d) ≡ true = eq-eqb d d refl in
-    (
+    let same : (d == d) ≡ true = eq-eqb d d refl in (
       values d (ap (λ b. b || is_set sets d) same) ∙ ap (λ b. cond b (value_of form w) (next_value sets w before d)) same,
       AreSet-from sets w before after apart.1 (λ c found.
-        let other = differs d c sets apart.0 found in
-        values c (ap (λ b. b || is_set sets c) other ∙ found) ∙ ap (λ b. cond b (value_of form w) (next_value sets w before c)) other),
+          let other = differs d c sets apart.0 found in
+          values c (ap (λ b. b || is_set sets c) other ∙ found) ∙ ap (λ b. cond b (value_of form w) (next_value sets w before c)) other),
     )
 
 -- ---- what holds of the numbers of a range that pass a test
@@ -88,7 +87,7 @@ range-to P p a zero c all low high pass = absurd (omega arith)
 range-to P p a (suc n) c all low high pass =
     let here = split-to P (p a) a (filter p (range_with_len (a + 1) n)) all in
     elim (eqb_tells c a) [
-      inl (hit, same) ↦ subst P (sym same) (here.0 (subst (λ (k : ℕ). p k ≡ true) same pass))
+      | inl (hit, same) ↦ subst P (sym same) (here.0 (subst (λ (k : ℕ). p k ≡ true) same pass))
       | inr (miss, other) ↦ range-to P p (a + 1) n c here.1 (omega arith) (omega arith) pass
     ]
 

@@ -1,5 +1,5 @@
 -- Coefficients of rows that fit.
-use Rattle.std.proofs.Common.{◌≡◌, ℕ, zero, suc, ◌<◌, ◌+◌, ◌≤◌, List, [], ◌∷◌, ◌++◌, map, take, drop, length, set, replicate, ℤ, pos, negsuc, neg_ℤ, arith, refl, ap, ap₂, sym, ◌∙◌}
+use Rattle.std.proofs.Common.{◌≡◌, ℕ, zero, suc, ◌+◌, List, [], ◌∷◌, ◌++◌, map, take, drop, length, set, replicate, ℤ, pos, negsuc, neg_ℤ, arith, ap, sym, ◌∙◌}
 use Rattle.std.specs.List.{AllByRecursion}
 use Rattle.std.proofs.lemmas.List.{set-append_right}
 use Rattle.thr_base.specs.Number.{Fits}
@@ -45,8 +45,8 @@ unit_fits n c k h = AllByRecursion-set Fits (zeros n) c k (zeros_fit n) h
 pub set_among : (before row : List ℤ) (n start place : ℕ) (k read : ℤ) → row ≡ before ++ zeros n → start ≡ length before → read ≡ k → set row (start + place) read ≡ before ++ unit n place k
 set_among before row n start place k read made at same =
     rw (made, same) (
-      set-append_right before (zeros n) start (start + place) k (sym at) (omega arith)
-      ∙ ap (λ i. before ++ set (zeros n) i k) (omega arith)
+    set-append_right before (zeros n) start (start + place) k (sym at) (omega arith)
+    ∙ ap (λ i. before ++ set (zeros n) i k) (omega arith)
     )
 
 -- ---- rows of blocks
@@ -57,18 +57,18 @@ pub kept_row_fits : (cleared first second row : List ℤ) (n m c : ℕ) → clea
     → row ≡ second ++ zeros m → AllByRecursion Fits row
 kept_row_fits cleared first second row n m c empty one two three =
     rw (three, two, one, empty) (
-      AllByRecursion-append Fits (unit n c (negsuc 0) ++ unit n c (pos 1)) (zeros m)
-      (AllByRecursion-append Fits (unit n c (negsuc 0)) (unit n c (pos 1)) (unit_fits n c (negsuc 0) minus_one_fits) (unit_fits n c (pos 1) one_fits))
-      (zeros_fit m)
+    AllByRecursion-append Fits (unit n c (negsuc 0) ++ unit n c (pos 1)) (zeros m)
+    (AllByRecursion-append Fits (unit n c (negsuc 0)) (unit n c (pos 1)) (unit_fits n c (negsuc 0) minus_one_fits) (unit_fits n c (pos 1) one_fits))
+    (zeros_fit m)
     )
 
 pub test_row_fits : (cleared first second row xs : List ℤ) (n : ℕ) → AllByRecursion Fits xs → cleared ≡ [] → first ≡ cleared ++ take n xs → second ≡ first ++ zeros n
     → row ≡ second ++ drop n xs → AllByRecursion Fits row
 test_row_fits cleared first second row xs n fits empty one two three =
     rw (three, two, one, empty) (
-      AllByRecursion-append Fits (take n xs ++ zeros n) (drop n xs)
-      (AllByRecursion-append Fits (take n xs) (zeros n) (AllByRecursion-take Fits n xs fits) (zeros_fit n))
-      (AllByRecursion-drop Fits n xs fits)
+    AllByRecursion-append Fits (take n xs ++ zeros n) (drop n xs)
+    (AllByRecursion-append Fits (take n xs) (zeros n) (AllByRecursion-take Fits n xs fits) (zeros_fit n))
+    (AllByRecursion-drop Fits n xs fits)
     )
 
 opposites_fit : (xs : List ℤ) → AllByRecursion Fits xs → AllByRecursion Fits (map neg_ℤ xs)
@@ -78,7 +78,7 @@ pub set_row_fits : (cleared first second row xs : List ℤ) (n c : ℕ) → AllB
     → second ≡ first ++ unit n c (pos 1) → row ≡ second ++ map neg_ℤ (drop n xs) → AllByRecursion Fits row
 set_row_fits cleared first second row xs n c fits empty one two three =
     rw (three, two, one, empty) (
-      AllByRecursion-append Fits (map neg_ℤ (take n xs) ++ unit n c (pos 1)) (map neg_ℤ (drop n xs))
-      (AllByRecursion-append Fits (map neg_ℤ (take n xs)) (unit n c (pos 1)) (opposites_fit (take n xs) (AllByRecursion-take Fits n xs fits)) (unit_fits n c (pos 1) one_fits))
-      (opposites_fit (drop n xs) (AllByRecursion-drop Fits n xs fits))
+    AllByRecursion-append Fits (map neg_ℤ (take n xs) ++ unit n c (pos 1)) (map neg_ℤ (drop n xs))
+    (AllByRecursion-append Fits (map neg_ℤ (take n xs)) (unit n c (pos 1)) (opposites_fit (take n xs) (AllByRecursion-take Fits n xs fits)) (unit_fits n c (pos 1) one_fits))
+    (opposites_fit (drop n xs) (AllByRecursion-drop Fits n xs fits))
     )

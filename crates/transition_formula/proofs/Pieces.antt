@@ -1,7 +1,7 @@
 -- Rows that are made one after another.
-use Rattle.std.proofs.Common.{◌≡◌, ◌≢◌, ℕ, suc, ◌+◌, ◌-◌, ◌<◌, ◌≤◌, Bool, true, false, List, [], ◌∷◌, ◌++◌, map, filter, drop, length, Option, Some, None, refl, sym, ◌∙◌, ap, ap₂, subst, arith, append_assoc, append-nil, add-one, length-append, not, ◌^◌, ℤ, take}
+use Rattle.std.proofs.Common.{◌≡◌, ◌≢◌, ℕ, suc, ◌+◌, ◌-◌, ◌<◌, ◌≤◌, Bool, true, false, List, [], ◌∷◌, ◌++◌, map, filter, drop, length, Option, Some, None, refl, sym, ◌∙◌, ap, arith, append_assoc, add-one, length-append, not, ℤ, take}
 use Rattle.std.proofs.lemmas.List.{length-map, map-append}
-use Rattle.std.specs.Prelude.{◌==◌, ◌&&◌, ◌||◌, slice_get, nat_eq, cond}
+use Rattle.std.specs.Prelude.{◌==◌, ◌||◌, slice_get, cond}
 use Rattle.std.proofs.lemmas.Bool.{ne_eqb}
 use Rattle.std.specs.List.{range_with_len, list_any}
 use Rattle.std.proofs.lemmas.List.Elements.{filter-append}
@@ -53,11 +53,11 @@ pub start-next : (w : ℕ) (columns : List Column) (c : ℕ) (column : Column) (
 start-next w columns c column done more total at is made =
     let rest = start_rows w (suc c) (drop (suc c) columns) in
     rw (add-one c) (
-      ap (λ l. l ++ rest) is
-      ∙ append_assoc done (start_row w c column.start []) rest
-      ∙ ap (λ l. done ++ l) (sym (start_row-before w c column.start rest))
-      ∙ ap (λ (l : List Column). done ++ start_rows w c l) (sym (drop-slice_get columns c column at))
-      ∙ made
+    ap (λ l. l ++ rest) is
+    ∙ append_assoc done (start_row w c column.start []) rest
+    ∙ ap (λ l. done ++ l) (sym (start_row-before w c column.start rest))
+    ∙ ap (λ (l : List Column). done ++ start_rows w c l) (sym (drop-slice_get columns c column at))
+    ∙ made
     )
 
 one_start : (w c : ℕ) (start : Option ℤ) → length (start_row w c start []) ≤ 1
@@ -72,9 +72,9 @@ pub test-next : {A : Type 0} (f : A → Row) (initial now more : System) (xs : L
     → more ≡ with_row now (f x) → more ≡ with_rows initial (map f (take (k + 1) xs))
 test-next f initial now more xs k x at made is =
     let rows : (initial.rows ++ map f (take k xs)) ++ f x ∷ [] ≡ initial.rows ++ map f (take (k + 1) xs) =
-        append_assoc initial.rows (map f (take k xs)) (f x ∷ [])
-        ∙ ap (λ l. initial.rows ++ l) (sym (map-append f (take k xs) (x ∷ [])))
-        ∙ ap (λ l. initial.rows ++ map f l) (sym (take-slice_get xs k x at)) in
+    append_assoc initial.rows (map f (take k xs)) (f x ∷ [])
+    ∙ ap (λ l. initial.rows ++ l) (sym (map-append f (take k xs) (x ∷ [])))
+    ∙ ap (λ l. initial.rows ++ map f l) (sym (take-slice_get xs k x at)) in
     is ∙ ap (λ system. with_row system (f x)) made ∙ ap (λ l. record { columns = initial.columns; rows = l }) rows
 
 -- ---- how many

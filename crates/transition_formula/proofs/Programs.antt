@@ -1,12 +1,12 @@
 -- What is known of the threads and edges of a program.
-use Rattle.std.proofs.Common.{◌≡◌, ℕ, ◌+◌, ◌-◌, ◌<◌, ◌≤◌, List, [], ◌∷◌, map, length, Bool, true, Option, Some, sym, ◌∙◌, ap, subst, arith, inl, inr}
+use Rattle.std.proofs.Common.{◌≡◌, ℕ, ◌<◌, ◌≤◌, List, [], ◌∷◌, map, length, true, Some, sym, ◌∙◌, ap, subst, arith, inl, inr}
 use Rattle.std.specs.Prelude.{◌||◌, nat_eq}
 use Rattle.std.specs.List.{AllByRecursion, IsDistinct, list_any}
 use Rattle.std.proofs.lemmas.Bool.Decides.{eqb_tells}
 use Rattle.std.proofs.lemmas.List.{length-map}
 use Rattle.std.proofs.lemmas.Map.Steps.{length-le_from_distinct_below}
 use Rattle.lin_rows.proofs.Lists.{AllByRecursion-weaken}
-use Rattle.transition_formula.specs.Program.{Form, Edge, Thread, Program, IsThreadOf, IsThread, IsEdge, IsProgram, numbered, first_counter}
+use Rattle.transition_formula.specs.Program.{Form, Edge, Thread, Program, IsThreadOf, IsEdge, IsProgram, numbered, first_counter}
 use Rattle.transition_formula.proofs.Lookups.{AllByRecursion-numbered, numbered-within}
 
 pub counter-within : (program : Program) (i : ℕ) (thread : Thread) → IsProgram program → IsThreadOf program i thread → (first_counter program ≤ thread.counter) × (thread.counter < length program.columns)
@@ -24,7 +24,7 @@ sets-within program sets all = AllByRecursion-weaken (λ set. set.0 < first_coun
 among : (sets : List (ℕ × Form)) (n q : ℕ) → AllByRecursion (λ set. set.0 < n) sets → list_any (nat_eq q) (map (λ set. set.0) sets) ≡ true → q < n
 among [] n q all found = cc
 among ((c, form) ∷ sets) n q all found = elim (eqb_tells q c) [
-  inl (hit, same) ↦ subst (λ (k : ℕ). k < n) (sym same) all.0
+  | inl (hit, same) ↦ subst (λ (k : ℕ). k < n) (sym same) all.0
   | inr (miss, other) ↦ among sets n q all.1 (sym (ap (λ b. b || list_any (nat_eq q) (map (λ set. set.0) sets)) miss) ∙ found)
 ]
 

@@ -1,7 +1,7 @@
 -- The rows of an edge hold at exactly the steps by it.
-use Rattle.std.proofs.Common.{◌≡◌, ◌≢◌, ◌↔◌, inl, inr, ℕ, suc, ◌+◌, ◌-◌, ◌<◌, ◌≤◌, ℤ, pos, ◌+ℤ◌, ◌≤ℤ◌, neg_ℤ, List, [], ◌∷◌, ◌++◌, map, take, drop, length, get_or, set, Bool, true, false, cond, not, filter, Some, refl, sym, ◌∙◌, ap, subst, arith}
-use Rattle.std.specs.Prelude.{◌==◌, ◌&&◌, ◌||◌, slice_get, nat_eq, MatchBool}
-use Rattle.std.specs.List.{AllByRecursion, IsDistinct, range_with_len}
+use Rattle.std.proofs.Common.{◌≡◌, ◌≢◌, inl, inr, ℕ, ◌+◌, ◌<◌, ◌≤◌, ℤ, pos, ◌+ℤ◌, ◌≤ℤ◌, neg_ℤ, List, [], ◌∷◌, ◌++◌, map, length, get_or, Bool, true, false, cond, not, Some, refl, sym, ◌∙◌, ap, subst, arith}
+use Rattle.std.specs.Prelude.{◌==◌, ◌&&◌, ◌||◌, nat_eq, MatchBool}
+use Rattle.std.specs.List.{AllByRecursion, IsDistinct}
 use Rattle.std.proofs.lemmas.Int.{ints}
 use Rattle.std.proofs.lemmas.List.{length-set, ext_get_or, get_or_append_left, get_or-append_right}
 use Rattle.std.proofs.lemmas.Option.{slice_get-get_or, get_or_from_slice_get}
@@ -9,8 +9,8 @@ use Rattle.std.proofs.lemmas.Bool.Decides.{eqb_tells}
 use Rattle.std.proofs.lemmas.Bool.{ne_eqb, eq-eqb}
 use Rattle.lin_rows.specs.Row.{Row, product_of, Meets}
 use Rattle.lin_rows.specs.System.{IsRowOver}
-use Rattle.transition_formula.specs.Program.{Form, Edge, Thread, Program, IsFormOver, IsEdge, IsProgram, first_counter}
-use Rattle.transition_formula.specs.Step.{value_of, assigned, after_step, Steps}
+use Rattle.transition_formula.specs.Program.{Form, Edge, Thread, IsFormOver, first_counter}
+use Rattle.transition_formula.specs.Step.{assigned, after_step, Steps}
 use Rattle.transition_formula.specs.Rows.{unit, is_kept, kept_row, test_row, set_row, edge_width, kept_columns, edge_rows}
 use Rattle.transition_formula.specs.Laws.{MeetsAll, EdgeRowsAreExact}
 use Rattle.transition_formula.proofs.ProductLemmas.{product_of-one, kept_product, test_product, set_product}
@@ -49,8 +49,7 @@ tests-to : (n m : ℕ) (before after inputs : List ℤ) → length before ≡ n 
     → (tests : List Row) → AllByRecursion (IsRowOver (n + m)) tests → MeetsAll (map (test_row n) tests) (before ++ (after ++ inputs)) → MeetsAll tests (before ++ inputs)
 tests-to n m before after inputs one two [] over all = tt
 tests-to n m before after inputs one two (row ∷ tests) over all =
-    let same = test_product n row.coefficients before after inputs (omega (arith, over.0.width)) one two in
-    (
+    let same = test_product n row.coefficients before after inputs (omega (arith, over.0.width)) one two in (
       subst (λ p. MatchBool row.equal (p ≡ row.bound) (p ≤ℤ row.bound)) same all.0,
       tests-to n m before after inputs one two tests over.1 all.1,
     )
@@ -59,8 +58,7 @@ tests-from : (n m : ℕ) (before after inputs : List ℤ) → length before ≡ 
     → (tests : List Row) → AllByRecursion (IsRowOver (n + m)) tests → MeetsAll tests (before ++ inputs) → MeetsAll (map (test_row n) tests) (before ++ (after ++ inputs))
 tests-from n m before after inputs one two [] over all = tt
 tests-from n m before after inputs one two (row ∷ tests) over all =
-    let same = test_product n row.coefficients before after inputs (omega (arith, over.0.width)) one two in
-    (
+    let same = test_product n row.coefficients before after inputs (omega (arith, over.0.width)) one two in (
       subst (λ p. MatchBool row.equal (p ≡ row.bound) (p ≤ℤ row.bound)) (sym same) all.0,
       tests-from n m before after inputs one two tests over.1 all.1,
     )
@@ -71,8 +69,7 @@ sets-to : (n m : ℕ) (before after inputs : List ℤ) → length before ≡ n �
     → MeetsAll (map (set_row n) sets) (before ++ (after ++ inputs)) → AreSet sets (before ++ inputs) after
 sets-to n m before after inputs one two [] within over all = tt
 sets-to n m before after inputs one two ((c, form) ∷ sets) within over all =
-    let wide : n ≤ length form.coefficients = omega (arith, over.0.one_each) in
-    (
+    let wide : n ≤ length form.coefficients = omega (arith, over.0.one_each) in (
       some_left _ _ form.constant (sym (set_product n c form.coefficients before after inputs within.0 wide one two) ∙ all.0),
       sets-to n m before after inputs one two sets within.1 over.1 all.1,
     )
@@ -82,8 +79,7 @@ sets-from : (n m : ℕ) (before after inputs : List ℤ) → length before ≡ n
     → AreSet sets (before ++ inputs) after → MeetsAll (map (set_row n) sets) (before ++ (after ++ inputs))
 sets-from n m before after inputs one two [] within over all = tt
 sets-from n m before after inputs one two ((c, form) ∷ sets) within over all =
-    let wide : n ≤ length form.coefficients = omega (arith, over.0.one_each) in
-    (
+    let wide : n ≤ length form.coefficients = omega (arith, over.0.one_each) in (
       set_product n c form.coefficients before after inputs within.0 wide one two ∙ left_some _ _ form.constant all.0,
       sets-from n m before after inputs one two sets within.1 over.1 all.1,
     )
@@ -92,7 +88,7 @@ sets-from n m before after inputs one two ((c, form) ∷ sets) within over all =
 set-below : (sets : List (ℕ × Form)) (k c : ℕ) → AllByRecursion (λ set. set.0 < k) sets → is_set sets c ≡ true → c < k
 set-below [] k c below found = cc
 set-below ((d, form) ∷ sets) k c below found = elim (eqb_tells d c) [
-  inl (hit, same) ↦ subst (λ (i : ℕ). i < k) same below.0
+  | inl (hit, same) ↦ subst (λ (i : ℕ). i < k) same below.0
   | inr (miss, other) ↦ set-below sets k c below.1 (sym (ap (λ b. b || is_set sets c) miss) ∙ found)
 ]
 
@@ -144,7 +140,7 @@ after-value : (thread : Thread) (edge : Edge) (before after inputs : List ℤ) (
     → (is_kept thread.counter edge c ≡ true → get_or after c (pos 0) ≡ get_or before c (pos 0))
     → get_or after c (pos 0) ≡ cond (thread.counter == c) (pos edge.to) (next_value edge.sets (before ++ inputs) before c)
 after-value thread edge before after inputs c target sets kept = elim (eqb_tells thread.counter c) [
-  inl (hit, same) ↦ rw hit (subst (λ (k : ℕ). get_or after k (pos 0) ≡ pos edge.to) same target)
+  | inl (hit, same) ↦ rw hit (subst (λ (k : ℕ). get_or after k (pos 0) ≡ pos edge.to) same target)
   | inr (miss, other) ↦ rw miss (next_value-from edge.sets (before ++ inputs) before after c sets (λ none. kept (kept_when thread.counter c edge other none)))
 ]
 
@@ -164,7 +160,7 @@ rows-to n thread edge before after inputs one two each counter tests_over within
     let target = sym (after_is n m thread.counter before after inputs counter one two) ∙ all.1.0 in
     let kept_all = unmapped (λ row. Meets row z) (kept_row n m) (kept_columns n thread.counter edge) first.0 in
     let kept = λ (c : ℕ) (h : c < n) (pass : is_kept thread.counter edge c ≡ true).
-        none_left (get_or after c (pos 0)) (get_or before c (pos 0)) (sym (kept_product n m c before after inputs h one two) ∙ range-to (λ k. Meets (kept_row n m k) z) (is_kept thread.counter edge) 0 n c kept_all (omega arith) (omega arith) pass) in
+    none_left (get_or after c (pos 0)) (get_or before c (pos 0)) (sym (kept_product n m c before after inputs h one two) ∙ range-to (λ k. Meets (kept_row n m k) z) (is_kept thread.counter edge) 0 n c kept_all (omega arith) (omega arith) pass) in
     let are_set = sets-to n m before after inputs one two edge.sets within over second.1 in
     let inside : thread.counter < length before = omega arith in
     record {
@@ -172,7 +168,7 @@ rows-to n thread edge before after inputs one two each counter tests_over within
       one_each = each;
       tests_hold = tests-to n m before after inputs one two edge.tests tests_over second.0;
       leads = ext_get_or (pos 0) after (after_step thread edge before inputs) (two ∙ sym one ∙ sym (length-after_step thread edge before inputs)) (λ c h.
-        after-value thread edge before after inputs c target are_set (kept c (omega arith)) ∙ sym (after_step-value thread edge before inputs c (omega arith)));
+          after-value thread edge before after inputs c target are_set (kept c (omega arith)) ∙ sym (after_step-value thread edge before inputs c (omega arith)));
     }
 
 rows-from : (n k : ℕ) (thread : Thread) (edge : Edge) (before after inputs : List ℤ) → length before ≡ n → length after ≡ n
@@ -191,19 +187,18 @@ rows-from n k thread edge before after inputs one two last counter tests_over be
     let itself : (thread.counter == thread.counter) ≡ true = eq-eqb thread.counter thread.counter refl in
     let target = value thread.counter counter ∙ ap (λ b. cond b (pos edge.to) (next_value edge.sets w before thread.counter)) itself in
     let kept = λ (c : ℕ) (h : c < n) (pass : is_kept thread.counter edge c ≡ true).
-        let then = kept_then thread.counter c edge pass in
-        value c h ∙ ap (λ b. cond b (pos edge.to) (next_value edge.sets w before c)) then.0 ∙ next_value-kept edge.sets w before c then.1 in
+    let then = kept_then thread.counter c edge pass in
+    value c h ∙ ap (λ b. cond b (pos edge.to) (next_value edge.sets w before c)) then.0 ∙ next_value-kept edge.sets w before c then.1 in
     let are_set = AreSet-from edge.sets w before after apart (λ c found.
-        let under = set-below edge.sets k c below found in
-        let miss : (thread.counter == c) ≡ false = ne_eqb thread.counter c (λ e. absurd (omega arith)) in
-        value c (omega arith) ∙ ap (λ b. cond b (pos edge.to) (next_value edge.sets w before c)) miss) in
+    let under = set-below edge.sets k c below found in
+    let miss : (thread.counter == c) ≡ false = ne_eqb thread.counter c (λ e. absurd (omega arith)) in
+    value c (omega arith) ∙ ap (λ b. cond b (pos edge.to) (next_value edge.sets w before c)) miss) in
     let kept_all = mapped (λ row. Meets row z) (kept_row n m) (kept_columns n thread.counter edge)
-        (range-from (λ c. Meets (kept_row n m c) z) (is_kept thread.counter edge) 0 n (λ c low high pass.
-          let h : c < n = omega arith in
-          kept_product n m c before after inputs h one two ∙ left_none (get_or after c (pos 0)) (get_or before c (pos 0)) (kept c h pass))) in
+    (range-from (λ c. Meets (kept_row n m c) z) (is_kept thread.counter edge) 0 n (λ c low high pass.
+    let h : c < n = omega arith in
+    kept_product n m c before after inputs h one two ∙ left_none (get_or after c (pos 0)) (get_or before c (pos 0)) (kept c h pass))) in
     let tests_all = tests-from n m before after inputs one two edge.tests tests_over steps.tests_hold in
-    let sets_all = sets-from n m before after inputs one two edge.sets within over are_set in
-    (
+    let sets_all = sets-from n m before after inputs one two edge.sets within over are_set in (
       before_is n m thread.counter before after inputs counter one ∙ source,
       (
         after_is n m thread.counter before after inputs counter one two ∙ target,
@@ -216,8 +211,7 @@ edge_rows-exact program i e thread edge before after inputs is at one two each =
     let n = length program.columns in
     let h = edge-is program i e thread edge is at.thread_is at.edge_is in
     let counter = counter-within program i thread is at.thread_is in
-    let within = sets-within program edge.sets h.sets_no_counter in
-    (
+    let within = sets-within program edge.sets h.sets_no_counter in (
       rows-to n thread edge before after inputs one two each counter.1 h.tests_over within h.forms_over,
       rows-from n (first_counter program) thread edge before after inputs one two counter.0 counter.1 h.tests_over h.sets_no_counter within h.forms_over h.sets_none_twice,
     )

@@ -1,6 +1,5 @@
 -- What stands for programs in a program.
 use Rattle.std.specs.Prelude.{ℕ, List, map, option_map}
-use Rattle.thr_base.specs.declared.names.ThreadNo.{ThreadNo}
 use Rattle.transition_formula.specs.Program.{Form, Column, Edge, Thread, Program}
 use Rattle.transition_formula.specs.declared.graph.Line.{Line}
 use Rattle.transition_formula.specs.declared.graph.Column.{Column as StoredColumn}

@@ -158,7 +158,7 @@ fn push_set(
     requires within { column < shape.columns }
     requires over { IsFormOver (shape.columns + shape.inputs) (form_of line.now) }
     requires room { length rows.old.rows < 2 ^ 32 - 2 }
-    ensures { OnOk result (rows.new ≡ with_row rows.old (set_row shape.columns (column , form_of line.now))) }
+    ensures { OnOk result (rows.new ≡ with_row rows.old (set_row shape.columns (column, form_of line.now))) }
 {
     let (before, inputs) = line
         .coefficients
@@ -211,7 +211,12 @@ fn rows_of(
     let mut row = Vec::with_capacity(alloc, width as usize)?;
     let counter = thread.counter;
     push_column_is(&mut rows, &mut row, counter, i128::from(edge.from.0))?;
-    push_column_is(&mut rows, &mut row, columns + counter, i128::from(edge.to.0))?;
+    push_column_is(
+        &mut rows,
+        &mut row,
+        columns + counter,
+        i128::from(edge.to.0),
+    )?;
     push_kept_rows(&mut rows, &mut row, shape, counter, edge)?;
     push_tests(&mut rows, &mut row, shape, &edge.tests.view())?;
     push_sets(&mut rows, &mut row, shape, edge.sets.as_slice())?;

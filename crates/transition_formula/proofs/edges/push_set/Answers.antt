@@ -5,7 +5,7 @@ use Rattle.transition_formula.proofs.Numbers.{set_row_fits}
 use Rattle.transition_formula.proofs.edges.push_set.Goals as goal
 
 pub push-requires-clause-coefficients : goal.push-requires-clause-coefficients
-push-requires-clause-coefficients c = 
+push-requires-clause-coefficients c =
     let xs = c.args.line.now.coefficients.items in
     let n = c.args.shape.columns in
     let front = c.split_at.ensures.front ∙ ap (λ (l : List ℤ). take n l) c.as_slice.ensures.value in

@@ -5,7 +5,7 @@ use Rattle.transition_formula.proofs.Numbers.{test_row_fits}
 use Rattle.transition_formula.proofs.edges.push_test.Goals as goal
 
 pub push-requires-clause-coefficients : goal.push-requires-clause-coefficients
-push-requires-clause-coefficients c = 
+push-requires-clause-coefficients c =
     let xs = c.args.test.now.coefficients.now in
     let n = c.args.shape.columns in
     let before = c.in_ok-extend_from_slice.ensures.items ∙ ap (λ (l : List ℤ). c.clear.new.self.items ++ l) c.split_at.ensures.front in

@@ -1,4 +1,4 @@
-use Rattle.std.proofs.Common.{◌≡◌, Some, subst, sym, ap}
+use Rattle.std.proofs.Common.{◌≡◌, Some, subst, sym}
 use Rattle.std.specs.Option.{IsSome}
 use Rattle.transition_formula.specs.Program.{numbered}
 use Rattle.transition_formula.specs.Stored.{thread_of}
