@@ -6,3 +6,4 @@ pub mod ProductLemmas
 pub mod InitialRows
 pub mod NextValues
 pub mod StepRows
+pub mod WorkedProgram

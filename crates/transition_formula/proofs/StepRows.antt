@@ -132,7 +132,7 @@ after_step-value thread edge before inputs c h =
     get_or-set (assigned edge.sets w before) thread.counter c (pos edge.to) (omega (arith, length-assigned edge.sets w before))
     ∙ ap (λ v. cond (thread.counter == c) (pos edge.to) v) (get_or-assigned edge.sets w before c h)
 
-length-after_step : (thread : Thread) (edge : Edge) (before inputs : List ℤ) → length (after_step thread edge before inputs) ≡ length before
+pub length-after_step : (thread : Thread) (edge : Edge) (before inputs : List ℤ) → length (after_step thread edge before inputs) ≡ length before
 length-after_step thread edge before inputs =
     length-set (assigned edge.sets (before ++ inputs) before) thread.counter (pos edge.to) ∙ length-assigned edge.sets (before ++ inputs) before
 

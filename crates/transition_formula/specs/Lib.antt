@@ -3,3 +3,4 @@ pub mod Step
 pub mod Rows
 pub mod Stored
 pub mod Laws
+pub mod Worked

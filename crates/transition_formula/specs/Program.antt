@@ -108,7 +108,7 @@ pub record IsProgram (program : Program) : Type 0 where
   pub few_columns : length program.columns ≤ 64
   pub few_threads : length program.threads ≤ 8
   pub has_counters : length program.threads ≤ length program.columns
-  pub texts_differ : AllPairs (λ a b. a.text ≢ b.text) program.columns
+  pub texts_differ : AllPairs (λ a b. a ≢ b) (map (λ column. column.text) program.columns)
   pub starts_fit : AllByRecursion (λ column. StartFits column.start) program.columns
   pub owners_exist : AllByRecursion (λ column. IsOwner (length program.threads) column.owner) program.columns
   pub others_start : AllByRecursion StartsWhereShared (take (first_counter program) program.columns)

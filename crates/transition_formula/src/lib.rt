@@ -14,3 +14,6 @@ pub use graph::{Column, Edge, Line, ThreadGraph};
 pub use initial::init_rows;
 pub use laws::{edge_rows_are_exact, init_rows_are_exact};
 pub use program::Program;
+
+#[cfg(test)]
+mod tests;
