@@ -1,0 +1,6 @@
+use Rattle.std.proofs.Common.{◌≡◌, map, take}
+use Rattle.transition_formula.specs.Rows.{test_row, with_rows}
+use Rattle.transition_formula.proofs.edges.push_tests.Given as goal
+
+abbrev pub invariant-tests : goal.invariant-tests
+invariant-tests l = l.rows ≡ with_rows l.initial.rows (map (test_row l.shape.columns) (take l.place l.tests.rows))

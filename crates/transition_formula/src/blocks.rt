@@ -1,0 +1,51 @@
+ghost use Rattle.std.specs.Prelude.{◌≡◌, ◌<◌, ◌++◌, map, neg_ℤ, OnOk};
+ghost use Rattle.std.specs.List.{AllByRecursion};
+ghost use Rattle.thr_base.specs.Number.{Fits};
+ghost use Rattle.transition_formula.specs.Rows.{zeros, unit};
+
+use std::alloc::AllocError;
+
+/// Appends zeros.
+pub(crate) fn push_zeros(row: &mut Vec<i128>, count: u32) -> Result<(), AllocError>
+    ensures { OnOk result (row.new.items ≡ row.old.items ++ zeros count) }
+{
+    'zeros: for _ in 0..count {
+        row.push(0)?;
+    }
+    Ok(())
+}
+
+/// Appends as many numbers, of which one is not 0.
+pub(crate) fn push_unit(
+    row: &mut Vec<i128>,
+    count: u32,
+    place: u32,
+    number: i128,
+) -> Result<(), AllocError>
+    requires within { place < count }
+    requires fits { Fits number }
+    ensures { OnOk result (row.new.items ≡ row.old.items ++ unit count place number) }
+{
+    let start = row.len();
+    push_zeros(row, count)?;
+    row[start + place as usize] = number;
+    Ok(())
+}
+
+fn opposite(number: i128) -> i128
+    requires { Fits number }
+    ensures { result ≡ neg_ℤ number }
+{
+    -number
+}
+
+/// Appends the numbers with the other signs.
+pub(crate) fn push_opposites(row: &mut Vec<i128>, numbers: &[i128]) -> Result<(), AllocError>
+    requires { AllByRecursion Fits numbers.now }
+    ensures { OnOk result (row.new.items ≡ row.old.items ++ map neg_ℤ numbers.now) }
+{
+    'numbers: for number in numbers {
+        row.push(opposite(*number))?;
+    }
+    Ok(())
+}

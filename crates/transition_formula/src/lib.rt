@@ -1,0 +1,19 @@
+//! Programs as data: the columns of their states, and for each thread its locations and edges. The layers above learn that
+//! the rows of initial states hold at exactly these states, and the rows of an edge at exactly the steps by it.
+#![tactic(auto)]
+
+mod blocks;
+mod edges;
+mod graph;
+mod initial;
+mod laws;
+mod program;
+
+pub use edges::edge_rows;
+pub use graph::{Column, Edge, Line, ThreadGraph};
+pub use initial::init_rows;
+pub use laws::{edge_rows_are_exact, init_rows_are_exact};
+pub use program::Program;
+
+#[cfg(test)]
+mod tests;

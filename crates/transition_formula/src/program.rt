@@ -1,0 +1,90 @@
+ghost use Rattle.std.specs.Prelude.{◌≡◌, ◌<◌, ◌≤◌, Some, length, map, option_map, slice_get, IsSome};
+ghost use Rattle.transition_formula.specs.Program.{IsProgram, numbered};
+ghost use Rattle.transition_formula.specs.Stored.{column_of, edge_of, program_of, thread_of};
+
+use crate::graph::{Column, Edge, ThreadGraph};
+use std::marker::Model;
+use thr_base::ThreadNo;
+
+/// A program: its columns, and its threads as graphs.
+#[derive(Debug, Drop)]
+pub struct Program {
+    columns: Vec<Column>,
+    threads: Vec<ThreadGraph>,
+}
+
+impl Model for Program {
+    ghost use Rattle.transition_formula.specs.Program as specs;
+
+    ghost Value = { specs.Program };
+
+    ghost use Rattle.transition_formula.specs.Stored.{program_of};
+
+    ghost view = { λ inside. program_of inside.columns.items inside.threads.items };
+
+    ghost invariant = { λ inside. specs.IsProgram (program_of inside.columns.items inside.threads.items) };
+}
+
+impl Program {
+    pub fn new(columns: Vec<Column>, threads: Vec<ThreadGraph>) -> Program
+        requires { IsProgram (program_of columns.items threads.items) }
+        ensures { result ≡ program_of columns.items threads.items }
+    {
+        Program { columns, threads }
+    }
+
+    /// The number of threads.
+    pub fn threads(&self) -> u32
+        ensures threads { result ≡ length self.now.threads }
+        ensures program { IsProgram self.now }
+    {
+        self.threads.len() as u32
+    }
+
+    /// The number of columns.
+    pub fn columns(&self) -> u32
+        ensures columns { result ≡ length self.now.columns }
+        ensures program { IsProgram self.now }
+    {
+        self.columns.len() as u32
+    }
+
+    pub fn column(&self, column: u32) -> &Column
+        requires { column < length self.now.columns }
+        ensures { slice_get self.now.columns column ≡ Some (column_of result.now) }
+    {
+        &self.columns[column as usize]
+    }
+
+    /// The thread that owns a column, or none where it is shared.
+    pub fn owner(&self, column: u32) -> Option<ThreadNo>
+        requires { column < length self.now.columns }
+        ensures { option_map (λ found. found.owner) (slice_get self.now.columns column) ≡ Some (option_map (λ thread. thread.0) result) }
+    {
+        self.columns[column as usize].owner
+    }
+
+    pub(crate) fn thread(&self, i: ThreadNo) -> &ThreadGraph
+        requires { IsSome (numbered self.now.threads i.0) }
+        ensures thread { numbered self.now.threads i.0 ≡ Some (thread_of result.now) }
+        ensures program { IsProgram self.now }
+    {
+        &self.threads[i.0 as usize - 1]
+    }
+
+    /// How many locations a thread has, the failing one and the exit among them.
+    pub fn locations(&self, i: ThreadNo) -> u32
+        requires { IsSome (numbered self.now.threads i.0) }
+        ensures { option_map (λ thread. thread.locations) (numbered self.now.threads i.0) ≡ Some result }
+    {
+        self.thread(i).locations
+    }
+
+    /// The edges of a thread, in the order of their numbers.
+    pub fn edges(&self, i: ThreadNo) -> &[Edge]
+        requires { IsSome (numbered self.now.threads i.0) }
+        ensures { option_map (λ thread. thread.edges) (numbered self.now.threads i.0) ≡ Some (map edge_of result.now) }
+    {
+        self.thread(i).edges.as_slice()
+    }
+}
