@@ -11,3 +11,12 @@ pub mod StmtSizes
 pub mod ManyLoop
 pub mod ItemSizes
 pub mod Skipping
+pub mod FoundParts
+pub mod FoundSimple
+pub mod FoundLocal
+pub mod AgainParts
+pub mod AgainSimple
+pub mod AgainLocal
+pub mod FoundStmt
+pub mod Leads
+pub mod AgainStmt
