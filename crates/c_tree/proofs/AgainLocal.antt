@@ -64,7 +64,7 @@ itype_again end (itypes.Long from) ts rest is other =
 itype_again end (itypes.LongInt from) ts rest is other =
     rw (is_peek terms.Long from end ts is.0 is.1, is_place terms.Long from end ts is.0 is.1, is_behind terms.Long from end ts is.0 is.1, is_eaten terms.Int end is.0 rest is.2, behind_eaten terms.Int end is.0 rest is.2) refl
 
-itype_no_qual : (kind : Itype) (ts rest : List Lexeme) → IsItype kind ts rest → NoQual (term_at ts)
+pub itype_no_qual : (kind : Itype) (ts rest : List Lexeme) → IsItype kind ts rest → NoQual (term_at ts)
 itype_no_qual (itypes.Int from) ts rest is place = ap (λ (k : Term). spec.qual_mark k place) (is_term terms.Int from ts rest is)
 itype_no_qual (itypes.Long from) ts rest is place = ap (λ (k : Term). spec.qual_mark k place) (is_term terms.Long from ts rest is)
 itype_no_qual (itypes.LongInt from) ts rest is place = ap (λ (k : Term). spec.qual_mark k place) (is_term terms.Long from ts is.0 is.1)

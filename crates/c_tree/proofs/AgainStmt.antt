@@ -1,5 +1,6 @@
 -- A statement that stands in the text is read.
-use Rattle.std.proofs.Common.{◌≡◌, ℕ, zero, suc, rules, Bool, true, false, List, Option, Some, None, Ok, refl, sym, ap, ◌∙◌}
+use Rattle.std.proofs.Common.{◌≡◌, ℕ, zero, suc, rules, Bool, true, false, List, [], ◌∷◌, Option, Some, None, Ok, refl, sym, ap, subst, ◌∙◌}
+use Rattle.std.proofs.lemmas.Bool.{false≢true}
 use Rattle.c_lex.specs.Tokens.{Lexeme}
 use Rattle.c_tree.specs.declared.term.Term.{Term}
 use Rattle.c_tree.specs.declared.term.Term.TheVariants as terms
@@ -8,7 +9,7 @@ use Rattle.c_tree.specs.declared.simple.Cond.{Cond}
 use Rattle.c_tree.specs.declared.simple.Nil.{Nil}
 use Rattle.c_tree.specs.declared.stmt.Around.{Around}
 use Rattle.c_tree.specs.declared.stmt.Around.TheVariants as arounds
-use Rattle.c_tree.specs.declared.stmt.Block.{Block, out-Block, roll-out-Block}
+use Rattle.c_tree.specs.declared.stmt.Block.{Block, roll-Block, out-Block, roll-out-Block}
 use Rattle.c_tree.specs.declared.stmt.First.{First}
 use Rattle.c_tree.specs.declared.stmt.First.TheVariants as firsts
 use Rattle.c_tree.specs.declared.stmt.Stmt.{Stmt, out-Stmt, roll-Stmt, roll-out-Stmt}
@@ -17,15 +18,18 @@ use Rattle.c_tree.specs.declared.stmt.Stmt.TheOpen.{Stmt-F}
 use denote.Enum.Bare.{same_true}
 use Rattle.c_tree.specs.contracts.term.Term.{the_type}
 use Rattle.c_tree.specs.Term.{same_term}
-use Rattle.c_tree.specs.Input.{Input, Outcome, Parser, peek, sees, after, term_at}
+use Rattle.c_tree.specs.Input.{Input, Outcome, Parser, peek, sees, after, expect, term_at}
+use Rattle.c_tree.specs.Many.{many}
+use Rattle.c_tree.specs.Simple as simple_spec
 use Rattle.c_tree.specs.Stmt as spec
-use Rattle.c_tree.specs.Sequence.{Part, Perhaps, InParens}
+use Rattle.c_tree.specs.Grammar.{Is, Stands}
+use Rattle.c_tree.specs.Sequence.{Part, ◌then◌, Perhaps, AreAll, InParens}
 use Rattle.c_tree.specs.GrammarSimple.{IsNil, IsCond, IsAssign}
 use Rattle.c_tree.specs.GrammarStmt.{IsWordEnd, IsElse, IsFirst, IsBlock, IsLayer, IsStmt}
 use Rattle.c_tree.proofs.Shrinks.{Shrinks}
 use Rattle.c_tree.proofs.StmtSizes.{stmt_shrinks}
-use Rattle.c_tree.proofs.Again.{at, is_peek, is_place, is_behind, is_term, expect_again, same_self}
-use Rattle.c_tree.proofs.AgainParts.{Always, closes, closed, stands_term, stands_again, is_eaten, behind_eaten, not_seen, not_behind, empty_parens_again, many_again}
+use Rattle.c_tree.proofs.Again.{at, is_peek, is_place, is_behind, is_term, is_seen, expect_again, same_self}
+use Rattle.c_tree.proofs.AgainParts.{Always, Closed, closes, closed, stands_term, stands_again, is_eaten, behind_eaten, not_seen, not_behind, empty_parens_again, many_again}
 use Rattle.c_tree.proofs.AgainSimple.{nil_again, cond_again, assign_again, call_again}
 use Rattle.c_tree.proofs.AgainLocal.{local_again, handles_again}
 use Rattle.c_tree.proofs.Leads.{impossible, declares, sets, called, local_declares, assign_sets, call_called, cond_no_semicolon, nil_no_semicolon, assign_no_paren, begins_no_brace, begins_no_end, stmt_begins}
@@ -253,7 +257,7 @@ module _ (levels : ℕ) (inner : Around → Parser Stmt) (Inner : Around → Stm
       gives s (stmts.Handles h) (Stmt-F.Handles h) _ (at rest end) layer (sym (stmts.rolls-Handles h)) (rw (is_term terms.HandleType h.from ts is.0 is.1, handles_again end h ts rest is) refl)
 
 pub stmt_again : (levels : ℕ) (around : Around) → Always (spec.stmt levels around) (IsStmt levels around)
-unfolding spec.stmt
+unfolding spec.stmt IsStmt
 stmt_again zero around end s ts rest is = absurd is
 stmt_again (suc levels) around end s ts rest is =
     layer_again levels (spec.stmt levels) (IsStmt levels) (stmt_again levels) (stmt_shrinks levels) (stmt_begins levels) around s end (out-Stmt s) ts rest refl is

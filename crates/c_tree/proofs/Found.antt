@@ -206,7 +206,7 @@ number_of_found (Some v) i x j e =
     let parts = expected terms.Number i (sees terms.Number i) a.0 a.1 refl a.2 in
     (subst (λ (k : Input). Is terms.Number (place i) i.tokens k.tokens) (parts.2 ∙ same.1) (is_next i terms.Number (λ h. cc) (seen terms.Number i parts.0)), ap (λ (y : ℤ). Some y) same.0)
 
-number_found : (i : Input) (x : ℤ) (j : Input) → spec.number i ≡ Ok (x, j) → Is terms.Number (place i) i.tokens j.tokens × (spec.number_value (bytes_at i.tokens) ≡ Some x)
+pub number_found : (i : Input) (x : ℤ) (j : Input) → spec.number i ≡ Ok (x, j) → Is terms.Number (place i) i.tokens j.tokens × (spec.number_value (bytes_at i.tokens) ≡ Some x)
 unfolding spec.number bytes
 number_found i x j e = number_of_found (spec.number_value (bytes_at i.tokens)) i x j e
 

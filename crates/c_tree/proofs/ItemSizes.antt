@@ -26,7 +26,7 @@ use Rattle.c_tree.proofs.Shrinks.{Shrinks, NeverGrows, expect_shrinks, name_shri
 use Rattle.c_tree.proofs.Sizes.{weaker, pure_le, refuse_shrinks, bind_le, bind_first, bind_second, take_le, eat_le, look_le, here_le}
 use Rattle.c_tree.proofs.StmtSizes.{quals_le, itype_le, handles_shrinks, block_shrinks, stmt_shrinks, close_le, see_le, take_then}
 
-start_if_le : (b : Bool) → NeverGrows (spec.start_if b)
+pub start_if_le : (b : Bool) → NeverGrows (spec.start_if b)
 unfolding spec.start_number
 start_if_le true = bind_le spec.start_number _ (bind_le here _ here_le (λ from. bind_le (eat terms.Minus) _ (eat_le terms.Minus) (λ m. bind_le expr_spec.number _ (weaker _ number_shrinks) (λ v. pure_le {A = Start} (record { from = from; is_negative = m; value = v }))))) (λ s. pure_le (Some s))
 start_if_le false = pure_le None

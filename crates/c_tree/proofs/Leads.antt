@@ -25,7 +25,8 @@ use Rattle.c_tree.specs.declared.stmt.Stmt.TheOpen.{Stmt-F}
 use Rattle.c_tree.specs.Term.{same_term}
 use Rattle.c_tree.specs.Input.{term_at}
 use Rattle.c_tree.specs.Stmt.{begins}
-use Rattle.c_tree.specs.Sequence.{Part, AreAll}
+use Rattle.c_tree.specs.Grammar.{Is, Stands}
+use Rattle.c_tree.specs.Sequence.{Part, ◌then◌, AreAll}
 use Rattle.c_tree.specs.GrammarSimple.{qual_term, IsQual, IsItype, IsNil, IsCond, IsAssign, IsCall, IsLocal}
 use Rattle.c_tree.specs.GrammarStmt.{IsBreak, IsLayer, IsStmt}
 use Rattle.c_tree.proofs.Again.{is_term}
@@ -189,5 +190,6 @@ layer_begins levels Inner around (Stmt-F.Handles h) ts rest is = ap (begins arou
 
 -- a statement begins with a token that begins one
 pub stmt_begins : (levels : ℕ) (around : Around) (s : Stmt) (ts rest : List Lexeme) → IsStmt levels around s ts rest → begins around (term_at ts) ≡ true
+unfolding IsStmt
 stmt_begins zero around s ts rest is = absurd is
 stmt_begins (suc levels) around s ts rest is = layer_begins levels (IsStmt levels) around (out-Stmt s) ts rest is

@@ -20,3 +20,11 @@ pub mod AgainLocal
 pub mod FoundStmt
 pub mod Leads
 pub mod AgainStmt
+pub mod FoundSkipped
+pub mod AgainSkipped
+pub mod FoundGlobals
+pub mod FoundItem
+pub mod AgainGlobals
+pub mod AgainFunctions
+pub mod AgainItem
+pub mod Trees

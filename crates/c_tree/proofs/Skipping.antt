@@ -45,7 +45,7 @@ pub refuses : (close : Term) (start : Input) (before : List Term) (i : Input) �
 refuses close start [] i some fails read = absurd (some refl)
 refuses close start (top ∷ rest) i some fails read = sym read.all ∙ one_refused read.count top rest i fails
 
-none_left : (n : ℕ) (i : Input) → skip_from n [] i ≡ Ok (tt, i)
+pub none_left : (n : ℕ) (i : Input) → skip_from n [] i ≡ Ok (tt, i)
 unfolding skip_from
 none_left zero i = refl
 none_left (suc n) i = refl

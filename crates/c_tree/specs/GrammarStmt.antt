@@ -1,6 +1,9 @@
 -- The grammar of statements: which tokens a tree stands for, by cases on the tree.
 use Rattle.std.specs.Prelude.{◌≡◌, ◌≢◌, ℕ, zero, suc, Option, Some, None}
+use Rattle.c_lex.specs.Tokens.{Lexeme}
+use Rattle.c_tree.specs.declared.term.Term.{Term}
 use Rattle.c_tree.specs.declared.term.Term.TheVariants as terms
+use Rattle.c_tree.specs.declared.simple.Cond.{Cond}
 use Rattle.c_tree.specs.declared.stmt.Around.{Around}
 use Rattle.c_tree.specs.declared.stmt.Around.TheVariants as arounds
 use Rattle.c_tree.specs.declared.stmt.Block.{Block, out-Block}
@@ -53,6 +56,6 @@ module _ (levels : ℕ) (Inner : Around → Stmt → Part) where
   IsLayer around (Stmt-F.Handles h) = IsHandles h
 
 -- A statement with at most so many levels of statements, this one included, and with each expression within those left.
-abbrev pub IsStmt : ℕ → Around → Stmt → Part
+unfoldable pub IsStmt : ℕ → Around → Stmt → Part
 IsStmt zero around s = λ ts rest. ⊥
 IsStmt (suc levels) around s = IsLayer levels (IsStmt levels) around (out-Stmt s)

@@ -1,11 +1,14 @@
-//! What the grammar of expressions says, and that reading gives just that.
+//! What the grammar says, and that reading gives just that.
 
 ghost use Rattle.std.specs.Prelude.{◌≡◌, ◌<◌, ℕ, List, Ok};
 ghost use Rattle.c_lex.specs.Tokens.{Lexeme};
 ghost use Rattle.c_tree.specs.Expr as spec;
 ghost use Rattle.c_tree.specs.Grammar.{IsExpr, binds};
+ghost use Rattle.c_tree.specs.GrammarItem.{IsTree, IsTreeOf};
 ghost use Rattle.c_tree.specs.Input.{Input, term_at};
+ghost use Rattle.c_tree.specs.Item.{parsed};
 ghost use Rattle.c_tree.specs.declared.expr.Expr.{Expr};
+ghost use Rattle.c_tree.specs.declared.item.Tree.{Tree};
 
 /// An expression is read exactly where the tokens stand for one within the levels that are left, and they stand for
 /// no two.
@@ -17,4 +20,14 @@ pub fn expressions_are_read_exactly()
         → spec.expr levels (record { tokens = ts; end = end }) ≡ Ok (e, record { tokens = rest; end = end }) }
     // No other expression stands there.
     ensures one { (levels : ℕ) (e f : Expr) (ts rest : List Lexeme) → IsExpr levels e ts rest → IsExpr levels f ts rest → binds (term_at rest) < 1 → e ≡ f }
+{}
+
+/// A text has the tree that is read exactly where its tokens, all of them, stand for it; and they stand for no two.
+pub fn trees_are_read_exactly()
+    // The text has tokens, and they stand for what is read.
+    ensures found { (text : List ℕ) (t : Tree) → parsed text ≡ Ok t → IsTreeOf text t }
+    // What they stand for is read.
+    ensures only { (text : List ℕ) (t : Tree) → IsTreeOf text t → parsed text ≡ Ok t }
+    // Tokens stand for no other tree.
+    ensures one { (tokens : List Lexeme) (t u : Tree) → IsTree t tokens → IsTree u tokens → t ≡ u }
 {}

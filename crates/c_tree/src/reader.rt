@@ -1,7 +1,8 @@
 //! Reads a text: its tokens, and then its tree.
 
-ghost use Rattle.std.specs.Prelude.{◌≤◌, length};
+ghost use Rattle.std.specs.Prelude.{◌≤◌, length, IfOk};
 ghost use Rattle.c_lex.specs.Tokens.{views, Gives};
+ghost use Rattle.c_tree.specs.GrammarItem.{IsTreeOf};
 ghost use Rattle.c_tree.specs.Item.{parsed, tree, value_of};
 
 use crate::item::Tree;
@@ -24,6 +25,7 @@ fn tree_of(alloc: Global, tokens: &[Token<'_>], end: u32) -> Result<Tree, Stop>
 pub fn parse(alloc: Global, text: &str) -> Result<Tree, Stop>
     requires { length text.now ≤ TEXT_LIMIT }
     ensures exact { Gives (λ t. t) result (parsed text.now) }
+    ensures tree { IfOk result (λ t. IsTreeOf text.now t) }
 {
     let end = text.len() as u32;
     match lex(alloc, text) {
