@@ -28,3 +28,10 @@ pub mod AgainGlobals
 pub mod AgainFunctions
 pub mod AgainItem
 pub mod Trees
+pub mod NextToken
+pub mod NextLoops
+pub mod NextExpr
+pub mod NextSimple
+pub mod NextStmt
+pub mod NextItem
+pub mod Refusals

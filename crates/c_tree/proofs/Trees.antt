@@ -86,7 +86,7 @@ tree_found i t j e =
     let all = many_found terms.End spec.item IsItem item_found _ _ _ a.2 in
     subst (λ (x : Tree). IsTree x i.tokens) same.0 (subst (λ (l : List Lexeme). AreAll IsItem a.0 i.tokens l) none all)
 
-tree_again : (end : ℕ) (t : Tree) (ts : List Lexeme) → IsTree t ts → spec.tree (at ts end) ≡ Ok (t, at [] end)
+pub tree_again : (end : ℕ) (t : Tree) (ts : List Lexeme) → IsTree t ts → spec.tree (at ts end) ≡ Ok (t, at [] end)
 unfolding spec.tree sees peek same_term
 tree_again end t ts is = rw (many_again terms.End spec.item IsItem item_again item_shrinks item_no_end end t.items ts [] is refl) refl
 

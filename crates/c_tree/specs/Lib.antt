@@ -14,3 +14,4 @@ pub mod Sequence
 pub mod GrammarSimple
 pub mod GrammarStmt
 pub mod GrammarItem
+pub mod Refused

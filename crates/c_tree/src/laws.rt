@@ -1,14 +1,16 @@
 //! What the grammar says, and that reading gives just that.
 
-ghost use Rattle.std.specs.Prelude.{◌≡◌, ◌<◌, ℕ, List, Ok};
-ghost use Rattle.c_lex.specs.Tokens.{Lexeme};
+ghost use Rattle.std.specs.Prelude.{◌≡◌, ◌<◌, ℕ, List, Ok, Err, length};
+ghost use Rattle.c_lex.specs.Tokens.{Lexeme, lexed};
 ghost use Rattle.c_tree.specs.Expr as spec;
 ghost use Rattle.c_tree.specs.Grammar.{IsExpr, binds};
 ghost use Rattle.c_tree.specs.GrammarItem.{IsTree, IsTreeOf};
 ghost use Rattle.c_tree.specs.Input.{Input, term_at};
 ghost use Rattle.c_tree.specs.Item.{parsed};
+ghost use Rattle.c_tree.specs.Refused.{IsRefusedAt};
 ghost use Rattle.c_tree.specs.declared.expr.Expr.{Expr};
 ghost use Rattle.c_tree.specs.declared.item.Tree.{Tree};
+ghost use Rattle.thr_base.specs.declared.stops.Refusal.{Refusal};
 
 /// An expression is read exactly where the tokens stand for one within the levels that are left, and they stand for
 /// no two.
@@ -30,4 +32,9 @@ pub fn trees_are_read_exactly()
     ensures only { (text : List ℕ) (t : Tree) → IsTreeOf text t → parsed text ≡ Ok t }
     // Tokens stand for no other tree.
     ensures one { (tokens : List Lexeme) (t u : Tree) → IsTree t tokens → IsTree u tokens → t ≡ u }
+{}
+
+/// What is refused is a token with which no tree goes on behind those in front of it, or the end of the text.
+pub fn no_tree_goes_on_where_a_text_is_refused()
+    ensures { (text : List ℕ) (tokens : List Lexeme) (d : Refusal) → lexed text ≡ Ok tokens → parsed text ≡ Err d → IsRefusedAt (length text) tokens d.place }
 {}
