@@ -35,3 +35,6 @@ pub mod NextSimple
 pub mod NextStmt
 pub mod NextItem
 pub mod Refusals
+pub mod Deepening
+pub mod DeepeningStmt
+pub mod DeepeningItem

@@ -81,86 +81,87 @@ error_fn_local : Local spec.error_fn
 unfolding spec.error_fn
 error_fn_local = bind_local take_token _ take_local (λ from. bind_local spec.skipped_parens _ skipped_parens_local (λ s. bind_local (λ i. Ok (sees terms.LeftBrace i, i)) _ (see_local terms.LeftBrace) (λ b. error_by_local from b)))
 
-body_local : Local spec.body
-unfolding spec.body
-body_local = block_local spec.max_levels (stmt_spec.stmt spec.max_levels) (stmt_shrinks spec.max_levels) (stmt_local spec.max_levels) arounds.Nothing
+module _ (levels : ℕ) where
+  body_local : Local (spec.body levels)
+  unfolding spec.body
+  body_local = block_local levels (stmt_spec.stmt levels) (stmt_shrinks levels) (stmt_local levels) arounds.Nothing
 
-main_fn_local : Local spec.main_fn
-unfolding spec.main_fn
-main_fn_local = bind_local take_token _ take_local (λ from. bind_local (expect terms.LeftParen) _ (expect_local terms.LeftParen) (λ o. bind_local (eat terms.Void) _ (eat_local terms.Void) (λ v. bind_local (expect terms.RightParen) _ (expect_local terms.RightParen)
-    (λ c. bind_local spec.body _ body_local (λ b. pure_local {A = Mainfn} (record { from = from; body = b }))))))
+  main_fn_local : Local (spec.main_fn levels)
+  unfolding spec.main_fn
+  main_fn_local = bind_local take_token _ take_local (λ from. bind_local (expect terms.LeftParen) _ (expect_local terms.LeftParen) (λ o. bind_local (eat terms.Void) _ (eat_local terms.Void) (λ v. bind_local (expect terms.RightParen) _ (expect_local terms.RightParen)
+      (λ c. bind_local (spec.body levels) _ body_local (λ b. pure_local {A = Mainfn} (record { from = from; body = b }))))))
 
-name_if_local : (b : Bool) → Local (spec.name_if b)
-name_if_local true = bind_local expr_spec.name _ name_local (λ x. pure_local tt)
-name_if_local false = pure_local tt
+  name_if_local : (b : Bool) → Local (spec.name_if b)
+  name_if_local true = bind_local expr_spec.name _ name_local (λ x. pure_local tt)
+  name_if_local false = pure_local tt
 
-pointer_if_local : (b : Bool) → Local (spec.pointer_if b)
-pointer_if_local true = bind_local (λ i. Ok (sees terms.Name i, i)) _ (see_local terms.Name) name_if_local
-pointer_if_local false = pure_local tt
+  pointer_if_local : (b : Bool) → Local (spec.pointer_if b)
+  pointer_if_local true = bind_local (λ i. Ok (sees terms.Name i, i)) _ (see_local terms.Name) name_if_local
+  pointer_if_local false = pure_local tt
 
-void_if_local : (b : Bool) → Local (spec.void_if b)
-void_if_local true = bind_local (eat terms.Star) _ (eat_local terms.Star) pointer_if_local
-void_if_local false = pure_local tt
+  void_if_local : (b : Bool) → Local (spec.void_if b)
+  void_if_local true = bind_local (eat terms.Star) _ (eat_local terms.Star) pointer_if_local
+  void_if_local false = pure_local tt
 
-parameter_local : Local spec.parameter
-unfolding spec.parameter
-parameter_local = bind_local (expect terms.LeftParen) _ (expect_local terms.LeftParen) (λ o. bind_local (eat terms.Void) _ (eat_local terms.Void) (λ v. bind_local (spec.void_if v) _ (void_if_local v) (λ s. closed_local {A = Unit {0}} terms.RightParen tt)))
+  parameter_local : Local spec.parameter
+  unfolding spec.parameter
+  parameter_local = bind_local (expect terms.LeftParen) _ (expect_local terms.LeftParen) (λ o. bind_local (eat terms.Void) _ (eat_local terms.Void) (λ v. bind_local (spec.void_if v) _ (void_if_local v) (λ s. closed_local {A = Unit {0}} terms.RightParen tt)))
 
-body_if_local : (b : Bool) → Local (spec.body_if b)
-body_if_local true = pure_local None
-body_if_local false = bind_local spec.body _ body_local (λ b. pure_local (Some b))
+  body_if_local : (b : Bool) → Local ((spec.body_if levels) b)
+  body_if_local true = pure_local None
+  body_if_local false = bind_local (spec.body levels) _ body_local (λ b. pure_local (Some b))
 
-thread_fn_local : Local spec.thread_fn
-unfolding spec.thread_fn
-thread_fn_local = bind_local expr_spec.name _ name_local (λ f. bind_local spec.parameter _ parameter_local (λ s. bind_local (eat terms.Semicolon) _ (eat_local terms.Semicolon) (λ p. bind_local (spec.body_if p) _ (body_if_local p) (λ b. pure_local {A = Threadfn} (record { name = f; body = b })))))
+  thread_fn_local : Local (spec.thread_fn levels)
+  unfolding spec.thread_fn
+  thread_fn_local = bind_local expr_spec.name _ name_local (λ f. bind_local spec.parameter _ parameter_local (λ s. bind_local (eat terms.Semicolon) _ (eat_local terms.Semicolon) (λ p. bind_local ((spec.body_if levels) p) _ (body_if_local p) (λ b. pure_local {A = Threadfn} (record { name = f; body = b })))))
 
--- ---- items
+  -- ---- items
 
-proto_if_local : (b : Bool) → Local (spec.proto_if b)
-proto_if_local true = proto_local
-proto_if_local false = refuse_local
+  proto_if_local : (b : Bool) → Local (spec.proto_if b)
+  proto_if_local true = proto_local
+  proto_if_local false = refuse_local
 
-named : Input → Bool
-named i = spec.is_profile (peek i)
+  named : Input → Bool
+  named i = spec.is_profile (peek i)
 
-views_named : Views named
-unfolding named
-views_named end ts us same = ap spec.is_profile (views_peek end ts us same)
+  views_named : Views named
+  unfolding named
+  views_named end ts us same = ap spec.is_profile (views_peek end ts us same)
 
-profile_proto_local : Local spec.profile_proto
-unfolding spec.profile_proto named
-profile_proto_local = same_local spec.profile_proto (seeing named >>= spec.proto_if) (λ i. refl) (bind_local (seeing named) spec.proto_if (seeing_local named views_named) proto_if_local)
+  profile_proto_local : Local spec.profile_proto
+  unfolding spec.profile_proto named
+  profile_proto_local = same_local spec.profile_proto (seeing named >>= spec.proto_if) (λ i. refl) (bind_local (seeing named) spec.proto_if (seeing_local named views_named) proto_if_local)
 
-typed_by_local : (k : Term) → Local (spec.typed_by k)
-typed_by_local terms.Name = bind_local spec.globals _ globals_local (λ g. pure_local (typeds.Globals g))
-typed_by_local terms.Main = bind_local spec.main_fn _ main_fn_local (λ m. pure_local (typeds.Main m))
-typed_by_local _ = bind_local spec.profile_proto _ profile_proto_local (λ p. pure_local (typeds.Proto p))
+  typed_by_local : (k : Term) → Local ((spec.typed_by levels) k)
+  typed_by_local terms.Name = bind_local spec.globals _ globals_local (λ g. pure_local (typeds.Globals g))
+  typed_by_local terms.Main = bind_local (spec.main_fn levels) _ main_fn_local (λ m. pure_local (typeds.Main m))
+  typed_by_local _ = bind_local spec.profile_proto _ profile_proto_local (λ p. pure_local (typeds.Proto p))
 
-untyped_by_local : (k : Term) → Local (spec.untyped_by k)
-untyped_by_local terms.Star = bind_local take_token _ take_local (λ from. bind_local spec.thread_fn _ thread_fn_local (λ t. pure_local (untypeds.Thread t)))
-untyped_by_local terms.ReachError = error_fn_local
-untyped_by_local _ = bind_local spec.profile_proto _ profile_proto_local (λ p. pure_local (untypeds.Proto p))
+  untyped_by_local : (k : Term) → Local ((spec.untyped_by levels) k)
+  untyped_by_local terms.Star = bind_local take_token _ take_local (λ from. bind_local (spec.thread_fn levels) _ thread_fn_local (λ t. pure_local (untypeds.Thread t)))
+  untyped_by_local terms.ReachError = error_fn_local
+  untyped_by_local _ = bind_local spec.profile_proto _ profile_proto_local (λ p. pure_local (untypeds.Proto p))
 
-typed_body_local : Local spec.typed_body
-unfolding spec.typed_body spec.typed
-typed_body_local = bind_local simple_spec.itype _ itype_local (λ kind. bind_local (look >>= spec.typed_by) _ (bind_local look _ look_local typed_by_local) (λ t. pure_local (bodies.Typed kind t)))
+  typed_body_local : Local (spec.typed_body levels)
+  unfolding spec.typed_body spec.typed
+  typed_body_local = bind_local simple_spec.itype _ itype_local (λ kind. bind_local (look >>= (spec.typed_by levels)) _ (bind_local look _ look_local typed_by_local) (λ t. pure_local (bodies.Typed kind t)))
 
-void_body_local : Local spec.void_body
-unfolding spec.void_body spec.untyped
-void_body_local = bind_local take_token _ take_local (λ from. bind_local (look >>= spec.untyped_by) _ (bind_local look _ look_local untyped_by_local) (λ u. pure_local (bodies.Void from u)))
+  void_body_local : Local (spec.void_body levels)
+  unfolding spec.void_body spec.untyped
+  void_body_local = bind_local take_token _ take_local (λ from. bind_local (look >>= (spec.untyped_by levels)) _ (bind_local look _ look_local untyped_by_local) (λ u. pure_local (bodies.Void from u)))
 
-body_by_local : (k : Term) → Local (spec.body_by k)
-body_by_local terms.Int = typed_body_local
-body_by_local terms.Long = typed_body_local
-body_by_local terms.Void = void_body_local
-body_by_local terms.MutexType = bind_local spec.locks _ locks_local (λ l. pure_local (bodies.Locks l))
-body_by_local terms.HandleType = bind_local simple_spec.handles _ handles_local (λ h. pure_local (bodies.Handles h))
-body_by_local _ = refuse_local
+  body_by_local : (k : Term) → Local ((spec.body_by levels) k)
+  body_by_local terms.Int = typed_body_local
+  body_by_local terms.Long = typed_body_local
+  body_by_local terms.Void = void_body_local
+  body_by_local terms.MutexType = bind_local spec.locks _ locks_local (λ l. pure_local (bodies.Locks l))
+  body_by_local terms.HandleType = bind_local simple_spec.handles _ handles_local (λ h. pure_local (bodies.Handles h))
+  body_by_local _ = refuse_local
 
-item_local : Local spec.item
-unfolding spec.item spec.item_body
-item_local = bind_local here _ here_local (λ from. bind_local simple_spec.quals _ quals_local (λ qs. bind_local (look >>= spec.body_by) _ (bind_local look _ look_local body_by_local) (λ b. pure_local {A = Item} (record { from = from; quals = qs; body = b }))))
+  item_local : Local (spec.item levels)
+  unfolding spec.item spec.item_body
+  item_local = bind_local here _ here_local (λ from. bind_local simple_spec.quals _ quals_local (λ qs. bind_local (look >>= (spec.body_by levels)) _ (bind_local look _ look_local body_by_local) (λ b. pure_local {A = Item} (record { from = from; quals = qs; body = b }))))
 
-pub tree_local : Local spec.tree
-unfolding spec.tree
-tree_local = bind_local (many terms.End spec.item) _ (many_local terms.End spec.item item_shrinks item_local) (λ all. pure_local {A = Tree} (record { items = all }))
+  pub tree_local : Local (spec.tree levels)
+  unfolding spec.tree
+  tree_local = bind_local (many terms.End (spec.item levels)) _ (many_local terms.End (spec.item levels) (item_shrinks levels) item_local) (λ all. pure_local {A = Tree} (record { items = all }))

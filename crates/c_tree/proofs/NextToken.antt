@@ -17,12 +17,16 @@ pub next_behind : (front ts us : List Lexeme) → SameNext ts us → SameNext (f
 next_behind [] ts us same = same
 next_behind (t ∷ front) ts us same = refl
 
+-- The refusal is that of the next token, or says that it opens a level too many.
+abbrev pub Says : Refusal → ℕ → List Lexeme → Type 0
+Says d end rest = (d ≡ refusal (at rest end)) ⊎ (d ≡ too_deep (at rest end))
+
 -- At these tokens: what is given, and what is refused, is so in front of all that goes on with the same token.
 pub record LocalAt {A : Type 0} (p : Parser A) (end : ℕ) (ts : List Lexeme) : Type 0 where
   pub keeps : (x : A) (j : Input) → p (at ts end) ≡ Ok (x, j)
       → (front : List Lexeme) × (rest : List Lexeme) × (ts ≡ front ++ rest) × (j ≡ at rest end) × ((us : List Lexeme) → SameNext rest us → p (at (front ++ us) end) ≡ Ok (x, at us end))
   pub stops : (d : Refusal) → p (at ts end) ≡ Err d
-      → (front : List Lexeme) × (rest : List Lexeme) × (ts ≡ front ++ rest) × (d.place ≡ place_at end rest) × ((us : List Lexeme) → SameNext rest us → p (at (front ++ us) end) ≡ Err d)
+      → (front : List Lexeme) × (rest : List Lexeme) × (ts ≡ front ++ rest) × Says d end rest × ((us : List Lexeme) → SameNext rest us → p (at (front ++ us) end) ≡ Err d)
 
 abbrev pub Local : {A : Type 0} → Parser A → Type 0
 Local {A} p = (end : ℕ) (ts : List Lexeme) → LocalAt p end ts
@@ -95,7 +99,7 @@ unfolding refusal place
 refuse_local {A} end ts = record {
   keeps = λ x j e. absurd (not_err _ x j e);
   stops = λ d e. (let same = err_parts {A = A} (refusal (at ts end)) d e in
-      ([], ts, refl, ap (λ (f : Refusal). f.place) (sym same), λ us next. ap (λ (f : Refusal). Err f) (views_refusal end ts us next ∙ same)));
+      ([], ts, refl, inl (sym same), λ us next. ap (λ (f : Refusal). Err f) (views_refusal end ts us next ∙ same)));
 }
 
 pub refuse_deep_local : {A : Type 0} → Local (refuse_deep {A = A})
@@ -103,7 +107,7 @@ unfolding too_deep place
 refuse_deep_local {A} end ts = record {
   keeps = λ x j e. absurd (not_err _ x j e);
   stops = λ d e. (let same = err_parts {A = A} (too_deep (at ts end)) d e in
-      ([], ts, refl, ap (λ (f : Refusal). f.place) (sym same), λ us next. ap (λ (f : Refusal). Err f) (views_too_deep end ts us next ∙ same)));
+      ([], ts, refl, inr (sym same), λ us next. ap (λ (f : Refusal). Err f) (views_too_deep end ts us next ∙ same)));
 }
 
 -- a step of which the outcome is a refusal
@@ -118,32 +122,24 @@ module _ {A B : Type 0} (p : Parser A) (f : A → Parser B) (end : ℕ) (ts : Li
   bind_keeps y j e =
       let a = bind_ok (p (at ts end)) f y j e in
       let one = first.keeps a.0 a.1 a.2 in
-      let two = (second a.0 one.1 (a.2 ∙ ap (λ (k : Input). Ok (a.0, k)) one.3)).keeps y j (ap (f a.0) (sym one.3) ∙ a.3) in (
-        one.0 ++ two.0,
-        two.1,
-        one.2 ∙ ap (λ (l : List Lexeme). one.0 ++ l) two.2 ∙ sym (append_assoc one.0 two.0 two.1),
-        two.3,
-        λ us next. (let same : SameNext one.1 (two.0 ++ us) = subst (λ (l : List Lexeme). SameNext l (two.0 ++ us)) (sym two.2) (next_behind two.0 two.1 us next) in
-            rw (append_assoc one.0 two.0 us, one.4 (two.0 ++ us) same) (two.4 us next)),
-      )
+      let two = (second a.0 one.1 (a.2 ∙ ap (λ (k : Input). Ok (a.0, k)) one.3)).keeps y j (ap (f a.0) (sym one.3) ∙ a.3) in
+      (one.0 ++ two.0, two.1, one.2 ∙ ap (λ (l : List Lexeme). one.0 ++ l) two.2 ∙ sym (append_assoc one.0 two.0 two.1), two.3,
+       λ us next. (let same : SameNext one.1 (two.0 ++ us) = subst (λ (l : List Lexeme). SameNext l (two.0 ++ us)) (sym two.2) (next_behind two.0 two.1 us next) in
+                   rw (append_assoc one.0 two.0 us, one.4 (two.0 ++ us) same) (two.4 us next)))
 
   bind_stops : (d : Refusal) → (p >>= f) (at ts end) ≡ Err d
-      → (front : List Lexeme) × (rest : List Lexeme) × (ts ≡ front ++ rest) × (d.place ≡ place_at end rest) × ((us : List Lexeme) → SameNext rest us → (p >>= f) (at (front ++ us) end) ≡ Err d)
+      → (front : List Lexeme) × (rest : List Lexeme) × (ts ≡ front ++ rest) × Says d end rest × ((us : List Lexeme) → SameNext rest us → (p >>= f) (at (front ++ us) end) ≡ Err d)
   bind_stops d e = go (bind_err (p (at ts end)) f d e)
     where
       go : ((p (at ts end) ≡ Err d) ⊎ ((x : A) × (k : Input) × (p (at ts end) ≡ Ok (x, k)) × (f x k ≡ Err d)))
-          → (front : List Lexeme) × (rest : List Lexeme) × (ts ≡ front ++ rest) × (d.place ≡ place_at end rest) × ((us : List Lexeme) → SameNext rest us → (p >>= f) (at (front ++ us) end) ≡ Err d)
+          → (front : List Lexeme) × (rest : List Lexeme) × (ts ≡ front ++ rest) × Says d end rest × ((us : List Lexeme) → SameNext rest us → (p >>= f) (at (front ++ us) end) ≡ Err d)
       go (inl refused) = (let one = first.stops d refused in (one.0, one.1, one.2, one.3, λ us next. rw (one.4 us next) refl))
       go (inr a) =
           let one = first.keeps a.0 a.1 a.2 in
-          let two = (second a.0 one.1 (a.2 ∙ ap (λ (k : Input). Ok (a.0, k)) one.3)).stops d (ap (f a.0) (sym one.3) ∙ a.3) in (
-            one.0 ++ two.0,
-            two.1,
-            one.2 ∙ ap (λ (l : List Lexeme). one.0 ++ l) two.2 ∙ sym (append_assoc one.0 two.0 two.1),
-            two.3,
-            λ us next. (let same : SameNext one.1 (two.0 ++ us) = subst (λ (l : List Lexeme). SameNext l (two.0 ++ us)) (sym two.2) (next_behind two.0 two.1 us next) in
-                rw (append_assoc one.0 two.0 us, one.4 (two.0 ++ us) same) (two.4 us next)),
-          )
+          let two = (second a.0 one.1 (a.2 ∙ ap (λ (k : Input). Ok (a.0, k)) one.3)).stops d (ap (f a.0) (sym one.3) ∙ a.3) in
+          (one.0 ++ two.0, two.1, one.2 ∙ ap (λ (l : List Lexeme). one.0 ++ l) two.2 ∙ sym (append_assoc one.0 two.0 two.1), two.3,
+           λ us next. (let same : SameNext one.1 (two.0 ++ us) = subst (λ (l : List Lexeme). SameNext l (two.0 ++ us)) (sym two.2) (next_behind two.0 two.1 us next) in
+                       rw (append_assoc one.0 two.0 us, one.4 (two.0 ++ us) same) (two.4 us next)))
 
   pub bind_at : LocalAt (p >>= f) end ts
   bind_at = record { keeps = bind_keeps; stops = bind_stops }
@@ -197,7 +193,6 @@ expect_local k = same_local (expect k) (seeing (sees k) >>= expect_if) (λ i. go
     go : (i : Input) (b : Bool) → cond {A = Outcome ℕ} b (Ok (place i, next i)) (Err (refusal i)) ≡ expect_if b i
     go i true = refl
     go i false = refl
-
     by : (b : Bool) → Local (expect_if b)
     by true = take_local
     by false = refuse_local
@@ -213,7 +208,6 @@ eat_local k = same_local (eat k) (seeing (sees k) >>= eat_if) (λ i. go i (sees 
     go : (i : Input) (b : Bool) → ◌≡◌ {A = Outcome Bool} (Ok (b, cond b (next i) i)) (eat_if b i)
     go i true = refl
     go i false = refl
-
     by : (b : Bool) → Local (eat_if b)
     by true = bind_local take_token _ take_local (λ from. pure_local true)
     by false = pure_local false

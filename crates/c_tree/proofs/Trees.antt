@@ -15,7 +15,7 @@ use Rattle.c_tree.specs.Input.{Input, Outcome, Parser, peek, sees, term_at, refu
 use Rattle.c_tree.specs.Many.{one_or_end, many_from, many}
 use Rattle.c_tree.specs.Item as spec
 use Rattle.c_tree.specs.Sequence.{AreAll}
-use Rattle.c_tree.specs.GrammarItem.{IsItem, IsTree, IsTreeOf}
+use Rattle.c_tree.specs.GrammarItem.{IsItem, IsTreeWithin, IsTree, IsTreeOf}
 use Rattle.c_tree.proofs.Steps.{bind_ok, ok_parts, not_err}
 use Rattle.c_tree.proofs.ItemSizes.{item_shrinks}
 use Rattle.c_tree.proofs.Found.{seen}
@@ -77,18 +77,19 @@ module _ {A : Type 0} (last : Term) (item : Parser A) where
   unfolding many
   many_stops i xs j e = many_from_stops (suc (length i.tokens)) i xs j e
 
-tree_found : (i : Input) (t : Tree) (j : Input) → spec.tree i ≡ Ok (t, j) → IsTree t i.tokens
-unfolding spec.tree peek
-tree_found i t j e =
-    let a = bind_ok (many terms.End spec.item i) _ t j e in
-    let same = ok_parts {A = Tree} (record { items = a.0 }) t a.1 j a.3 in
-    let none = at_end a.1.tokens (seen terms.End a.1 (many_stops terms.End spec.item i a.0 a.1 a.2)) in
-    let all = many_found terms.End spec.item IsItem item_found _ _ _ a.2 in
-    subst (λ (x : Tree). IsTree x i.tokens) same.0 (subst (λ (l : List Lexeme). AreAll IsItem a.0 i.tokens l) none all)
+module _ (levels : ℕ) where
+  pub tree_found : (i : Input) (t : Tree) (j : Input) → (spec.tree levels) i ≡ Ok (t, j) → IsTreeWithin levels t i.tokens
+  unfolding spec.tree peek
+  tree_found i t j e =
+      let a = bind_ok (many terms.End (spec.item levels) i) _ t j e in
+      let same = ok_parts {A = Tree} (record { items = a.0 }) t a.1 j a.3 in
+      let none = at_end a.1.tokens (seen terms.End a.1 (many_stops terms.End (spec.item levels) i a.0 a.1 a.2)) in
+      let all = many_found terms.End (spec.item levels) (IsItem levels) (item_found levels) _ _ _ a.2 in
+      subst (λ (x : Tree). IsTreeWithin levels x i.tokens) same.0 (subst (λ (l : List Lexeme). AreAll (IsItem levels) a.0 i.tokens l) none all)
 
-pub tree_again : (end : ℕ) (t : Tree) (ts : List Lexeme) → IsTree t ts → spec.tree (at ts end) ≡ Ok (t, at [] end)
-unfolding spec.tree sees peek same_term
-tree_again end t ts is = rw (many_again terms.End spec.item IsItem item_again item_shrinks item_no_end end t.items ts [] is refl) refl
+  pub tree_again : (end : ℕ) (t : Tree) (ts : List Lexeme) → IsTreeWithin levels t ts → (spec.tree levels) (at ts end) ≡ Ok (t, at [] end)
+  unfolding spec.tree sees peek same_term
+  tree_again end t ts is = rw (many_again terms.End (spec.item levels) (IsItem levels) (item_again levels) (item_shrinks levels) (item_no_end levels) end t.items ts [] is refl) refl
 
 -- ---- texts
 
@@ -99,20 +100,20 @@ value_found (Err d) x e = absurd (let differs : ◌≡◌ {A = Result _ Refusal}
 tree_of_found : (end : ℕ) (r : Result (List Lexeme) Refusal) (t : Tree) → spec.tree_of end r ≡ Ok t → (tokens : List Lexeme) × (r ≡ Ok tokens) × IsTree t tokens
 tree_of_found end (Err d) t e = absurd (let differs : ◌≡◌ {A = Result Tree Refusal} (Err d) (Ok t) = e in cc)
 tree_of_found end (Ok tokens) t e =
-    let read = value_found (spec.tree (at tokens end)) t e in
-    (tokens, refl, tree_found (at tokens end) t read.0 read.1)
+    let read = value_found (spec.tree spec.max_levels (at tokens end)) t e in
+    (tokens, refl, tree_found spec.max_levels (at tokens end) t read.0 read.1)
 
 pub parsed_found : (text : List ℕ) (t : Tree) → spec.parsed text ≡ Ok t → IsTreeOf text t
 parsed_found text t e = tree_of_found (length text) (lexed text) t e
 
 pub parsed_again : (text : List ℕ) (t : Tree) → IsTreeOf text t → spec.parsed text ≡ Ok t
-parsed_again text t is = ap (spec.tree_of (length text)) is.1 ∙ ap spec.value_of (tree_again (length text) t is.0 is.2)
+parsed_again text t is = ap (spec.tree_of (length text)) is.1 ∙ ap spec.value_of (tree_again spec.max_levels (length text) t is.0 is.2)
 
 -- what reading gives, where the text has these tokens
-pub tree_given : (text : List ℕ) (tokens ts : List Lexeme) (result : Result Tree Stop) → lexed text ≡ Ok tokens → ts ≡ tokens → Gives (λ t. t) result (spec.value_of (spec.tree (at ts (length text)))) → IfOk result (λ t. IsTreeOf text t)
+pub tree_given : (text : List ℕ) (tokens ts : List Lexeme) (result : Result Tree Stop) → lexed text ≡ Ok tokens → ts ≡ tokens → Gives (λ t. t) result (spec.value_of (spec.tree spec.max_levels (at ts (length text)))) → IfOk result (λ t. IsTreeOf text t)
 tree_given text tokens ts (Ok t) lexes same gives = parsed_found text t (ap (spec.tree_of (length text)) (lexes ∙ ap (λ (l : List Lexeme). Ok l) (sym same)) ∙ gives)
 tree_given text tokens ts (Err stop) lexes same gives = tt
 
 -- no two trees have the same tokens
 pub one_tree : (t u : Tree) (ts : List Lexeme) → IsTree t ts → IsTree u ts → t ≡ u
-one_tree t u ts is also = (ok_parts t u _ _ (sym (tree_again 0 t ts is) ∙ tree_again 0 u ts also)).0
+one_tree t u ts is also = (ok_parts t u _ _ (sym (tree_again spec.max_levels 0 t ts is) ∙ tree_again spec.max_levels 0 u ts also)).0

@@ -106,50 +106,57 @@ IsProto p = IsProfileName p.from then InParens IsSkipped then Stands terms.Semic
 abbrev pub IsErrfn : Errfn → Part
 IsErrfn e = Headed terms.ReachError e.from (InParens IsSkipped then Stands terms.LeftBrace then IsSkipped then Stands terms.RightBrace)
 
--- the body of a function, whose statements are at the first level and in no loop
-abbrev pub IsBody : Block → Part
-IsBody = IsBlock max_levels (IsStmt max_levels) arounds.Nothing
-
-abbrev pub IsMainfn : Mainfn → Part
-IsMainfn m = Headed terms.Main m.from (InParens (IfAny (Stands terms.Void)) then IsBody m.body)
-
 -- `( [ void [ * [ name ] ] ] )`
 abbrev pub IsParameter : Part
 IsParameter = InParens (IfAny (Stands terms.Void then IfAny (Stands terms.Star then IfAny (Stands terms.Name))))
 
-abbrev pub IsThreadBody : Option Block → Part
-IsThreadBody None = Stands terms.Semicolon
-IsThreadBody (Some b) = IsBody b
+-- ---- with bodies of so many levels
 
-abbrev pub IsThreadfn : Threadfn → Part
-IsThreadfn t = IsName t.name then IsParameter then IsThreadBody t.body
+module _ (levels : ℕ) where
+  -- the body of a function, whose statements are at the first level and in no loop
+  abbrev pub IsBody : Block → Part
+  IsBody = IsBlock levels (IsStmt levels) arounds.Nothing
 
--- ---- items
+  abbrev pub IsMainfn : Mainfn → Part
+  IsMainfn m = Headed terms.Main m.from (InParens (IfAny (Stands terms.Void)) then IsBody m.body)
 
-abbrev pub IsTyped : Typed → Part
-IsTyped (typeds.Globals g) = IsGlobals g
-IsTyped (typeds.Main m) = IsMainfn m
-IsTyped (typeds.Proto p) = IsProto p
+  abbrev pub IsThreadBody : Option Block → Part
+  IsThreadBody None = Stands terms.Semicolon
+  IsThreadBody (Some b) = IsBody b
 
-abbrev pub IsUntyped : Untyped → Part
-IsUntyped (untypeds.Thread t) = Stands terms.Star then IsThreadfn t
-IsUntyped (untypeds.Proto p) = IsProto p
-IsUntyped (untypeds.Errfn e) = IsErrfn e
+  abbrev pub IsThreadfn : Threadfn → Part
+  IsThreadfn t = IsName t.name then IsParameter then IsThreadBody t.body
 
-abbrev pub IsItemBody : Body → Part
-IsItemBody (bodies.Typed kind t) = IsItype kind then IsTyped t
-IsItemBody (bodies.Void from u) = Headed terms.Void from (IsUntyped u)
-IsItemBody (bodies.Locks l) = IsLocks l
-IsItemBody (bodies.Handles h) = IsHandles h
+  -- ---- items
 
-abbrev pub IsItem : Item → Part
-IsItem i ts rest = StartsAt i.from ts × (AreAll IsQual i.quals then IsItemBody i.body) ts rest
+  abbrev pub IsTyped : Typed → Part
+  IsTyped (typeds.Globals g) = IsGlobals g
+  IsTyped (typeds.Main m) = IsMainfn m
+  IsTyped (typeds.Proto p) = IsProto p
+
+  abbrev pub IsUntyped : Untyped → Part
+  IsUntyped (untypeds.Thread t) = Stands terms.Star then IsThreadfn t
+  IsUntyped (untypeds.Proto p) = IsProto p
+  IsUntyped (untypeds.Errfn e) = IsErrfn e
+
+  abbrev pub IsItemBody : Body → Part
+  IsItemBody (bodies.Typed kind t) = IsItype kind then IsTyped t
+  IsItemBody (bodies.Void from u) = Headed terms.Void from (IsUntyped u)
+  IsItemBody (bodies.Locks l) = IsLocks l
+  IsItemBody (bodies.Handles h) = IsHandles h
+
+  abbrev pub IsItem : Item → Part
+  IsItem i ts rest = StartsAt i.from ts × (AreAll IsQual i.quals then IsItemBody i.body) ts rest
 
 -- ---- texts
 
--- The tokens are those of a tree, and of nothing else.
+-- The tokens are those of a tree, and of nothing else, within so many levels.
+abbrev pub IsTreeWithin : ℕ → Tree → List Lexeme → Type 0
+IsTreeWithin levels tree ts = AreAll (IsItem levels) tree.items ts []
+
+-- within the levels of the profile
 abbrev pub IsTree : Tree → List Lexeme → Type 0
-IsTree tree ts = AreAll IsItem tree.items ts []
+IsTree = IsTreeWithin max_levels
 
 -- The text has tokens, and they are those of a tree.
 abbrev pub IsTreeOf : List ℕ → Tree → Type 0

@@ -7,7 +7,7 @@ ghost use Rattle.c_tree.specs.Grammar.{IsExpr, binds};
 ghost use Rattle.c_tree.specs.GrammarItem.{IsTree, IsTreeOf};
 ghost use Rattle.c_tree.specs.Input.{Input, term_at};
 ghost use Rattle.c_tree.specs.Item.{parsed};
-ghost use Rattle.c_tree.specs.Refused.{IsRefusedAt};
+ghost use Rattle.c_tree.specs.Refused.{IsRefusedWith};
 ghost use Rattle.c_tree.specs.declared.expr.Expr.{Expr};
 ghost use Rattle.c_tree.specs.declared.item.Tree.{Tree};
 ghost use Rattle.thr_base.specs.declared.stops.Refusal.{Refusal};
@@ -34,7 +34,8 @@ pub fn trees_are_read_exactly()
     ensures one { (tokens : List Lexeme) (t u : Tree) → IsTree t tokens → IsTree u tokens → t ≡ u }
 {}
 
-/// What is refused is a token with which no tree goes on behind those in front of it, or the end of the text.
+/// What is refused is a token with which no tree goes on behind those in front of it, or the end of the text: none with
+/// however many levels, or where a level too many is refused, none within the levels of the profile.
 pub fn no_tree_goes_on_where_a_text_is_refused()
-    ensures { (text : List ℕ) (tokens : List Lexeme) (d : Refusal) → lexed text ≡ Ok tokens → parsed text ≡ Err d → IsRefusedAt (length text) tokens d.place }
+    ensures { (text : List ℕ) (tokens : List Lexeme) (d : Refusal) → lexed text ≡ Ok tokens → parsed text ≡ Err d → IsRefusedWith (length text) tokens d }
 {}

@@ -3,7 +3,7 @@
 ghost use Rattle.std.specs.Prelude.{◌≤◌, length, IfOk};
 ghost use Rattle.c_lex.specs.Tokens.{views, Gives};
 ghost use Rattle.c_tree.specs.GrammarItem.{IsTreeOf};
-ghost use Rattle.c_tree.specs.Item.{parsed, tree, value_of};
+ghost use Rattle.c_tree.specs.Item.{max_levels, parsed, tree, value_of};
 
 use crate::item::Tree;
 use crate::items;
@@ -13,7 +13,7 @@ use std::alloc::Global;
 use thr_base::Stop;
 
 fn tree_of(alloc: Global, tokens: &[Token<'_>], end: u32) -> Result<Tree, Stop>
-    ensures { Gives (λ t. t) result (value_of (tree (record { tokens = views tokens.now; end = end }))) }
+    ensures { Gives (λ t. t) result (value_of (tree max_levels (record { tokens = views tokens.now; end = end }))) }
 {
     let mut left = Tokens::new(tokens, end);
     items::tree(alloc, &mut left)
