@@ -19,7 +19,7 @@ module _ (levels : ℕ) where
   start_found : (i : Input) (b : Bool) → sees terms.Assign i ≡ b → (x : Option Right) (j : Input) → spec.start_if levels b (after terms.Assign i) ≡ Ok (x, j) → Perhaps (λ e. Stands terms.Assign then IsRight levels e) x i.tokens j.tokens
   start_found i true is x j e =
       let a = bind_ok (spec.right levels (after terms.Assign i)) _ x j e in
-      given (Perhaps (λ y. Stands terms.Assign then IsRight levels y)) (Some a.0) x a.1 j i.tokens a.3 ((after terms.Assign i).tokens, eaten terms.Assign (λ h. cc) i is, right_found levels _ _ _ a.2)
+      given (Perhaps (λ y. Stands terms.Assign then IsRight levels y)) (Some a.0) x a.1 j i.tokens a.3 ((after terms.Assign i).tokens, eaten terms.Assign (λ h. cc) i is, right_found levels (after terms.Assign i) a.0 a.1 a.2)
   start_found i false is x j e = given (Perhaps (λ y. Stands terms.Assign then IsRight levels y)) None x (after terms.Assign i) j i.tokens e (not_eaten terms.Assign i is)
 
   pub lname_found : Finds (spec.lname levels) (IsLname levels)
@@ -27,7 +27,7 @@ module _ (levels : ℕ) where
   lname_found i x j e =
       let a = bind_ok (expr_spec.name i) _ x j e in
       let b = bind_ok (spec.start_if levels (sees terms.Assign a.1) (after terms.Assign a.1)) _ x j a.3 in
-      given (IsLname levels) (record { name = a.0; start = b.0 }) x b.1 j i.tokens b.3 (a.1.tokens, name_found _ _ _ a.2, start_found a.1 (sees terms.Assign a.1) refl _ _ b.2)
+      given (IsLname levels) (record { name = a.0; start = b.0 }) x b.1 j i.tokens b.3 (a.1.tokens, name_found i a.0 a.1 a.2, start_found a.1 (sees terms.Assign a.1) refl b.0 b.1 b.2)
 
   -- a local, where something is shorter than what is left
   pub local_found : Finds (spec.local levels) (IsLocal levels)
@@ -43,14 +43,14 @@ module _ (levels : ℕ) where
         starts_so,
         (
           a.1.tokens,
-          quals_found _ _ _ a.2,
+          quals_found i a.0 a.1 a.2,
           (
             b.1.tokens,
-            itype_found _ _ _ b.2,
+            itype_found a.1 b.0 b.1 b.2,
             (
               c.1.tokens,
-              lname_found _ _ _ c.2,
-              (d.1.tokens, more_found spec.comma_mark (spec.lname levels) IsComma (IsLname levels) comma_mark_found lname_found _ _ _ d.2, semicolon_found _ _ _ f.2),
+              lname_found b.1 c.0 c.1 c.2,
+              (d.1.tokens, more_found spec.comma_mark (spec.lname levels) IsComma (IsLname levels) comma_mark_found lname_found c.1 d.0 d.1 d.2, semicolon_found d.1 f.0 f.1 f.2),
             ),
           ),
         ),
@@ -65,10 +65,10 @@ handles_found i x j e =
     let f = bind_ok (expect terms.Semicolon d.1) _ x j d.3 in
     given IsHandles (record { from = a.0; first = c.0; more = d.0 }) x f.1 j i.tokens f.3 (
       a.1.tokens,
-      expect_found terms.HandleType (λ h. cc) _ _ _ a.2,
+      expect_found terms.HandleType (λ h. cc) i a.0 a.1 a.2,
       (
         c.1.tokens,
-        name_found _ _ _ c.2,
-        (d.1.tokens, more_found spec.comma_mark expr_spec.name IsComma IsName comma_mark_found name_found _ _ _ d.2, semicolon_found _ _ _ f.2),
+        name_found a.1 c.0 c.1 c.2,
+        (d.1.tokens, more_found spec.comma_mark expr_spec.name IsComma IsName comma_mark_found name_found c.1 d.0 d.1 d.2, semicolon_found d.1 f.0 f.1 f.2),
       ),
     )

@@ -37,7 +37,7 @@ semicolon_found i x j e = stands_found terms.Semicolon (λ h. cc) i x j e
 pub empty_parens_found : (i : Input) (x : ℕ) (j : Input) → empty_parens i ≡ Ok (x, j) → EmptyParens i.tokens j.tokens
 empty_parens_found i x j e =
     let a = bind_ok (expect terms.LeftParen i) _ x j e in
-    (a.1.tokens, open_found _ _ _ a.2, close_found _ _ _ a.3)
+    (a.1.tokens, open_found i a.0 a.1 a.2, close_found _ _ _ a.3)
 
 pub eaten : (k : Term) → (k ≡ terms.End → ⊥) → (i : Input) → sees k i ≡ true → Stands k i.tokens (after k i).tokens
 unfolding after
@@ -62,7 +62,7 @@ module _ {A : Type 0} (end : Term) (item : Parser A) (R : A → Part) (finds : F
   one_or_end_found n false i xs j others e =
       let a = bind_ok (item i) _ xs j e in
       let b = bind_ok (many_from end item n a.1) _ xs j a.3 in
-      given (AreAll R) (a.0 ∷ b.0) xs b.1 j i.tokens b.3 (a.1.tokens, finds _ _ _ a.2, others _ _ _ b.2)
+      given (AreAll R) (a.0 ∷ b.0) xs b.1 j i.tokens b.3 (a.1.tokens, finds i a.0 a.1 a.2, others a.1 b.0 b.1 b.2)
 
   many_from_found : (n : ℕ) → Finds (many_from end item n) (AreAll R)
   unfolding many_from

@@ -37,7 +37,7 @@ unfolding spec.nondet
 nondet_found i x j e =
     let a = bind_ok (expect terms.Nondet i) _ x j e in
     let b = bind_ok (spec.empty_parens a.1) _ x j a.3 in
-    given IsNondet (record { from = a.0 }) x b.1 j i.tokens b.3 (a.1.tokens, expect_found terms.Nondet (λ h. cc) _ _ _ a.2, empty_parens_found _ _ _ b.2)
+    given IsNondet (record { from = a.0 }) x b.1 j i.tokens b.3 (a.1.tokens, expect_found terms.Nondet (λ h. cc) i a.0 a.1 a.2, empty_parens_found a.1 b.0 b.1 b.2)
 
 -- the next token is the number `0`
 zero_there : (k : Term) (text : List ℕ) → spec.is_zero k text ≡ true → (k ≡ terms.Number) × (text ≡ codes "0")
@@ -52,7 +52,7 @@ nil_by i true is x j e =
     given IsNil (nils.Zero (place i)) x (next i) j i.tokens e (is_next i terms.Number (λ h. cc) there.0, there.1)
 nil_by i false is x j e =
     let a = bind_ok (expect terms.Null i) _ x j e in
-    given IsNil (nils.Null a.0) x a.1 j i.tokens a.3 (expect_found terms.Null (λ h. cc) _ _ _ a.2)
+    given IsNil (nils.Null a.0) x a.1 j i.tokens a.3 (expect_found terms.Null (λ h. cc) i a.0 a.1 a.2)
 
 pub nil_found : Finds spec.nil IsNil
 unfolding spec.nil
@@ -62,7 +62,7 @@ pub address_found : Finds spec.address IsAddress
 unfolding spec.address
 address_found i x j e =
     let a = bind_ok (expect terms.Address i) _ x j e in
-    (a.1.tokens, stands_found terms.Address (λ h. cc) _ _ _ a.2, name_found _ _ _ a.3)
+    (a.1.tokens, stands_found terms.Address (λ h. cc) i a.0 a.1 a.2, name_found _ _ _ a.3)
 
 -- ---- types
 
@@ -76,7 +76,7 @@ quals_behind_found : (n : ℕ) (i : Input) (o : Option Qual) → mark_at spec.qu
 quals_behind_found n i None is others x j e = given (AreAll IsQual) [] x i j i.tokens e refl
 quals_behind_found n i (Some q) is others x j e =
     let a = bind_ok (spec.quals_from n (next i)) _ x j e in
-    given (AreAll IsQual) (q ∷ a.0) x a.1 j i.tokens a.3 ((next i).tokens, qual_mark_by i (peek i) q refl is, others _ _ _ a.2)
+    given (AreAll IsQual) (q ∷ a.0) x a.1 j i.tokens a.3 ((next i).tokens, qual_mark_by i (peek i) q refl is, others (next i) a.0 a.1 a.2)
 
 quals_from_found : (n : ℕ) → Finds (spec.quals_from n) (AreAll IsQual)
 unfolding spec.quals_from
@@ -108,7 +108,7 @@ lock_argument_found i x j e =
     let a = bind_ok (expect terms.LeftParen i) _ x j e in
     let b = bind_ok (spec.address a.1) _ x j a.3 in
     let c = bind_ok (expect terms.RightParen b.1) _ x j b.3 in
-    given (λ m. InParens (IsAddress m)) b.0 x c.1 j i.tokens c.3 (a.1.tokens, open_found _ _ _ a.2, (b.1.tokens, address_found _ _ _ b.2, close_found _ _ _ c.2))
+    given (λ m. InParens (IsAddress m)) b.0 x c.1 j i.tokens c.3 (a.1.tokens, open_found i a.0 a.1 a.2, (b.1.tokens, address_found a.1 b.0 b.1 b.2, close_found b.1 c.0 c.1 c.2))
 
 exit_argument_found : Finds spec.exit_argument (λ n. InParens (IsNil n))
 unfolding spec.exit_argument
@@ -116,7 +116,7 @@ exit_argument_found i x j e =
     let a = bind_ok (expect terms.LeftParen i) _ x j e in
     let b = bind_ok (spec.nil a.1) _ x j a.3 in
     let c = bind_ok (expect terms.RightParen b.1) _ x j b.3 in
-    given (λ n. InParens (IsNil n)) b.0 x c.1 j i.tokens c.3 (a.1.tokens, open_found _ _ _ a.2, (b.1.tokens, nil_found _ _ _ b.2, close_found _ _ _ c.2))
+    given (λ n. InParens (IsNil n)) b.0 x c.1 j i.tokens c.3 (a.1.tokens, open_found i a.0 a.1 a.2, (b.1.tokens, nil_found a.1 b.0 b.1 b.2, close_found b.1 c.0 c.1 c.2))
 
 module _ (levels : ℕ) where
   argument_found : Finds (spec.argument levels) (λ e. InParens (IsExpr levels e))
@@ -125,7 +125,7 @@ module _ (levels : ℕ) where
       let a = bind_ok (expect terms.LeftParen i) _ x j e in
       let b = bind_ok (expr_spec.expr levels a.1) _ x j a.3 in
       let c = bind_ok (expect terms.RightParen b.1) _ x j b.3 in
-      given (λ y. InParens (IsExpr levels y)) b.0 x c.1 j i.tokens c.3 (a.1.tokens, open_found _ _ _ a.2, (b.1.tokens, expr_found levels _ _ _ b.2, close_found _ _ _ c.2))
+      given (λ y. InParens (IsExpr levels y)) b.0 x c.1 j i.tokens c.3 (a.1.tokens, open_found i a.0 a.1 a.2, (b.1.tokens, expr_found levels a.1 b.0 b.1 b.2, close_found b.1 c.0 c.1 c.2))
 
   init_found : (i : Input) → peek i ≡ terms.MutexInit → (x : Call) (j : Input) → spec.init (place i) (next i) ≡ Ok (x, j) → IsCall levels x i.tokens j.tokens
   unfolding spec.init
@@ -136,7 +136,7 @@ module _ (levels : ℕ) where
       let d = bind_ok (spec.nil c.1) _ x j c.3 in
       let f = bind_ok (expect terms.RightParen d.1) _ x j d.3 in
       given (IsCall levels) (calls.Init (place i) b.0 d.0) x f.1 j i.tokens f.3
-      ((next i).tokens, is_next i terms.MutexInit (λ h. cc) is, (a.1.tokens, open_found _ _ _ a.2, (d.1.tokens, (b.1.tokens, address_found _ _ _ b.2, (c.1.tokens, comma_found _ _ _ c.2, nil_found _ _ _ d.2)), close_found _ _ _ f.2)))
+      ((next i).tokens, is_next i terms.MutexInit (λ h. cc) is, (a.1.tokens, open_found (next i) a.0 a.1 a.2, (d.1.tokens, (b.1.tokens, address_found a.1 b.0 b.1 b.2, (c.1.tokens, comma_found b.1 c.0 c.1 c.2, nil_found c.1 d.0 d.1 d.2)), close_found d.1 f.0 f.1 f.2)))
 
   create_found : (i : Input) → peek i ≡ terms.Create → (x : Call) (j : Input) → spec.create (place i) (next i) ≡ Ok (x, j) → IsCall levels x i.tokens j.tokens
   unfolding spec.create
@@ -155,8 +155,8 @@ module _ (levels : ℕ) where
         is_next i terms.Create (λ h. cc) is,
         (
           a.1.tokens,
-          open_found _ _ _ a.2,
-          (k.1.tokens, (b.1.tokens, address_found _ _ _ b.2, (c.1.tokens, comma_found _ _ _ c.2, (d.1.tokens, nil_found _ _ _ d.2, (f.1.tokens, comma_found _ _ _ f.2, (g.1.tokens, name_found _ _ _ g.2, (h.1.tokens, comma_found _ _ _ h.2, nil_found _ _ _ k.2)))))), close_found _ _ _ l.2),
+          open_found (next i) a.0 a.1 a.2,
+          (k.1.tokens, (b.1.tokens, address_found a.1 b.0 b.1 b.2, (c.1.tokens, comma_found b.1 c.0 c.1 c.2, (d.1.tokens, nil_found c.1 d.0 d.1 d.2, (f.1.tokens, comma_found d.1 f.0 f.1 f.2, (g.1.tokens, name_found f.1 g.0 g.1 g.2, (h.1.tokens, comma_found g.1 h.0 h.1 h.2, nil_found h.1 k.0 k.1 k.2)))))), close_found k.1 l.0 l.1 l.2),
         ),
       )
 
@@ -169,19 +169,19 @@ module _ (levels : ℕ) where
       let d = bind_ok (spec.nil c.1) _ x j c.3 in
       let f = bind_ok (expect terms.RightParen d.1) _ x j d.3 in
       given (IsCall levels) (calls.Join (place i) b.0 d.0) x f.1 j i.tokens f.3
-      ((next i).tokens, is_next i terms.Join (λ h. cc) is, (a.1.tokens, open_found _ _ _ a.2, (d.1.tokens, (b.1.tokens, name_found _ _ _ b.2, (c.1.tokens, comma_found _ _ _ c.2, nil_found _ _ _ d.2)), close_found _ _ _ f.2)))
+      ((next i).tokens, is_next i terms.Join (λ h. cc) is, (a.1.tokens, open_found (next i) a.0 a.1 a.2, (d.1.tokens, (b.1.tokens, name_found a.1 b.0 b.1 b.2, (c.1.tokens, comma_found b.1 c.0 c.1 c.2, nil_found c.1 d.0 d.1 d.2)), close_found d.1 f.0 f.1 f.2)))
 
   -- ---- calls
 
   call_by_found : (i : Input) (k : Term) → peek i ≡ k → (x : Call) (j : Input) → spec.call_by levels k i ≡ Ok (x, j) → IsCall levels x i.tokens j.tokens
-  call_by_found i terms.Assert is x j e = (let a = bind_ok (spec.argument levels (next i)) _ x j e in given (IsCall levels) (calls.Assert (place i) a.0) x a.1 j i.tokens a.3 ((next i).tokens, is_next i terms.Assert (λ h. cc) is, argument_found _ _ _ a.2))
-  call_by_found i terms.Assume is x j e = (let a = bind_ok (spec.argument levels (next i)) _ x j e in given (IsCall levels) (calls.Assume (place i) a.0) x a.1 j i.tokens a.3 ((next i).tokens, is_next i terms.Assume (λ h. cc) is, argument_found _ _ _ a.2))
-  call_by_found i terms.ReachError is x j e = (let a = bind_ok (spec.empty_parens (next i)) _ x j e in given (IsCall levels) (calls.ReachError (place i)) x a.1 j i.tokens a.3 ((next i).tokens, is_next i terms.ReachError (λ h. cc) is, empty_parens_found _ _ _ a.2))
-  call_by_found i terms.Abort is x j e = (let a = bind_ok (spec.empty_parens (next i)) _ x j e in given (IsCall levels) (calls.Abort (place i)) x a.1 j i.tokens a.3 ((next i).tokens, is_next i terms.Abort (λ h. cc) is, empty_parens_found _ _ _ a.2))
-  call_by_found i terms.Exit is x j e = (let a = bind_ok (spec.exit_argument (next i)) _ x j e in given (IsCall levels) (calls.Exit (place i) a.0) x a.1 j i.tokens a.3 ((next i).tokens, is_next i terms.Exit (λ h. cc) is, exit_argument_found _ _ _ a.2))
-  call_by_found i terms.MutexLock is x j e = (let a = bind_ok (spec.lock_argument (next i)) _ x j e in given (IsCall levels) (calls.Lock (place i) a.0) x a.1 j i.tokens a.3 ((next i).tokens, is_next i terms.MutexLock (λ h. cc) is, lock_argument_found _ _ _ a.2))
-  call_by_found i terms.MutexUnlock is x j e = (let a = bind_ok (spec.lock_argument (next i)) _ x j e in given (IsCall levels) (calls.Unlock (place i) a.0) x a.1 j i.tokens a.3 ((next i).tokens, is_next i terms.MutexUnlock (λ h. cc) is, lock_argument_found _ _ _ a.2))
-  call_by_found i terms.MutexDestroy is x j e = (let a = bind_ok (spec.lock_argument (next i)) _ x j e in given (IsCall levels) (calls.Destroy (place i) a.0) x a.1 j i.tokens a.3 ((next i).tokens, is_next i terms.MutexDestroy (λ h. cc) is, lock_argument_found _ _ _ a.2))
+  call_by_found i terms.Assert is x j e = (let a = bind_ok (spec.argument levels (next i)) _ x j e in given (IsCall levels) (calls.Assert (place i) a.0) x a.1 j i.tokens a.3 ((next i).tokens, is_next i terms.Assert (λ h. cc) is, argument_found (next i) a.0 a.1 a.2))
+  call_by_found i terms.Assume is x j e = (let a = bind_ok (spec.argument levels (next i)) _ x j e in given (IsCall levels) (calls.Assume (place i) a.0) x a.1 j i.tokens a.3 ((next i).tokens, is_next i terms.Assume (λ h. cc) is, argument_found (next i) a.0 a.1 a.2))
+  call_by_found i terms.ReachError is x j e = (let a = bind_ok (spec.empty_parens (next i)) _ x j e in given (IsCall levels) (calls.ReachError (place i)) x a.1 j i.tokens a.3 ((next i).tokens, is_next i terms.ReachError (λ h. cc) is, empty_parens_found (next i) a.0 a.1 a.2))
+  call_by_found i terms.Abort is x j e = (let a = bind_ok (spec.empty_parens (next i)) _ x j e in given (IsCall levels) (calls.Abort (place i)) x a.1 j i.tokens a.3 ((next i).tokens, is_next i terms.Abort (λ h. cc) is, empty_parens_found (next i) a.0 a.1 a.2))
+  call_by_found i terms.Exit is x j e = (let a = bind_ok (spec.exit_argument (next i)) _ x j e in given (IsCall levels) (calls.Exit (place i) a.0) x a.1 j i.tokens a.3 ((next i).tokens, is_next i terms.Exit (λ h. cc) is, exit_argument_found (next i) a.0 a.1 a.2))
+  call_by_found i terms.MutexLock is x j e = (let a = bind_ok (spec.lock_argument (next i)) _ x j e in given (IsCall levels) (calls.Lock (place i) a.0) x a.1 j i.tokens a.3 ((next i).tokens, is_next i terms.MutexLock (λ h. cc) is, lock_argument_found (next i) a.0 a.1 a.2))
+  call_by_found i terms.MutexUnlock is x j e = (let a = bind_ok (spec.lock_argument (next i)) _ x j e in given (IsCall levels) (calls.Unlock (place i) a.0) x a.1 j i.tokens a.3 ((next i).tokens, is_next i terms.MutexUnlock (λ h. cc) is, lock_argument_found (next i) a.0 a.1 a.2))
+  call_by_found i terms.MutexDestroy is x j e = (let a = bind_ok (spec.lock_argument (next i)) _ x j e in given (IsCall levels) (calls.Destroy (place i) a.0) x a.1 j i.tokens a.3 ((next i).tokens, is_next i terms.MutexDestroy (λ h. cc) is, lock_argument_found (next i) a.0 a.1 a.2))
   call_by_found i terms.MutexInit is x j e = init_found i is x j e
   call_by_found i terms.Create is x j e = create_found i is x j e
   call_by_found i terms.Join is x j e = join_found i is x j e
@@ -194,16 +194,16 @@ module _ (levels : ℕ) where
   -- ---- conditions and assignments
 
   right_by_found : (i : Input) (k : Term) (x : Right) (j : Input) → spec.right_by levels k i ≡ Ok (x, j) → IsRight levels x i.tokens j.tokens
-  right_by_found i terms.Nondet x j e = (let a = bind_ok (spec.nondet i) _ x j e in given (IsRight levels) (rights.Nondet a.0) x a.1 j i.tokens a.3 (nondet_found _ _ _ a.2))
-  right_by_found i _ x j e = (let a = bind_ok (expr_spec.expr levels i) _ x j e in given (IsRight levels) (rights.Expr a.0) x a.1 j i.tokens a.3 (expr_found levels _ _ _ a.2))
+  right_by_found i terms.Nondet x j e = (let a = bind_ok (spec.nondet i) _ x j e in given (IsRight levels) (rights.Nondet a.0) x a.1 j i.tokens a.3 (nondet_found i a.0 a.1 a.2))
+  right_by_found i _ x j e = (let a = bind_ok (expr_spec.expr levels i) _ x j e in given (IsRight levels) (rights.Expr a.0) x a.1 j i.tokens a.3 (expr_found levels i a.0 a.1 a.2))
 
   pub right_found : Finds (spec.right levels) (IsRight levels)
   unfolding spec.right
   right_found i x j e = right_by_found i (peek i) x j e
 
   cond_by_found : (i : Input) (k : Term) (x : Cond) (j : Input) → spec.cond_by levels k i ≡ Ok (x, j) → IsCond levels x i.tokens j.tokens
-  cond_by_found i terms.Nondet x j e = (let a = bind_ok (spec.nondet i) _ x j e in given (IsCond levels) (conds.Nondet a.0) x a.1 j i.tokens a.3 (nondet_found _ _ _ a.2))
-  cond_by_found i _ x j e = (let a = bind_ok (expr_spec.expr levels i) _ x j e in given (IsCond levels) (conds.Expr a.0) x a.1 j i.tokens a.3 (expr_found levels _ _ _ a.2))
+  cond_by_found i terms.Nondet x j e = (let a = bind_ok (spec.nondet i) _ x j e in given (IsCond levels) (conds.Nondet a.0) x a.1 j i.tokens a.3 (nondet_found i a.0 a.1 a.2))
+  cond_by_found i _ x j e = (let a = bind_ok (expr_spec.expr levels i) _ x j e in given (IsCond levels) (conds.Expr a.0) x a.1 j i.tokens a.3 (expr_found levels i a.0 a.1 a.2))
 
   pub cond_found : Finds (spec.cond levels) (IsCond levels)
   unfolding spec.cond
@@ -212,11 +212,11 @@ module _ (levels : ℕ) where
   -- behind a name, which stands at some tokens
   assigned_by_found : (x : Name) (ts : List Lexeme) (i : Input) → IsName x ts i.tokens → (k : Term) → peek i ≡ k → (y : Assign) (j : Input) → spec.assigned_by levels x k i ≡ Ok (y, j) → IsAssign levels y ts j.tokens
   assigned_by_found x ts i named terms.Assign is y j e =
-      (let a = bind_ok (spec.right levels (next i)) _ y j e in given (IsAssign levels) (assigns.Set x a.0) y a.1 j ts a.3 (i.tokens, named, ((next i).tokens, (place i, is_next i terms.Assign (λ h. cc) is), right_found _ _ _ a.2)))
+      (let a = bind_ok (spec.right levels (next i)) _ y j e in given (IsAssign levels) (assigns.Set x a.0) y a.1 j ts a.3 (i.tokens, named, ((next i).tokens, (place i, is_next i terms.Assign (λ h. cc) is), right_found (next i) a.0 a.1 a.2)))
   assigned_by_found x ts i named terms.AddTo is y j e =
-      (let a = bind_ok (expr_spec.expr levels (next i)) _ y j e in given (IsAssign levels) (assigns.Add x a.0) y a.1 j ts a.3 (i.tokens, named, ((next i).tokens, (place i, is_next i terms.AddTo (λ h. cc) is), expr_found levels _ _ _ a.2)))
+      (let a = bind_ok (expr_spec.expr levels (next i)) _ y j e in given (IsAssign levels) (assigns.Add x a.0) y a.1 j ts a.3 (i.tokens, named, ((next i).tokens, (place i, is_next i terms.AddTo (λ h. cc) is), expr_found levels (next i) a.0 a.1 a.2)))
   assigned_by_found x ts i named terms.SubtractFrom is y j e =
-      (let a = bind_ok (expr_spec.expr levels (next i)) _ y j e in given (IsAssign levels) (assigns.Subtract x a.0) y a.1 j ts a.3 (i.tokens, named, ((next i).tokens, (place i, is_next i terms.SubtractFrom (λ h. cc) is), expr_found levels _ _ _ a.2)))
+      (let a = bind_ok (expr_spec.expr levels (next i)) _ y j e in given (IsAssign levels) (assigns.Subtract x a.0) y a.1 j ts a.3 (i.tokens, named, ((next i).tokens, (place i, is_next i terms.SubtractFrom (λ h. cc) is), expr_found levels (next i) a.0 a.1 a.2)))
   assigned_by_found x ts i named terms.Increment is y j e = given (IsAssign levels) (assigns.Increment x) y (next i) j ts e (i.tokens, named, (place i, is_next i terms.Increment (λ h. cc) is))
   assigned_by_found x ts i named terms.Decrement is y j e = given (IsAssign levels) (assigns.Decrement x) y (next i) j ts e (i.tokens, named, (place i, is_next i terms.Decrement (λ h. cc) is))
   assigned_by_found x ts i named _ is y j e = absurd (not_err (refusal i) y j e)
@@ -225,12 +225,12 @@ module _ (levels : ℕ) where
   unfolding spec.assigned
   assigned_found i y j e =
       let a = bind_ok (expr_spec.name i) _ y j e in
-      assigned_by_found a.0 i.tokens a.1 (name_found _ _ _ a.2) (peek a.1) refl y j a.3
+      assigned_by_found a.0 i.tokens a.1 (name_found i a.0 a.1 a.2) (peek a.1) refl y j a.3
 
   assign_by_found : (i : Input) (k : Term) → peek i ≡ k → (x : Assign) (j : Input) → spec.assign_by levels k i ≡ Ok (x, j) → IsAssign levels x i.tokens j.tokens
   assign_by_found i terms.Name is x j e = assigned_found i x j e
-  assign_by_found i terms.Increment is x j e = (let a = bind_ok (expr_spec.name (next i)) _ x j e in given (IsAssign levels) (assigns.IncrementFirst (place i) a.0) x a.1 j i.tokens a.3 ((next i).tokens, is_next i terms.Increment (λ h. cc) is, name_found _ _ _ a.2))
-  assign_by_found i terms.Decrement is x j e = (let a = bind_ok (expr_spec.name (next i)) _ x j e in given (IsAssign levels) (assigns.DecrementFirst (place i) a.0) x a.1 j i.tokens a.3 ((next i).tokens, is_next i terms.Decrement (λ h. cc) is, name_found _ _ _ a.2))
+  assign_by_found i terms.Increment is x j e = (let a = bind_ok (expr_spec.name (next i)) _ x j e in given (IsAssign levels) (assigns.IncrementFirst (place i) a.0) x a.1 j i.tokens a.3 ((next i).tokens, is_next i terms.Increment (λ h. cc) is, name_found (next i) a.0 a.1 a.2))
+  assign_by_found i terms.Decrement is x j e = (let a = bind_ok (expr_spec.name (next i)) _ x j e in given (IsAssign levels) (assigns.DecrementFirst (place i) a.0) x a.1 j i.tokens a.3 ((next i).tokens, is_next i terms.Decrement (λ h. cc) is, name_found (next i) a.0 a.1 a.2))
   assign_by_found i _ is x j e = absurd (not_err (refusal i) x j e)
 
   pub assign_found : Finds (spec.assign levels) (IsAssign levels)

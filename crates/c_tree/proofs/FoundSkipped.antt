@@ -72,4 +72,4 @@ pub skipped_parens_found : (i : Input) (x : Unit {0}) (j : Input) → spec.skipp
 unfolding spec.skipped_parens
 skipped_parens_found i x j e =
     let a = bind_ok (expect terms.LeftParen i) _ x j e in
-    (a.1.tokens, open_found _ _ _ a.2, skip_through_found terms.RightParen a.1 x j a.3)
+    (a.1.tokens, open_found i a.0 a.1 a.2, skip_through_found terms.RightParen a.1 x j a.3)

@@ -2,14 +2,16 @@
 use Rattle.std.proofs.Common.{◌≡◌, ℕ, ◌+◌, ◌≤◌, List, [], ◌++◌, length, Result, Ok, Err, refl, sym, ap, ◌∙◌, arith}
 use Rattle.std.proofs.Math.Logic.{◌⊎◌, inl, inr}
 use Rattle.thr_base.specs.declared.stops.Refusal.{Refusal}
-use Rattle.c_lex.specs.Tokens.{Lexeme, lexed}
+use Rattle.thr_base.specs.declared.stops.Stop.{Stop}
+use Rattle.thr_base.specs.declared.stops.Stop.TheVariants.{Refused, Memory}
+use Rattle.c_lex.specs.Tokens.{Lexeme, lexed, Gives, Stops}
 use Rattle.c_tree.specs.declared.item.Tree.{Tree}
 use Rattle.c_tree.specs.declared.term.Term.{Term}
 use Rattle.c_tree.specs.declared.term.Term.TheVariants as terms
 use Rattle.c_tree.specs.Input.{Input, Outcome, peek, refusal_code, too_many, refusal, too_deep}
 use Rattle.c_tree.specs.GrammarItem.{IsTreeWithin}
 use Rattle.c_tree.specs.Item as spec
-use Rattle.c_tree.specs.Refused.{SameNext, NoTreeGoesOn, IsSaidOf, IsRefusedWith}
+use Rattle.c_tree.specs.Refused.{SameNext, NoTreeGoesOn, IsSaidOf, IsRefusedWith, IsRefusedBy}
 use Rattle.c_tree.proofs.Again.{at}
 use Rattle.c_tree.proofs.Trees.{tree_again}
 use Rattle.c_tree.proofs.NextToken.{Says}
@@ -73,3 +75,18 @@ value_refused {A} (Err c) d e = (let same : c ≡ d = cc in ap (λ (z : Refusal)
 pub parsed_refused : (text : List ℕ) (tokens : List Lexeme) (d : Refusal) → lexed text ≡ Ok tokens → spec.parsed text ≡ Err d → IsRefusedWith (length text) tokens d
 parsed_refused text tokens d lexes e =
     tree_refused (length text) tokens d (value_refused (spec.tree spec.max_levels (at tokens (length text))) d (ap (spec.tree_of (length text)) (sym lexes) ∙ e))
+
+-- ---- in the words of the code
+
+no_tokens : {A B : Type 0} (r : Result A Refusal) (d : Refusal) (x : A) → r ≡ Err d → r ≡ Ok x → B
+no_tokens {A} r d x refused given = absurd (let differs : ◌≡◌ {A = Result A Refusal} (Err d) (Ok x) = sym refused ∙ given in cc)
+
+pub lexing_stopped : (text : List ℕ) (stop : Stop) → Stops stop (lexed text) → IsRefusedBy text (Err stop)
+lexing_stopped text Memory stops = tt
+lexing_stopped text (Refused d) stops = λ tokens lexes. no_tokens (lexed text) d tokens stops lexes
+
+pub refusal_given : (text : List ℕ) (tokens ts : List Lexeme) (result : Result Tree Stop) → lexed text ≡ Ok tokens → ts ≡ tokens → Gives (λ t. t) result (spec.value_of (spec.tree spec.max_levels (at ts (length text)))) → IsRefusedBy text result
+refusal_given text tokens ts (Ok t) lexes same gives = tt
+refusal_given text tokens ts (Err Memory) lexes same gives = tt
+refusal_given text tokens ts (Err (Refused d)) lexes same gives =
+    λ all given. parsed_refused text all d given (ap (spec.tree_of (length text)) (lexes ∙ ap (λ (l : List Lexeme). Ok l) (sym same)) ∙ gives)

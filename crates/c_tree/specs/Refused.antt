@@ -1,7 +1,9 @@
 -- Where a text is refused: its tokens up to there, and the one that stands there, begin no text of the grammar.
-use Rattle.std.specs.Prelude.{◌≡◌, ◌⊎◌, ℕ, List, [], ◌∷◌, ◌++◌}
+use Rattle.std.specs.Prelude.{◌≡◌, ◌⊎◌, ℕ, List, [], ◌∷◌, ◌++◌, length, Result, Ok, Err}
 use Rattle.thr_base.specs.declared.stops.Refusal.{Refusal}
-use Rattle.c_lex.specs.Tokens.{Lexeme}
+use Rattle.thr_base.specs.declared.stops.Stop.{Stop}
+use Rattle.thr_base.specs.declared.stops.Stop.TheVariants.{Refused, Memory}
+use Rattle.c_lex.specs.Tokens.{Lexeme, lexed}
 use Rattle.c_tree.specs.declared.item.Tree.{Tree}
 use Rattle.c_tree.specs.Input.{refusal, too_deep}
 use Rattle.c_tree.specs.Item.{max_levels}
@@ -29,3 +31,9 @@ IsSaidOf end d front rest =
 -- The tokens of a text of so many bytes are refused at one of them, or at their end.
 abbrev pub IsRefusedWith : ℕ → List Lexeme → Refusal → Type 0
 IsRefusedWith end tokens d = (front : List Lexeme) × (rest : List Lexeme) × (tokens ≡ front ++ rest) × IsSaidOf end d front rest
+
+-- The text has no tokens, or they are refused so, where an answer refuses it.
+abbrev pub IsRefusedBy : List ℕ → Result Tree Stop → Type 0
+IsRefusedBy text (Ok tree) = Unit {0}
+IsRefusedBy text (Err Memory) = Unit {0}
+IsRefusedBy text (Err (Refused d)) = (tokens : List Lexeme) → lexed text ≡ Ok tokens → IsRefusedWith (length text) tokens d

@@ -4,6 +4,7 @@ ghost use Rattle.std.specs.Prelude.{◌≤◌, length, IfOk};
 ghost use Rattle.c_lex.specs.Tokens.{views, Gives};
 ghost use Rattle.c_tree.specs.GrammarItem.{IsTreeOf};
 ghost use Rattle.c_tree.specs.Item.{max_levels, parsed, tree, value_of};
+ghost use Rattle.c_tree.specs.Refused.{IsRefusedBy};
 
 use crate::item::Tree;
 use crate::items;
@@ -26,6 +27,7 @@ pub fn parse(alloc: Global, text: &str) -> Result<Tree, Stop>
     requires { length text.now ≤ TEXT_LIMIT }
     ensures exact { Gives (λ t. t) result (parsed text.now) }
     ensures tree { IfOk result (λ t. IsTreeOf text.now t) }
+    ensures refused { IsRefusedBy text.now result }
 {
     let end = text.len() as u32;
     match lex(alloc, text) {
