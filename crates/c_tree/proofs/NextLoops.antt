@@ -77,15 +77,15 @@ module _ {M A : Type 0} (mark : Term → ℕ → Option M) (item : Parser A) (no
   more_if_at n others end ts le (Some m) is =
       let fewer = marked_shorter mark none (at ts end) m is in
       bind_at take_token _ end ts (take_local end ts) (λ from r e. (let one = taken_there end ts r from e in
-          bind_at item _ end r (local end r) (λ x s f. (let two = shrinks _ _ _ f in
-              bind_at (more_of mark item) _ end s (others end s (omega arith)) (λ xs t g. pure_local ((m, x) ∷ xs) end t)))))
+      bind_at item _ end r (local end r) (λ x s f. (let two = shrinks _ _ _ f in
+      bind_at (more_of mark item) _ end s (others end s (omega arith)) (λ xs t g. pure_local ((m, x) ∷ xs) end t)))))
 
   more_at : (n end : ℕ) (ts : List Lexeme) → length ts < n → LocalAt (more_of mark item) end ts
   more_at zero end ts lt = absurd (omega arith)
   more_at (suc n) end ts lt =
       same_at (more_of mark item) (seeing (mark_at mark) >>= more_if) (λ i. more_same_by i (mark_at mark i) refl) end ts
       (bind_at (seeing (mark_at mark)) more_if end ts (seeing_local (mark_at mark) (views_mark mark) end ts)
-       (λ o r e. (let there = seen_there (mark_at mark) end ts r o e in more_if_at n (more_at n) end r (omega arith) o there.0)))
+      (λ o r e. (let there = seen_there (mark_at mark) end ts r o e in more_if_at n (more_at n) end r (omega arith) o there.0)))
 
   pub more_local : Local (more_of mark item)
   more_local end ts = more_at (suc (length ts)) end ts (omega arith)
@@ -130,7 +130,7 @@ module _ {A : Type 0} (last : Term) (item : Parser A) (shrinks : Shrinks item) (
   many_at (suc n) end ts lt =
       same_at (many last item) (seeing (sees last) >>= many_if) many_same end ts
       (bind_at (seeing (sees last)) many_if end ts (seeing_local (sees last) (views_sees last) end ts)
-       (λ b r e. (let there = seen_there (sees last) end ts r b e in many_if_at n (many_at n) end r (omega arith) b)))
+      (λ b r e. (let there = seen_there (sees last) end ts r b e in many_if_at n (many_at n) end r (omega arith) b)))
 
   pub many_local : Local (many last item)
   many_local end ts = many_at (suc (length ts)) end ts (omega arith)
@@ -179,14 +179,14 @@ quals_if_at n others end ts le None is = pure_local [] end ts
 quals_if_at n others end ts le (Some q) is =
     let fewer = marked_shorter qual_mark no_qual_at_end (at ts end) q is in
     bind_at take_token _ end ts (take_local end ts) (λ from r e. (let one = taken_there end ts r from e in
-        bind_at quals _ end r (others end r (omega arith)) (λ qs t g. pure_local (q ∷ qs) end t)))
+    bind_at quals _ end r (others end r (omega arith)) (λ qs t g. pure_local (q ∷ qs) end t)))
 
 quals_at : (n end : ℕ) (ts : List Lexeme) → length ts < n → LocalAt quals end ts
 quals_at zero end ts lt = absurd (omega arith)
 quals_at (suc n) end ts lt =
     same_at quals (seeing (mark_at qual_mark) >>= quals_if) (λ i. quals_same_by i (mark_at qual_mark i) refl) end ts
     (bind_at (seeing (mark_at qual_mark)) quals_if end ts (seeing_local (mark_at qual_mark) (views_mark qual_mark) end ts)
-     (λ o r e. (let there = seen_there (mark_at qual_mark) end ts r o e in quals_if_at n (quals_at n) end r (omega arith) o there.0)))
+    (λ o r e. (let there = seen_there (mark_at qual_mark) end ts r o e in quals_if_at n (quals_at n) end r (omega arith) o there.0)))
 
 pub quals_local : Local quals
 quals_local end ts = quals_at (suc (length ts)) end ts (omega arith)
@@ -249,7 +249,7 @@ skip_at zero (top ∷ ends) end ts lt = absurd (omega arith)
 skip_at (suc n) (top ∷ ends) end ts lt =
     same_at (skip_all (top ∷ ends)) (seeing (opens top ends) >>= skip_if) (λ i. skip_same_by top ends i (open_after (peek i) (top ∷ ends)) refl) end ts
     (bind_at (seeing (opens top ends)) skip_if end ts (seeing_local (opens top ends) (views_opens top ends) end ts)
-     (λ o r e. (let there = seen_there (opens top ends) end ts r o e in skip_if_at n (skip_at n) top ends end r (omega arith) o there.0)))
+    (λ o r e. (let there = seen_there (opens top ends) end ts r o e in skip_if_at n (skip_at n) top ends end r (omega arith) o there.0)))
 
 pub skip_through_local : (close : Term) → Local (skip_through close)
 unfolding skip_through skip_all

@@ -122,10 +122,14 @@ module _ {A B : Type 0} (p : Parser A) (f : A → Parser B) (end : ℕ) (ts : Li
   bind_keeps y j e =
       let a = bind_ok (p (at ts end)) f y j e in
       let one = first.keeps a.0 a.1 a.2 in
-      let two = (second a.0 one.1 (a.2 ∙ ap (λ (k : Input). Ok (a.0, k)) one.3)).keeps y j (ap (f a.0) (sym one.3) ∙ a.3) in
-      (one.0 ++ two.0, two.1, one.2 ∙ ap (λ (l : List Lexeme). one.0 ++ l) two.2 ∙ sym (append_assoc one.0 two.0 two.1), two.3,
-       λ us next. (let same : SameNext one.1 (two.0 ++ us) = subst (λ (l : List Lexeme). SameNext l (two.0 ++ us)) (sym two.2) (next_behind two.0 two.1 us next) in
-                   rw (append_assoc one.0 two.0 us, one.4 (two.0 ++ us) same) (two.4 us next)))
+      let two = (second a.0 one.1 (a.2 ∙ ap (λ (k : Input). Ok (a.0, k)) one.3)).keeps y j (ap (f a.0) (sym one.3) ∙ a.3) in (
+        one.0 ++ two.0,
+        two.1,
+        one.2 ∙ ap (λ (l : List Lexeme). one.0 ++ l) two.2 ∙ sym (append_assoc one.0 two.0 two.1),
+        two.3,
+        λ us next. (let same : SameNext one.1 (two.0 ++ us) = subst (λ (l : List Lexeme). SameNext l (two.0 ++ us)) (sym two.2) (next_behind two.0 two.1 us next) in
+            rw (append_assoc one.0 two.0 us, one.4 (two.0 ++ us) same) (two.4 us next)),
+      )
 
   bind_stops : (d : Refusal) → (p >>= f) (at ts end) ≡ Err d
       → (front : List Lexeme) × (rest : List Lexeme) × (ts ≡ front ++ rest) × Says d end rest × ((us : List Lexeme) → SameNext rest us → (p >>= f) (at (front ++ us) end) ≡ Err d)
@@ -136,10 +140,14 @@ module _ {A B : Type 0} (p : Parser A) (f : A → Parser B) (end : ℕ) (ts : Li
       go (inl refused) = (let one = first.stops d refused in (one.0, one.1, one.2, one.3, λ us next. rw (one.4 us next) refl))
       go (inr a) =
           let one = first.keeps a.0 a.1 a.2 in
-          let two = (second a.0 one.1 (a.2 ∙ ap (λ (k : Input). Ok (a.0, k)) one.3)).stops d (ap (f a.0) (sym one.3) ∙ a.3) in
-          (one.0 ++ two.0, two.1, one.2 ∙ ap (λ (l : List Lexeme). one.0 ++ l) two.2 ∙ sym (append_assoc one.0 two.0 two.1), two.3,
-           λ us next. (let same : SameNext one.1 (two.0 ++ us) = subst (λ (l : List Lexeme). SameNext l (two.0 ++ us)) (sym two.2) (next_behind two.0 two.1 us next) in
-                       rw (append_assoc one.0 two.0 us, one.4 (two.0 ++ us) same) (two.4 us next)))
+          let two = (second a.0 one.1 (a.2 ∙ ap (λ (k : Input). Ok (a.0, k)) one.3)).stops d (ap (f a.0) (sym one.3) ∙ a.3) in (
+            one.0 ++ two.0,
+            two.1,
+            one.2 ∙ ap (λ (l : List Lexeme). one.0 ++ l) two.2 ∙ sym (append_assoc one.0 two.0 two.1),
+            two.3,
+            λ us next. (let same : SameNext one.1 (two.0 ++ us) = subst (λ (l : List Lexeme). SameNext l (two.0 ++ us)) (sym two.2) (next_behind two.0 two.1 us next) in
+                rw (append_assoc one.0 two.0 us, one.4 (two.0 ++ us) same) (two.4 us next)),
+          )
 
   pub bind_at : LocalAt (p >>= f) end ts
   bind_at = record { keeps = bind_keeps; stops = bind_stops }
@@ -193,6 +201,7 @@ expect_local k = same_local (expect k) (seeing (sees k) >>= expect_if) (λ i. go
     go : (i : Input) (b : Bool) → cond {A = Outcome ℕ} b (Ok (place i, next i)) (Err (refusal i)) ≡ expect_if b i
     go i true = refl
     go i false = refl
+
     by : (b : Bool) → Local (expect_if b)
     by true = take_local
     by false = refuse_local
@@ -208,6 +217,7 @@ eat_local k = same_local (eat k) (seeing (sees k) >>= eat_if) (λ i. go i (sees 
     go : (i : Input) (b : Bool) → ◌≡◌ {A = Outcome Bool} (Ok (b, cond b (next i) i)) (eat_if b i)
     go i true = refl
     go i false = refl
+
     by : (b : Bool) → Local (eat_if b)
     by true = bind_local take_token _ take_local (λ from. pure_local true)
     by false = pure_local false

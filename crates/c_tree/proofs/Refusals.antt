@@ -64,6 +64,7 @@ module _ (end : ℕ) (ts : List Lexeme) (d : Refusal) (e : spec.tree spec.max_le
     where
       at_it : (front : List Lexeme) × (rest : List Lexeme) × (ts ≡ front ++ rest) × Says d end rest × ((us : List Lexeme) → SameNext rest us → spec.tree spec.max_levels (at (front ++ us) end) ≡ Err d)
       at_it = (tree_local spec.max_levels end ts).stops d e
+
       said : Says d end at_it.1 → IsSaidOf end d at_it.0 at_it.1
       said (inl same) = inl (same, no_tree_within at_it.0 at_it.1 at_it.4 (λ j deep. not_deep (at at_it.1 end) j (sym same ∙ deep)))
       said (inr same) = inr (same, no_tree at_it.0 at_it.1 at_it.4)
