@@ -1,5 +1,5 @@
 -- Functions and prototypes that stand in the text are read.
-use Rattle.std.proofs.Common.{◌≡◌, ℕ, Bool, true, false, List, Option, Some, None, Ok, refl, sym, ap, subst, ◌∙◌}
+use Rattle.std.proofs.Common.{◌≡◌, ℕ, false, List, Option, Some, None, Ok, refl, ap, ◌∙◌}
 use Rattle.std.proofs.Math.Logic.{inl, inr}
 use Rattle.c_lex.specs.Tokens.{Lexeme}
 use Rattle.c_tree.specs.declared.term.Term.{Term}
@@ -11,7 +11,7 @@ use Rattle.c_tree.specs.Input.{Parser, ◌>>=◌, pure, peek, sees, after, term_
 use Rattle.c_tree.specs.Stmt as stmt_spec
 use Rattle.c_tree.specs.Item as spec
 use Rattle.c_tree.specs.Grammar.{Is, Stands}
-use Rattle.c_tree.specs.Sequence.{Part, ◌then◌, InParens}
+use Rattle.c_tree.specs.Sequence.{◌then◌, InParens}
 use Rattle.c_tree.specs.GrammarStmt.{IsStmt}
 use Rattle.c_tree.specs.GrammarItem.{IfAny, IsSkipped, IsProto, IsErrfn, IsBody, IsMainfn, IsParameter, IsThreadBody, IsThreadfn}
 use Rattle.c_tree.proofs.StmtSizes.{stmt_shrinks}
@@ -19,7 +19,7 @@ use Rattle.c_tree.proofs.Again.{at, is_peek, is_place, is_behind, is_term, name_
 use Rattle.c_tree.proofs.AgainParts.{Always, stands_term, stands_again, is_eaten, behind_eaten, not_seen, not_behind}
 use Rattle.c_tree.proofs.AgainStmt.{block_again, stmt_again}
 use Rattle.c_tree.proofs.AgainSkipped.{skip_through_again, skipped_parens_again}
-use Rattle.c_tree.proofs.Leads.{impossible, stmt_begins}
+use Rattle.c_tree.proofs.Leads.{stmt_begins}
 
 -- ---- another token
 

@@ -8,7 +8,7 @@ use Rattle.c_tree.specs.Term.{same_term}
 use Rattle.c_tree.specs.Input.{sees, after, term_at}
 use Rattle.c_tree.specs.Item as spec
 use Rattle.c_tree.specs.Grammar.{Stands}
-use Rattle.c_tree.specs.Sequence.{Part, ◌then◌, Perhaps}
+use Rattle.c_tree.specs.Sequence.{◌then◌, Perhaps}
 use Rattle.c_tree.specs.GrammarItem.{IsSign, IsNumber, IsStart, IsGname, IsGlobals, IsStarted, IsMname, IsLocks}
 use Rattle.c_tree.proofs.ItemSizes.{gname_shrinks, mname_shrinks}
 use Rattle.c_tree.proofs.Again.{at, is_term, starts_place, expect_again, name_again, number_again}

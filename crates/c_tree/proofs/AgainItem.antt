@@ -1,5 +1,5 @@
 -- An item that stands in the text is read.
-use Rattle.std.proofs.Common.{◌≡◌, ℕ, Bool, true, false, List, [], ◌∷◌, None, Ok, refl, sym, ap, ◌∙◌}
+use Rattle.std.proofs.Common.{◌≡◌, ℕ, true, false, List, [], ◌∷◌, Ok, refl, ap, ◌∙◌}
 use Rattle.c_lex.specs.Tokens.{Lexeme}
 use Rattle.c_tree.specs.declared.term.Term.{Term}
 use Rattle.c_tree.specs.declared.term.Term.TheVariants as terms
@@ -11,21 +11,20 @@ use Rattle.c_tree.specs.declared.simple.Itype.TheVariants as itypes
 use Rattle.c_tree.specs.declared.item.Proto.{Proto}
 use Rattle.c_tree.specs.declared.item.Typed.{Typed}
 use Rattle.c_tree.specs.declared.item.Typed.TheVariants as typeds
-use Rattle.c_tree.specs.declared.item.Untyped.{Untyped}
 use Rattle.c_tree.specs.declared.item.Untyped.TheVariants as untypeds
 use Rattle.c_tree.specs.declared.item.Body.{Body}
 use Rattle.c_tree.specs.declared.item.Body.TheVariants as bodies
 use Rattle.c_tree.specs.declared.item.Item.{Item}
 use Rattle.c_tree.specs.Term.{same_term}
-use Rattle.c_tree.specs.Input.{Parser, ◌>>=◌, pure, peek, sees, term_at}
+use Rattle.c_tree.specs.Input.{◌>>=◌, pure, peek, sees, term_at}
 use Rattle.c_tree.specs.Simple.{qual_mark}
 use Rattle.c_tree.specs.Item as spec
 use Rattle.c_tree.specs.Grammar.{Is, Stands}
-use Rattle.c_tree.specs.Sequence.{Part, ◌then◌, AreAll, InParens}
+use Rattle.c_tree.specs.Sequence.{AreAll, InParens}
 use Rattle.c_tree.specs.GrammarSimple.{qual_term, IsQual, IsItype}
-use Rattle.c_tree.specs.GrammarItem.{IsSkipped, IsTyped, IsUntyped, IsProto, IsItemBody, IsItem}
-use Rattle.c_tree.proofs.Again.{at, is_peek, is_place, is_behind, is_term, starts_place}
-use Rattle.c_tree.proofs.AgainParts.{Always, stands_term, not_seen}
+use Rattle.c_tree.specs.GrammarItem.{IsSkipped, IsTyped, IsUntyped, IsItemBody, IsItem}
+use Rattle.c_tree.proofs.Again.{at, is_place, is_behind, is_term, starts_place}
+use Rattle.c_tree.proofs.AgainParts.{Always, not_seen}
 use Rattle.c_tree.proofs.AgainLocal.{NoQual, quals_again, itype_again, itype_no_qual, handles_again}
 use Rattle.c_tree.proofs.AgainGlobals.{globals_again, locks_again}
 use Rattle.c_tree.proofs.AgainFunctions.{profile_proto_again, errfn_again, error_proto_again, main_again, thread_again}

@@ -1,13 +1,13 @@
 -- Tokens with balanced brackets are skipped.
-use Rattle.std.proofs.Common.{◌≡◌, ℕ, zero, suc, ◌≤◌, Bool, true, false, List, [], ◌∷◌, length, Option, Some, None, Ok, refl, sym, ap, ◌∙◌, arith}
+use Rattle.std.proofs.Common.{◌≡◌, ℕ, zero, suc, ◌≤◌, true, List, [], ◌∷◌, length, Some, Ok, refl, ap, ◌∙◌, arith}
 use Rattle.c_lex.specs.Tokens.{Lexeme}
 use Rattle.c_tree.specs.declared.term.Term.{Term}
 use Rattle.c_tree.specs.declared.term.Term.TheVariants as terms
 use Rattle.c_tree.specs.Term.{same_term}
-use Rattle.c_tree.specs.Input.{Input, Outcome, peek, next, expect}
+use Rattle.c_tree.specs.Input.{Input, Outcome}
 use Rattle.c_tree.specs.Item as spec
 use Rattle.c_tree.specs.Grammar.{Is, Stands}
-use Rattle.c_tree.specs.Sequence.{Part, ◌then◌, InParens}
+use Rattle.c_tree.specs.Sequence.{◌then◌, InParens}
 use Rattle.c_tree.specs.GrammarItem.{Nesting, is_plain, IsNesting, IsSkipped}
 use Rattle.c_tree.proofs.Again.{at, is_peek, is_behind, is_longer}
 use Rattle.c_tree.proofs.AgainParts.{stands_again}

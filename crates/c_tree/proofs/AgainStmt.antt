@@ -1,6 +1,5 @@
 -- A statement that stands in the text is read.
-use Rattle.std.proofs.Common.{◌≡◌, ℕ, zero, suc, rules, Bool, true, false, List, [], ◌∷◌, Option, Some, None, Ok, refl, sym, ap, subst, ◌∙◌}
-use Rattle.std.proofs.lemmas.Bool.{false≢true}
+use Rattle.std.proofs.Common.{◌≡◌, ℕ, zero, suc, rules, Bool, true, false, List, Option, Some, None, Ok, refl, sym, ap, ◌∙◌}
 use Rattle.c_lex.specs.Tokens.{Lexeme}
 use Rattle.c_tree.specs.declared.term.Term.{Term}
 use Rattle.c_tree.specs.declared.term.Term.TheVariants as terms
@@ -9,7 +8,7 @@ use Rattle.c_tree.specs.declared.simple.Cond.{Cond}
 use Rattle.c_tree.specs.declared.simple.Nil.{Nil}
 use Rattle.c_tree.specs.declared.stmt.Around.{Around}
 use Rattle.c_tree.specs.declared.stmt.Around.TheVariants as arounds
-use Rattle.c_tree.specs.declared.stmt.Block.{Block, roll-Block, out-Block, roll-out-Block}
+use Rattle.c_tree.specs.declared.stmt.Block.{Block, out-Block, roll-out-Block}
 use Rattle.c_tree.specs.declared.stmt.First.{First}
 use Rattle.c_tree.specs.declared.stmt.First.TheVariants as firsts
 use Rattle.c_tree.specs.declared.stmt.Stmt.{Stmt, out-Stmt, roll-Stmt, roll-out-Stmt}
@@ -18,18 +17,15 @@ use Rattle.c_tree.specs.declared.stmt.Stmt.TheOpen.{Stmt-F}
 use denote.Enum.Bare.{same_true}
 use Rattle.c_tree.specs.contracts.term.Term.{the_type}
 use Rattle.c_tree.specs.Term.{same_term}
-use Rattle.c_tree.specs.Input.{Input, Outcome, Parser, peek, sees, after, expect, term_at}
-use Rattle.c_tree.specs.Many.{many}
-use Rattle.c_tree.specs.Simple as simple_spec
+use Rattle.c_tree.specs.Input.{Input, Outcome, Parser, peek, sees, after, term_at}
 use Rattle.c_tree.specs.Stmt as spec
-use Rattle.c_tree.specs.Grammar.{Is, Stands}
-use Rattle.c_tree.specs.Sequence.{Part, ◌then◌, Perhaps, AreAll, InParens}
+use Rattle.c_tree.specs.Sequence.{Part, Perhaps, InParens}
 use Rattle.c_tree.specs.GrammarSimple.{IsNil, IsCond, IsAssign}
 use Rattle.c_tree.specs.GrammarStmt.{IsWordEnd, IsElse, IsFirst, IsBlock, IsLayer, IsStmt}
 use Rattle.c_tree.proofs.Shrinks.{Shrinks}
 use Rattle.c_tree.proofs.StmtSizes.{stmt_shrinks}
-use Rattle.c_tree.proofs.Again.{at, is_peek, is_place, is_behind, is_term, is_seen, expect_again, same_self}
-use Rattle.c_tree.proofs.AgainParts.{Always, Closed, closes, closed, stands_term, stands_again, is_eaten, behind_eaten, not_seen, not_behind, empty_parens_again, many_again}
+use Rattle.c_tree.proofs.Again.{at, is_peek, is_place, is_behind, is_term, expect_again, same_self}
+use Rattle.c_tree.proofs.AgainParts.{Always, closes, closed, stands_term, stands_again, is_eaten, behind_eaten, not_seen, not_behind, empty_parens_again, many_again}
 use Rattle.c_tree.proofs.AgainSimple.{nil_again, cond_again, assign_again, call_again}
 use Rattle.c_tree.proofs.AgainLocal.{local_again, handles_again}
 use Rattle.c_tree.proofs.Leads.{impossible, declares, sets, called, local_declares, assign_sets, call_called, cond_no_semicolon, nil_no_semicolon, assign_no_paren, begins_no_brace, begins_no_end, stmt_begins}
@@ -83,12 +79,12 @@ module _ (levels : ℕ) where
   first_by_assign terms.Decrement so = refl
   first_by_assign _ so = impossible so
 
-  first_again : (Inner : Around → Stmt → Part) → Always (spec.first_part levels) (IsFirst levels Inner)
+  first_again : Always (spec.first_part levels) (IsFirst levels)
   unfolding spec.first_part spec.first_local spec.first_assign peek
-  first_again Inner end (firsts.Local l) ts rest is = rw (first_by_local (term_at ts) (local_declares levels l ts rest is), local_again levels end l ts rest is) refl
-  first_again Inner end (firsts.Assign a) ts rest is =
+  first_again end (firsts.Local l) ts rest is = rw (first_by_local (term_at ts) (local_declares levels l ts rest is), local_again levels end l ts rest is) refl
+  first_again end (firsts.Assign a) ts rest is =
       rw (first_by_assign (term_at ts) (assign_sets levels a ts is.0 is.1), assign_again levels end a ts is.0 is.1 (closed terms.Semicolon refl is.0 rest is.2), stands_again terms.Semicolon end is.0 rest is.2) refl
-  first_again Inner end (firsts.Empty from) ts rest is = rw (is_term terms.Semicolon from ts rest is, is_place terms.Semicolon from end ts rest is, is_behind terms.Semicolon from end ts rest is) refl
+  first_again end (firsts.Empty from) ts rest is = rw (is_term terms.Semicolon from ts rest is, is_place terms.Semicolon from end ts rest is, is_behind terms.Semicolon from end ts rest is) refl
 
 -- the statement that a layer makes
 gives : (s made : Stmt) (layer : Stmt-F Stmt Block) (r : Outcome Stmt) (rest : Input) → out-Stmt s ≡ layer → made ≡ roll-Stmt layer → r ≡ Ok (made, rest) → r ≡ Ok (s, rest)
@@ -184,7 +180,7 @@ module _ (levels : ℕ) (inner : Around → Parser Stmt) (Inner : Around → Stm
         is_place terms.For from end ts is.0 is.1,
         is_behind terms.For from end ts is.0 is.1,
         stands_again terms.LeftParen end is.0 parens.0 parens.1,
-        first_again levels Inner end first parens.0 one.0 one.1,
+        first_again levels end first parens.0 one.0 one.1,
         middle_again levels end c one.0 two.0 two.1 ends,
         stands_again terms.Semicolon end two.0 three.0 three.1,
         last_again levels end last three.0 parens.2.0 three.2 shuts,

@@ -1,5 +1,5 @@
 -- With more levels all that is read or refused stays so, but for what is a level too many.
-use Rattle.std.proofs.Common.{◌≡◌, ℕ, zero, suc, ◌≤◌, Bool, true, false, List, [], ◌∷◌, length, Option, Some, None, Ok, Err, refl, sym, ap, ◌∙◌, arith}
+use Rattle.std.proofs.Common.{◌≡◌, ℕ, zero, suc, ◌≤◌, Bool, true, false, [], ◌∷◌, length, Option, Some, None, Ok, Err, refl, ap, ◌∙◌, arith}
 use Rattle.std.proofs.Math.Logic.{◌⊎◌, inl, inr}
 use Rattle.c_tree.specs.declared.term.Term.{Term}
 use Rattle.c_tree.specs.declared.term.Term.TheVariants as terms
@@ -13,7 +13,7 @@ use Rattle.c_tree.specs.declared.expr.Product.{roll-Product}
 use Rattle.c_tree.specs.declared.expr.Unary.TheVariants as unaries
 use Rattle.c_tree.specs.declared.expr.UnaryKind.{UnaryKind}
 use Rattle.c_tree.specs.declared.expr.UnaryKind.TheVariants as signs
-use Rattle.c_tree.specs.Input.{Input, Outcome, Parser, and_then, ◌>>=◌, ◌>>◌, pure, refuse, refuse_deep, look, here, take_token, eat, expect, peek, sees, too_deep}
+use Rattle.c_tree.specs.Input.{Input, Outcome, Parser, and_then, ◌>>=◌, pure, refuse, refuse_deep, look, here, take_token, expect, sees, too_deep}
 use Rattle.c_tree.specs.Chain.{mark_at, past, one_more, more_from, more_of}
 use Rattle.c_tree.specs.Many.{one_or_end, many_from, many}
 use Rattle.c_tree.specs.Expr as spec

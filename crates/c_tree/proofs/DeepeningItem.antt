@@ -1,5 +1,5 @@
 -- With more levels all that is read or refused of a text stays so, but for what is a level too many.
-use Rattle.std.proofs.Common.{◌≡◌, ℕ, ◌≤◌, Bool, true, false, List, Option, Some, None, Ok}
+use Rattle.std.proofs.Common.{ℕ, ◌≤◌, Bool, true, false, Some}
 use Rattle.c_tree.specs.declared.term.Term.{Term}
 use Rattle.c_tree.specs.declared.term.Term.TheVariants as terms
 use Rattle.c_tree.specs.declared.stmt.Around.TheVariants as arounds
@@ -10,8 +10,7 @@ use Rattle.c_tree.specs.declared.item.Untyped.TheVariants as untypeds
 use Rattle.c_tree.specs.declared.item.Body.TheVariants as bodies
 use Rattle.c_tree.specs.declared.item.Item.{Item}
 use Rattle.c_tree.specs.declared.item.Tree.{Tree}
-use Rattle.c_tree.specs.Input.{Parser, ◌>>=◌, ◌>>◌, pure, look, here, take_token, eat, expect}
-use Rattle.c_tree.specs.Many.{many}
+use Rattle.c_tree.specs.Input.{look, here, take_token, eat, expect}
 use Rattle.c_tree.specs.Expr as expr_spec
 use Rattle.c_tree.specs.Simple as simple_spec
 use Rattle.c_tree.specs.Stmt as stmt_spec

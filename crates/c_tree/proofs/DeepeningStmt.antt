@@ -1,5 +1,5 @@
 -- With more levels all that is read or refused of statements stays so, but for what is a level too many.
-use Rattle.std.proofs.Common.{◌≡◌, ℕ, zero, suc, ◌≤◌, Bool, true, false, Option, Some, None, Ok, Err, refl, sym, ap, ◌∙◌, arith}
+use Rattle.std.proofs.Common.{◌≡◌, ℕ, zero, suc, ◌≤◌, Bool, true, false, Some, Ok, Err, refl, sym, arith}
 use Rattle.std.proofs.Math.Logic.{◌⊎◌, inl, inr}
 use Rattle.c_tree.specs.declared.term.Term.{Term}
 use Rattle.c_tree.specs.declared.term.Term.TheVariants as terms
@@ -16,9 +16,7 @@ use Rattle.c_tree.specs.declared.stmt.Block.{roll-Block}
 use Rattle.c_tree.specs.declared.stmt.First.TheVariants as firsts
 use Rattle.c_tree.specs.declared.stmt.Stmt.{Stmt}
 use Rattle.c_tree.specs.declared.stmt.Stmt.TheVariants as stmts
-use Rattle.c_tree.specs.Input.{Input, Outcome, Parser, and_then, ◌>>=◌, ◌>>◌, pure, refuse, look, here, take_token, eat, expect, peek, sees, refusal, too_deep}
-use Rattle.c_tree.specs.Chain.{more_of}
-use Rattle.c_tree.specs.Many.{many}
+use Rattle.c_tree.specs.Input.{Input, Parser, ◌>>=◌, pure, refuse, look, here, take_token, eat, expect, peek, sees, refusal, too_deep}
 use Rattle.c_tree.specs.Expr as expr_spec
 use Rattle.c_tree.specs.Simple as simple_spec
 use Rattle.c_tree.specs.Stmt as spec

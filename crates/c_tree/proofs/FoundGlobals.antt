@@ -1,5 +1,5 @@
 -- What is read of variables and locks stands in the text.
-use Rattle.std.proofs.Common.{◌≡◌, ◌<◌, Bool, true, false, length, Option, Some, None, Ok, refl}
+use Rattle.std.proofs.Common.{◌≡◌, Bool, true, false, length, Option, Some, None, Ok, refl}
 use Rattle.c_tree.specs.declared.term.Term.TheVariants as terms
 use Rattle.c_tree.specs.declared.item.Start.{Start}
 use Rattle.c_tree.specs.Input.{Input, place, sees, after, expect, eat}
@@ -8,8 +8,8 @@ use Rattle.c_tree.specs.Expr as expr_spec
 use Rattle.c_tree.specs.Simple.{comma_mark}
 use Rattle.c_tree.specs.Item as spec
 use Rattle.c_tree.specs.Grammar.{Stands, StartsAt}
-use Rattle.c_tree.specs.Sequence.{Part, ◌then◌, Perhaps, IsComma}
-use Rattle.c_tree.specs.GrammarItem.{IsSign, IsNumber, IsStart, IsGname, IsGlobals, IsStarted, IsMname, IsLocks}
+use Rattle.c_tree.specs.Sequence.{◌then◌, Perhaps, IsComma}
+use Rattle.c_tree.specs.GrammarItem.{IsSign, IsStart, IsGname, IsGlobals, IsStarted, IsMname, IsLocks}
 use Rattle.c_tree.proofs.Steps.{bind_ok}
 use Rattle.c_tree.proofs.Shrinks.{Shrinks, number_shrinks}
 use Rattle.c_tree.proofs.Sizes.{bind_first, bind_second, pure_le, here_le, eat_le}

@@ -1,5 +1,5 @@
 -- What is read of an item stands in the text.
-use Rattle.std.proofs.Common.{◌≡◌, ℕ, ◌<◌, Bool, true, false, List, length, Option, Some, None, Ok, refl, sym, ap, subst, ◌∙◌}
+use Rattle.std.proofs.Common.{◌≡◌, ℕ, Bool, true, false, List, length, Option, Some, None, Ok, refl, sym, ap, subst, ◌∙◌}
 use Rattle.std.proofs.Math.Logic.{inl, inr}
 use Rattle.c_lex.specs.Tokens.{Lexeme}
 use Rattle.c_tree.specs.declared.term.Term.{Term}
@@ -13,19 +13,18 @@ use Rattle.c_tree.specs.declared.item.Untyped.{Untyped}
 use Rattle.c_tree.specs.declared.item.Untyped.TheVariants as untypeds
 use Rattle.c_tree.specs.declared.item.Body.{Body}
 use Rattle.c_tree.specs.declared.item.Body.TheVariants as bodies
-use Rattle.c_tree.specs.declared.item.Item.{Item}
 use Rattle.c_tree.specs.Input.{Input, ◌>>◌, peek, place, next, sees, after, expect, refusal}
 use Rattle.c_tree.specs.Expr as expr_spec
 use Rattle.c_tree.specs.Simple as simple_spec
 use Rattle.c_tree.specs.Stmt as stmt_spec
 use Rattle.c_tree.specs.Item as spec
 use Rattle.c_tree.specs.Grammar.{Is, Stands, StartsAt, IsName}
-use Rattle.c_tree.specs.Sequence.{Part, ◌then◌, InParens}
+use Rattle.c_tree.specs.Sequence.{◌then◌, InParens}
 use Rattle.c_tree.specs.GrammarStmt.{IsStmt}
-use Rattle.c_tree.specs.GrammarItem.{IfAny, IsSkipped, IsProto, IsErrfn, IsBody, IsMainfn, IsParameter, IsThreadBody, IsThreadfn, IsTyped, IsUntyped, IsItemBody, IsItem}
+use Rattle.c_tree.specs.GrammarItem.{IfAny, IsSkipped, IsProto, IsBody, IsMainfn, IsParameter, IsThreadBody, IsThreadfn, IsTyped, IsUntyped, IsItemBody, IsItem}
 use Rattle.c_tree.proofs.Steps.{bind_ok, not_err}
 use Rattle.c_tree.proofs.ItemSizes.{item_shrinks}
-use Rattle.c_tree.proofs.Found.{Finds, is_next, expect_found, name_found, starts}
+use Rattle.c_tree.proofs.Found.{Finds, is_next, name_found, starts}
 use Rattle.c_tree.proofs.FoundParts.{given, open_found, close_found, semicolon_found, stands_found, eaten, not_eaten}
 use Rattle.c_tree.proofs.FoundSimple.{quals_found, itype_found}
 use Rattle.c_tree.proofs.FoundLocal.{handles_found}

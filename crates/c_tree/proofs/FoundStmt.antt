@@ -1,7 +1,6 @@
 -- What is read of a statement stands in the text.
-use Rattle.std.proofs.Common.{◌≡◌, ℕ, zero, suc, Bool, true, false, List, [], ◌∷◌, Option, Some, None, Ok, refl, sym, ap, subst, ◌∙◌}
+use Rattle.std.proofs.Common.{◌≡◌, ℕ, zero, suc, Bool, true, false, Option, Some, None, Ok, refl, sym, ap, ◌∙◌}
 use Rattle.std.proofs.lemmas.Bool.{false≢true}
-use Rattle.c_lex.specs.Tokens.{Lexeme}
 use Rattle.c_tree.specs.declared.term.Term.{Term}
 use Rattle.c_tree.specs.declared.term.Term.TheVariants as terms
 use Rattle.c_tree.specs.declared.simple.Assign.{Assign}
@@ -9,17 +8,17 @@ use Rattle.c_tree.specs.declared.simple.Cond.{Cond}
 use Rattle.c_tree.specs.declared.simple.Nil.{Nil}
 use Rattle.c_tree.specs.declared.stmt.Around.{Around}
 use Rattle.c_tree.specs.declared.stmt.Around.TheVariants as arounds
-use Rattle.c_tree.specs.declared.stmt.Block.{Block, roll-Block}
+use Rattle.c_tree.specs.declared.stmt.Block.{roll-Block}
 use Rattle.c_tree.specs.declared.stmt.First.{First}
 use Rattle.c_tree.specs.declared.stmt.First.TheVariants as firsts
 use Rattle.c_tree.specs.declared.stmt.Stmt.{Stmt, out-Stmt}
 use Rattle.c_tree.specs.declared.stmt.Stmt.TheVariants as stmts
 use Rattle.c_tree.specs.Term.{same_term}
-use Rattle.c_tree.specs.Input.{Input, Parser, peek, place, next, sees, after, expect, refusal, too_deep, term_at}
+use Rattle.c_tree.specs.Input.{Input, Parser, peek, place, next, sees, after, expect, refusal, term_at}
 use Rattle.c_tree.specs.Many.{many}
 use Rattle.c_tree.specs.Simple as simple_spec
 use Rattle.c_tree.specs.Stmt as spec
-use Rattle.c_tree.specs.Sequence.{Part, ◌then◌, Perhaps, AreAll, InParens}
+use Rattle.c_tree.specs.Sequence.{Part, Perhaps, InParens}
 use Rattle.c_tree.specs.GrammarSimple.{IsNil, IsCond, IsAssign}
 use Rattle.c_tree.specs.GrammarStmt.{IsWordEnd, IsElse, IsFirst, IsBlock, IsLayer, IsStmt}
 use Rattle.c_tree.proofs.Steps.{bind_ok, not_err}
@@ -72,7 +71,7 @@ module _ (levels : ℕ) where
 -- With statements inside as Inner says.
 module _ (levels : ℕ) (inner : Around → Parser Stmt) (Inner : Around → Stmt → Part) (finds : (around : Around) → Finds (inner around) (Inner around)) where
   abbrev IsFirstHere : First → Part
-  IsFirstHere = IsFirst levels Inner
+  IsFirstHere = IsFirst levels
 
   abbrev IsHere : Around → Stmt → Part
   IsHere around s = IsLayer levels Inner around (out-Stmt s)

@@ -25,8 +25,7 @@ use Rattle.c_tree.specs.declared.stmt.Stmt.TheOpen.{Stmt-F}
 use Rattle.c_tree.specs.Term.{same_term}
 use Rattle.c_tree.specs.Input.{term_at}
 use Rattle.c_tree.specs.Stmt.{begins}
-use Rattle.c_tree.specs.Grammar.{Is, Stands}
-use Rattle.c_tree.specs.Sequence.{Part, ◌then◌, AreAll}
+use Rattle.c_tree.specs.Sequence.{Part, AreAll}
 use Rattle.c_tree.specs.GrammarSimple.{qual_term, IsQual, IsItype, IsNil, IsCond, IsAssign, IsCall, IsLocal}
 use Rattle.c_tree.specs.GrammarStmt.{IsBreak, IsLayer, IsStmt}
 use Rattle.c_tree.proofs.Again.{is_term}

@@ -1,5 +1,5 @@
 -- What is done about expressions depends on the tokens that are taken and on the next one alone.
-use Rattle.std.proofs.Common.{◌≡◌, ℕ, zero, suc, ℤ, List, Option, Some, None, refl, subst}
+use Rattle.std.proofs.Common.{ℕ, zero, suc, ℤ, Option, Some, None, refl}
 use Rattle.c_tree.specs.declared.term.Term.{Term}
 use Rattle.c_tree.specs.declared.term.Term.TheVariants as terms
 use Rattle.c_tree.specs.declared.expr.Name.{Name}
@@ -13,7 +13,7 @@ use Rattle.c_tree.specs.declared.expr.Unary.{Unary}
 use Rattle.c_tree.specs.declared.expr.Unary.TheVariants as unaries
 use Rattle.c_tree.specs.declared.expr.UnaryKind.{UnaryKind}
 use Rattle.c_tree.specs.declared.expr.UnaryKind.TheVariants as signs
-use Rattle.c_tree.specs.Input.{Input, Parser, ◌>>=◌, ◌>>◌, pure, here, look, take_token, expect, bytes}
+use Rattle.c_tree.specs.Input.{Parser, ◌>>=◌, pure, here, look, take_token, expect, bytes}
 use Rattle.c_tree.specs.Chain.{more_of}
 use Rattle.c_tree.specs.Expr as spec
 use Rattle.c_tree.proofs.Shrinks.{Shrinks, product_shrinks, sum_shrinks, relation_shrinks, equality_shrinks, conjunction_shrinks, unary_shrinks}

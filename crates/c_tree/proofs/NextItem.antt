@@ -1,6 +1,5 @@
 -- What is done about a text depends on the tokens that are taken and on the next one alone.
-use Rattle.std.proofs.Common.{◌≡◌, ℕ, Bool, true, false, List, Option, Some, None, Ok, refl, ap}
-use Rattle.c_lex.specs.Tokens.{Lexeme}
+use Rattle.std.proofs.Common.{ℕ, Bool, true, false, Some, None, Ok, refl, ap}
 use Rattle.c_tree.specs.declared.term.Term.{Term}
 use Rattle.c_tree.specs.declared.term.Term.TheVariants as terms
 use Rattle.c_tree.specs.declared.stmt.Around.TheVariants as arounds
@@ -17,7 +16,7 @@ use Rattle.c_tree.specs.declared.item.Untyped.TheVariants as untypeds
 use Rattle.c_tree.specs.declared.item.Body.TheVariants as bodies
 use Rattle.c_tree.specs.declared.item.Item.{Item}
 use Rattle.c_tree.specs.declared.item.Tree.{Tree}
-use Rattle.c_tree.specs.Input.{Input, Parser, ◌>>=◌, ◌>>◌, pure, here, look, take_token, eat, expect, peek, sees}
+use Rattle.c_tree.specs.Input.{Input, ◌>>=◌, ◌>>◌, here, look, take_token, eat, expect, peek, sees}
 use Rattle.c_tree.specs.Chain.{more_of}
 use Rattle.c_tree.specs.Many.{many}
 use Rattle.c_tree.specs.Expr as expr_spec

@@ -1,14 +1,13 @@
 -- What parsers of repetitions do depends on the tokens that they take and on the next one alone.
-use Rattle.std.proofs.Common.{◌≡◌, ℕ, zero, suc, ◌+◌, ◌<◌, ◌≤◌, Bool, true, false, List, [], ◌∷◌, length, Option, Some, None, Ok, Err, refl, sym, ap, subst, ◌∙◌, arith}
+use Rattle.std.proofs.Common.{◌≡◌, ℕ, zero, suc, ◌+◌, ◌<◌, ◌≤◌, Bool, true, false, List, [], ◌∷◌, length, Option, Some, None, Ok, Err, refl, sym, ap, ◌∙◌, arith}
 use Rattle.c_lex.specs.Tokens.{Lexeme}
 use Rattle.c_tree.specs.declared.term.Term.{Term}
-use Rattle.c_tree.specs.declared.term.Term.TheVariants as terms
 use Rattle.c_tree.specs.declared.simple.Qual.{Qual}
 use Rattle.c_tree.specs.Input.{Input, Outcome, Parser, and_then, ◌>>=◌, ◌>>◌, pure, refuse, take_token, peek, place, next, sees}
-use Rattle.c_tree.specs.Chain.{mark_at, past, one_more, more_from, more_of}
+use Rattle.c_tree.specs.Chain.{mark_at, past, more_from, more_of}
 use Rattle.c_tree.specs.Many.{one_or_end, many_from, many}
-use Rattle.c_tree.specs.Simple.{qual_mark, quals_behind, quals_from, quals}
-use Rattle.c_tree.specs.Item.{open_after, skip_one, skip_from, skip_through}
+use Rattle.c_tree.specs.Simple.{qual_mark, quals_from, quals}
+use Rattle.c_tree.specs.Item.{open_after, skip_from, skip_through}
 use Rattle.c_tree.proofs.Steps.{ok_parts, next_shorter}
 use Rattle.c_tree.proofs.Shrinks.{Shrinks, NoMarkAtEnd, past_shorter}
 use Rattle.c_tree.proofs.Again.{at}

@@ -1,6 +1,5 @@
 -- What is done about the parts of statements depends on the tokens that are taken and on the next one alone.
-use Rattle.std.proofs.Common.{◌≡◌, ℕ, Bool, true, false, cond, List, Option, Some, None, refl}
-use Rattle.c_lex.specs.Tokens.{Lexeme}
+use Rattle.std.proofs.Common.{ℕ, Bool, true, false, cond, refl}
 use Rattle.c_tree.specs.declared.term.Term.{Term}
 use Rattle.c_tree.specs.declared.term.Term.TheVariants as terms
 use Rattle.c_tree.specs.declared.expr.Name.{Name}

@@ -1,6 +1,5 @@
 -- What is done about statements depends on the tokens that are taken and on the next one alone.
-use Rattle.std.proofs.Common.{◌≡◌, ℕ, zero, suc, Bool, true, false, List, Option, Some, None, Ok, refl, ap}
-use Rattle.c_lex.specs.Tokens.{Lexeme}
+use Rattle.std.proofs.Common.{ℕ, zero, suc, Bool, true, false, Ok, refl, ap}
 use Rattle.c_tree.specs.declared.term.Term.{Term}
 use Rattle.c_tree.specs.declared.term.Term.TheVariants as terms
 use Rattle.c_tree.specs.declared.stmt.Around.{Around}
@@ -9,7 +8,7 @@ use Rattle.c_tree.specs.declared.stmt.Block.{roll-Block}
 use Rattle.c_tree.specs.declared.stmt.First.TheVariants as firsts
 use Rattle.c_tree.specs.declared.stmt.Stmt.{Stmt}
 use Rattle.c_tree.specs.declared.stmt.Stmt.TheVariants as stmts
-use Rattle.c_tree.specs.Input.{Input, Parser, ◌>>=◌, ◌>>◌, pure, look, take_token, eat, expect, peek, sees}
+use Rattle.c_tree.specs.Input.{Input, Parser, ◌>>=◌, look, take_token, eat, expect, peek, sees}
 use Rattle.c_tree.specs.Many.{many}
 use Rattle.c_tree.specs.Simple as simple_spec
 use Rattle.c_tree.specs.Stmt as spec

@@ -1,6 +1,5 @@
 -- The tree of a text is that of its tokens, and of nothing else.
-use Rattle.std.proofs.Common.{◌≡◌, ℕ, zero, suc, rules, Bool, true, false, not, List, [], ◌∷◌, map, length, bytes_eq, cond, Result, Ok, Err, IfOk, refl, sym, ap, subst, ◌∙◌}
-use Rattle.std.specs.List.{list_all}
+use Rattle.std.proofs.Common.{◌≡◌, ℕ, zero, suc, rules, Bool, true, false, List, [], ◌∷◌, map, length, bytes_eq, cond, Result, Ok, Err, IfOk, refl, sym, ap, subst, ◌∙◌}
 use Rattle.thr_base.specs.declared.stops.Refusal.{Refusal}
 use Rattle.thr_base.specs.declared.stops.Stop.{Stop}
 use Rattle.c_lex.specs.declared.token.Kind.{Kind}
@@ -10,7 +9,7 @@ use Rattle.c_tree.specs.declared.term.Term.{Term}
 use Rattle.c_tree.specs.declared.term.Term.TheVariants as terms
 use Rattle.c_tree.specs.declared.term.TheConstants.{WORDS, MARKS}
 use Rattle.c_tree.specs.declared.item.Tree.{Tree}
-use Rattle.c_tree.specs.Term.{same_term, lookup, word_term, mark_term, kind_term, term_of}
+use Rattle.c_tree.specs.Term.{same_term, lookup, word_term, mark_term, kind_term}
 use Rattle.c_tree.specs.Input.{Input, Outcome, Parser, peek, sees, term_at, refusal}
 use Rattle.c_tree.specs.Many.{one_or_end, many_from, many}
 use Rattle.c_tree.specs.Item as spec

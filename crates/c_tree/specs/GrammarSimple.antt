@@ -1,6 +1,5 @@
 -- The grammar of what statements are made of: which tokens a tree stands for, by cases on the tree.
 use Rattle.std.specs.Prelude.{◌≡◌, ℕ, codes}
-use Rattle.c_lex.specs.Tokens.{Lexeme}
 use Rattle.c_tree.specs.declared.term.Term.{Term}
 use Rattle.c_tree.specs.declared.term.Term.TheVariants as terms
 use Rattle.c_tree.specs.declared.expr.Name.{Name}

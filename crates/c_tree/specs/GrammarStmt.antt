@@ -1,9 +1,6 @@
 -- The grammar of statements: which tokens a tree stands for, by cases on the tree.
 use Rattle.std.specs.Prelude.{◌≡◌, ◌≢◌, ℕ, zero, suc, Option, Some, None}
-use Rattle.c_lex.specs.Tokens.{Lexeme}
-use Rattle.c_tree.specs.declared.term.Term.{Term}
 use Rattle.c_tree.specs.declared.term.Term.TheVariants as terms
-use Rattle.c_tree.specs.declared.simple.Cond.{Cond}
 use Rattle.c_tree.specs.declared.stmt.Around.{Around}
 use Rattle.c_tree.specs.declared.stmt.Around.TheVariants as arounds
 use Rattle.c_tree.specs.declared.stmt.Block.{Block, out-Block}
@@ -30,13 +27,14 @@ abbrev pub IsElse : (Stmt → Part) → Option Stmt → Part
 IsElse IsInner None ts rest = (ts ≡ rest) × (term_at rest ≢ terms.Else)
 IsElse IsInner (Some s) ts rest = (Stands terms.Else then IsInner s) ts rest
 
+-- the first part of a `for`, with expressions of at most so many levels
+abbrev pub IsFirst : ℕ → First → Part
+IsFirst levels (firsts.Local l) = IsLocal levels l
+IsFirst levels (firsts.Assign a) = IsAssign levels a then Stands terms.Semicolon
+IsFirst levels (firsts.Empty from) = Is terms.Semicolon from
+
 -- With expressions of at most so many levels, and with statements inside as Inner says, which go by what is around.
 module _ (levels : ℕ) (Inner : Around → Stmt → Part) where
-  abbrev pub IsFirst : First → Part
-  IsFirst (firsts.Local l) = IsLocal levels l
-  IsFirst (firsts.Assign a) = IsAssign levels a then Stands terms.Semicolon
-  IsFirst (firsts.Empty from) = Is terms.Semicolon from
-
   abbrev pub IsBlock : Around → Block → Part
   IsBlock around b = Headed terms.LeftBrace (out-Block b).from (AreAll (Inner around) (out-Block b).stmts then Stands terms.RightBrace)
 
@@ -48,7 +46,7 @@ module _ (levels : ℕ) (Inner : Around → Stmt → Part) where
   IsLayer around (Stmt-F.If from c s otherwise) = Headed terms.If from (InParens (IsCond levels c) then Inner around s then IsElse (Inner around) otherwise)
   IsLayer around (Stmt-F.While from c s) = Headed terms.While from (InParens (IsCond levels c) then Inner arounds.Loop s)
   IsLayer around (Stmt-F.For from first c last s) = Headed terms.For from
-      (InParens (IsFirst first then Perhaps (IsCond levels) c then Stands terms.Semicolon then Perhaps (IsAssign levels) last) then Inner arounds.Loop s)
+      (InParens (IsFirst levels first then Perhaps (IsCond levels) c then Stands terms.Semicolon then Perhaps (IsAssign levels) last) then Inner arounds.Loop s)
   IsLayer around (Stmt-F.Break from) = IsBreak around from
   IsLayer around (Stmt-F.Return from value) = Headed terms.Return from (Perhaps IsNil value then Stands terms.Semicolon)
   IsLayer around (Stmt-F.Call c) = IsCall levels c then Stands terms.Semicolon
