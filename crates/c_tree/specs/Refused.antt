@@ -32,7 +32,7 @@ IsSaidOf end d front rest =
 abbrev pub IsRefusedWith : ℕ → List Lexeme → Refusal → Type 0
 IsRefusedWith end tokens d = (front : List Lexeme) × (rest : List Lexeme) × (tokens ≡ front ++ rest) × IsSaidOf end d front rest
 
--- The text has no tokens, or they are refused so, where an answer refuses it.
+-- Where an answer refuses a text that has tokens, they are refused so.
 abbrev pub IsRefusedBy : List ℕ → Result Tree Stop → Type 0
 IsRefusedBy text (Ok tree) = Unit {0}
 IsRefusedBy text (Err Memory) = Unit {0}
