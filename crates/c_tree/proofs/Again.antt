@@ -59,11 +59,11 @@ pub is_term : (k : Term) (from : ℕ) (ts rest : List Lexeme) → Is k from ts r
 is_term k from [] rest is = absurd is
 is_term k from (t ∷ ts) rest is = is.0
 
-is_longer : (k : Term) (from : ℕ) (ts rest : List Lexeme) → Is k from ts rest → length rest + 1 ≡ length ts
+pub is_longer : (k : Term) (from : ℕ) (ts rest : List Lexeme) → Is k from ts rest → length rest + 1 ≡ length ts
 is_longer k from [] rest is = absurd is
 is_longer k from (t ∷ ts) rest is = (let same = ap (λ (l : List Lexeme). length l) is.2 in omega arith)
 
-starts_place : (from end : ℕ) (ts : List Lexeme) → StartsAt from ts → place (at ts end) ≡ from
+pub starts_place : (from end : ℕ) (ts : List Lexeme) → StartsAt from ts → place (at ts end) ≡ from
 unfolding place
 starts_place from end [] starts = absurd starts
 starts_place from end (t ∷ ts) starts = starts
@@ -264,11 +264,11 @@ module _ (unary : Parser Unary) (IsOperand : Unary → List Lexeme → List Lexe
 
 -- ---- names, numbers and operands
 
-same_self : (k : Term) → same_term k k ≡ true
+pub same_self : (k : Term) → same_term k k ≡ true
 unfolding same_term
 same_self k = true_same the_type k k refl
 
-is_seen : (k : Term) (from end : ℕ) (ts rest : List Lexeme) → Is k from ts rest → sees k (at ts end) ≡ true
+pub is_seen : (k : Term) (from end : ℕ) (ts rest : List Lexeme) → Is k from ts rest → sees k (at ts end) ≡ true
 unfolding sees
 is_seen k from end ts rest is = ap (λ (t : Term). same_term t k) (is_peek k from end ts rest is) ∙ same_self k
 

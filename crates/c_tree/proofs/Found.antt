@@ -72,7 +72,7 @@ module _ {M A : Type 0} (mark : Term → ℕ → Option M) (item : Parser A) (Is
   more_found i xs j e = more_from_found (length i.tokens) i xs j e
 
 -- something stands in front of what is shorter
-starts : (i : Input) (n : ℕ) → n < length i.tokens → StartsAt (place i) i.tokens
+pub starts : (i : Input) (n : ℕ) → n < length i.tokens → StartsAt (place i) i.tokens
 unfolding place
 starts i n lt = go i.tokens lt
   where
@@ -94,7 +94,7 @@ level_found mark item IsMark IsItem marks finds shrinks made IsMade is_made i y 
 -- ---- the marks
 
 -- there is no such mark
-no_mark : {M : Type 0} (m : M) → ◌≡◌ {A = Option M} None (Some m) → ⊥
+pub no_mark : {M : Type 0} (m : M) → ◌≡◌ {A = Option M} None (Some m) → ⊥
 no_mark m e = cc
 
 product_mark_by : (i : Input) (k : Term) (m : ℕ) → peek i ≡ k → spec.product_mark k (place i) ≡ Some m → IsProductMark m i.tokens (next i).tokens
@@ -179,7 +179,7 @@ expected k i true x j is e = (let same = ok_parts (place i) x (next i) j e in (i
 expected k i false x j is e = absurd (not_err (refusal i) x j e)
 
 -- `sees` tells the term
-seen : (k : Term) (i : Input) → sees k i ≡ true → peek i ≡ k
+pub seen : (k : Term) (i : Input) → sees k i ≡ true → peek i ≡ k
 unfolding sees same_term
 seen k i e = same_true the_type (search rules) _ _ e
 
@@ -206,7 +206,7 @@ number_of_found (Some v) i x j e =
     let parts = expected terms.Number i (sees terms.Number i) a.0 a.1 refl a.2 in
     (subst (λ (k : Input). Is terms.Number (place i) i.tokens k.tokens) (parts.2 ∙ same.1) (is_next i terms.Number (λ h. cc) (seen terms.Number i parts.0)), ap (λ (y : ℤ). Some y) same.0)
 
-number_found : (i : Input) (x : ℤ) (j : Input) → spec.number i ≡ Ok (x, j) → Is terms.Number (place i) i.tokens j.tokens × (spec.number_value (bytes_at i.tokens) ≡ Some x)
+pub number_found : (i : Input) (x : ℤ) (j : Input) → spec.number i ≡ Ok (x, j) → Is terms.Number (place i) i.tokens j.tokens × (spec.number_value (bytes_at i.tokens) ≡ Some x)
 unfolding spec.number bytes
 number_found i x j e = number_of_found (spec.number_value (bytes_at i.tokens)) i x j e
 

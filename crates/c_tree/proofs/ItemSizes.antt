@@ -26,7 +26,7 @@ use Rattle.c_tree.proofs.Shrinks.{Shrinks, NeverGrows, expect_shrinks, name_shri
 use Rattle.c_tree.proofs.Sizes.{weaker, pure_le, refuse_shrinks, bind_le, bind_first, bind_second, take_le, eat_le, look_le, here_le}
 use Rattle.c_tree.proofs.StmtSizes.{quals_le, itype_le, handles_shrinks, block_shrinks, stmt_shrinks, close_le, see_le, take_then}
 
-start_if_le : (b : Bool) → NeverGrows (spec.start_if b)
+pub start_if_le : (b : Bool) → NeverGrows (spec.start_if b)
 unfolding spec.start_number
 start_if_le true = bind_le spec.start_number _ (bind_le here _ here_le (λ from. bind_le (eat terms.Minus) _ (eat_le terms.Minus) (λ m. bind_le expr_spec.number _ (weaker _ number_shrinks) (λ v. pure_le {A = Start} (record { from = from; is_negative = m; value = v }))))) (λ s. pure_le (Some s))
 start_if_le false = pure_le None
@@ -92,80 +92,81 @@ error_fn_shrinks : Shrinks spec.error_fn
 unfolding spec.error_fn
 error_fn_shrinks = bind_second take_token _ take_le (λ from. bind_first spec.skipped_parens _ skipped_parens_shrinks (λ s. bind_le _ _ (see_le terms.LeftBrace) (λ b. error_by_le from b)))
 
-body_shrinks : Shrinks spec.body
-unfolding spec.body
-body_shrinks = block_shrinks spec.max_levels (stmt_spec.stmt spec.max_levels) (stmt_shrinks spec.max_levels) arounds.Nothing
+module _ (levels : ℕ) where
+  body_shrinks : Shrinks (spec.body levels)
+  unfolding spec.body
+  body_shrinks = block_shrinks levels (stmt_spec.stmt levels) (stmt_shrinks levels) arounds.Nothing
 
-main_fn_shrinks : Shrinks spec.main_fn
-unfolding spec.main_fn same_term
-main_fn_shrinks = bind_second take_token _ take_le (λ from. bind_first (expect terms.LeftParen) _ (expect_shrinks terms.LeftParen refl) (λ o. bind_le (eat terms.Void) _ (eat_le terms.Void) (λ v. bind_le (expect terms.RightParen) _ (weaker _ (expect_shrinks terms.RightParen refl))
-    (λ c. bind_le spec.body _ (weaker _ body_shrinks) (λ b. pure_le {A = Mainfn} (record { from = from; body = b }))))))
+  main_fn_shrinks : Shrinks (spec.main_fn levels)
+  unfolding spec.main_fn same_term
+  main_fn_shrinks = bind_second take_token _ take_le (λ from. bind_first (expect terms.LeftParen) _ (expect_shrinks terms.LeftParen refl) (λ o. bind_le (eat terms.Void) _ (eat_le terms.Void) (λ v. bind_le (expect terms.RightParen) _ (weaker _ (expect_shrinks terms.RightParen refl))
+      (λ c. bind_le (spec.body levels) _ (weaker _ body_shrinks) (λ b. pure_le {A = Mainfn} (record { from = from; body = b }))))))
 
-name_if_le : (b : Bool) → NeverGrows (spec.name_if b)
-name_if_le true = bind_le expr_spec.name _ (weaker _ name_shrinks) (λ x. pure_le tt)
-name_if_le false = pure_le tt
+  name_if_le : (b : Bool) → NeverGrows (spec.name_if b)
+  name_if_le true = bind_le expr_spec.name _ (weaker _ name_shrinks) (λ x. pure_le tt)
+  name_if_le false = pure_le tt
 
-pointer_if_le : (b : Bool) → NeverGrows (spec.pointer_if b)
-pointer_if_le true = bind_le _ _ (see_le terms.Name) name_if_le
-pointer_if_le false = pure_le tt
+  pointer_if_le : (b : Bool) → NeverGrows (spec.pointer_if b)
+  pointer_if_le true = bind_le _ _ (see_le terms.Name) name_if_le
+  pointer_if_le false = pure_le tt
 
-void_if_le : (b : Bool) → NeverGrows (spec.void_if b)
-void_if_le true = bind_le (eat terms.Star) _ (eat_le terms.Star) pointer_if_le
-void_if_le false = pure_le tt
+  void_if_le : (b : Bool) → NeverGrows (spec.void_if b)
+  void_if_le true = bind_le (eat terms.Star) _ (eat_le terms.Star) pointer_if_le
+  void_if_le false = pure_le tt
 
-parameter_shrinks : Shrinks spec.parameter
-unfolding spec.parameter same_term
-parameter_shrinks = bind_first (expect terms.LeftParen) _ (expect_shrinks terms.LeftParen refl) (λ o. bind_le (eat terms.Void) _ (eat_le terms.Void) (λ v. bind_le _ _ (void_if_le v) (λ s. close_le {A = Unit {0}} terms.RightParen tt refl)))
+  parameter_shrinks : Shrinks spec.parameter
+  unfolding spec.parameter same_term
+  parameter_shrinks = bind_first (expect terms.LeftParen) _ (expect_shrinks terms.LeftParen refl) (λ o. bind_le (eat terms.Void) _ (eat_le terms.Void) (λ v. bind_le _ _ (void_if_le v) (λ s. close_le {A = Unit {0}} terms.RightParen tt refl)))
 
-body_if_le : (b : Bool) → NeverGrows (spec.body_if b)
-body_if_le true = pure_le None
-body_if_le false = bind_le spec.body _ (weaker _ body_shrinks) (λ b. pure_le (Some b))
+  body_if_le : (b : Bool) → NeverGrows ((spec.body_if levels) b)
+  body_if_le true = pure_le None
+  body_if_le false = bind_le (spec.body levels) _ (weaker _ body_shrinks) (λ b. pure_le (Some b))
 
-thread_fn_shrinks : Shrinks spec.thread_fn
-unfolding spec.thread_fn
-thread_fn_shrinks = bind_first expr_spec.name _ name_shrinks (λ f. bind_le spec.parameter _ (weaker _ parameter_shrinks) (λ s. bind_le (eat terms.Semicolon) _ (eat_le terms.Semicolon) (λ p. bind_le _ _ (body_if_le p) (λ b. pure_le {A = Threadfn} (record { name = f; body = b })))))
+  thread_fn_shrinks : Shrinks (spec.thread_fn levels)
+  unfolding spec.thread_fn
+  thread_fn_shrinks = bind_first expr_spec.name _ name_shrinks (λ f. bind_le spec.parameter _ (weaker _ parameter_shrinks) (λ s. bind_le (eat terms.Semicolon) _ (eat_le terms.Semicolon) (λ p. bind_le _ _ (body_if_le p) (λ b. pure_le {A = Threadfn} (record { name = f; body = b })))))
 
--- ---- items
+  -- ---- items
 
-proto_if_shrinks : (b : Bool) → Shrinks (spec.proto_if b)
-proto_if_shrinks true = proto_shrinks
-proto_if_shrinks false = refuse_shrinks
+  proto_if_shrinks : (b : Bool) → Shrinks (spec.proto_if b)
+  proto_if_shrinks true = proto_shrinks
+  proto_if_shrinks false = refuse_shrinks
 
-profile_proto_shrinks : Shrinks spec.profile_proto
-unfolding spec.profile_proto
-profile_proto_shrinks i x j e = proto_if_shrinks (spec.is_profile (peek i)) i x j e
+  profile_proto_shrinks : Shrinks spec.profile_proto
+  unfolding spec.profile_proto
+  profile_proto_shrinks i x j e = proto_if_shrinks (spec.is_profile (peek i)) i x j e
 
-typed_by_shrinks : (k : Term) → Shrinks (spec.typed_by k)
-typed_by_shrinks terms.Name = bind_first spec.globals _ globals_shrinks (λ g. pure_le (typeds.Globals g))
-typed_by_shrinks terms.Main = bind_first spec.main_fn _ main_fn_shrinks (λ m. pure_le (typeds.Main m))
-typed_by_shrinks _ = bind_first spec.profile_proto _ profile_proto_shrinks (λ p. pure_le (typeds.Proto p))
+  typed_by_shrinks : (k : Term) → Shrinks ((spec.typed_by levels) k)
+  typed_by_shrinks terms.Name = bind_first spec.globals _ globals_shrinks (λ g. pure_le (typeds.Globals g))
+  typed_by_shrinks terms.Main = bind_first (spec.main_fn levels) _ main_fn_shrinks (λ m. pure_le (typeds.Main m))
+  typed_by_shrinks _ = bind_first spec.profile_proto _ profile_proto_shrinks (λ p. pure_le (typeds.Proto p))
 
-typed_shrinks : Shrinks spec.typed
-unfolding spec.typed
-typed_shrinks = bind_second look _ look_le typed_by_shrinks
+  typed_shrinks : Shrinks (spec.typed levels)
+  unfolding spec.typed
+  typed_shrinks = bind_second look _ look_le typed_by_shrinks
 
-untyped_by_shrinks : (k : Term) → Shrinks (spec.untyped_by k)
-untyped_by_shrinks terms.Star = bind_second take_token _ take_le (λ from. bind_first spec.thread_fn _ thread_fn_shrinks (λ t. pure_le (untypeds.Thread t)))
-untyped_by_shrinks terms.ReachError = error_fn_shrinks
-untyped_by_shrinks _ = bind_first spec.profile_proto _ profile_proto_shrinks (λ p. pure_le (untypeds.Proto p))
+  untyped_by_shrinks : (k : Term) → Shrinks ((spec.untyped_by levels) k)
+  untyped_by_shrinks terms.Star = bind_second take_token _ take_le (λ from. bind_first (spec.thread_fn levels) _ thread_fn_shrinks (λ t. pure_le (untypeds.Thread t)))
+  untyped_by_shrinks terms.ReachError = error_fn_shrinks
+  untyped_by_shrinks _ = bind_first spec.profile_proto _ profile_proto_shrinks (λ p. pure_le (untypeds.Proto p))
 
-untyped_shrinks : Shrinks spec.untyped
-unfolding spec.untyped
-untyped_shrinks = bind_second look _ look_le untyped_by_shrinks
+  untyped_shrinks : Shrinks (spec.untyped levels)
+  unfolding spec.untyped
+  untyped_shrinks = bind_second look _ look_le untyped_by_shrinks
 
-body_by_shrinks : (k : Term) → Shrinks (spec.body_by k)
-unfolding spec.typed_body spec.void_body
-body_by_shrinks terms.Int = bind_second simple_spec.itype _ itype_le (λ kind. bind_first spec.typed _ typed_shrinks (λ t. pure_le (bodies.Typed kind t)))
-body_by_shrinks terms.Long = bind_second simple_spec.itype _ itype_le (λ kind. bind_first spec.typed _ typed_shrinks (λ t. pure_le (bodies.Typed kind t)))
-body_by_shrinks terms.Void = bind_second take_token _ take_le (λ from. bind_first spec.untyped _ untyped_shrinks (λ u. pure_le (bodies.Void from u)))
-body_by_shrinks terms.MutexType = bind_first spec.locks _ locks_shrinks (λ l. pure_le (bodies.Locks l))
-body_by_shrinks terms.HandleType = bind_first simple_spec.handles _ handles_shrinks (λ h. pure_le (bodies.Handles h))
-body_by_shrinks _ = refuse_shrinks
+  body_by_shrinks : (k : Term) → Shrinks ((spec.body_by levels) k)
+  unfolding spec.typed_body spec.void_body
+  body_by_shrinks terms.Int = bind_second simple_spec.itype _ itype_le (λ kind. bind_first (spec.typed levels) _ typed_shrinks (λ t. pure_le (bodies.Typed kind t)))
+  body_by_shrinks terms.Long = bind_second simple_spec.itype _ itype_le (λ kind. bind_first (spec.typed levels) _ typed_shrinks (λ t. pure_le (bodies.Typed kind t)))
+  body_by_shrinks terms.Void = bind_second take_token _ take_le (λ from. bind_first (spec.untyped levels) _ untyped_shrinks (λ u. pure_le (bodies.Void from u)))
+  body_by_shrinks terms.MutexType = bind_first spec.locks _ locks_shrinks (λ l. pure_le (bodies.Locks l))
+  body_by_shrinks terms.HandleType = bind_first simple_spec.handles _ handles_shrinks (λ h. pure_le (bodies.Handles h))
+  body_by_shrinks _ = refuse_shrinks
 
-item_body_shrinks : Shrinks spec.item_body
-unfolding spec.item_body
-item_body_shrinks = bind_second look _ look_le body_by_shrinks
+  item_body_shrinks : Shrinks (spec.item_body levels)
+  unfolding spec.item_body
+  item_body_shrinks = bind_second look _ look_le body_by_shrinks
 
-pub item_shrinks : Shrinks spec.item
-unfolding spec.item
-item_shrinks = bind_second here _ here_le (λ from. bind_second simple_spec.quals _ quals_le (λ qs. bind_first spec.item_body _ item_body_shrinks (λ b. pure_le {A = Item} (record { from = from; quals = qs; body = b }))))
+  pub item_shrinks : Shrinks (spec.item levels)
+  unfolding spec.item
+  item_shrinks = bind_second here _ here_le (λ from. bind_second simple_spec.quals _ quals_le (λ qs. bind_first (spec.item_body levels) _ item_body_shrinks (λ b. pure_le {A = Item} (record { from = from; quals = qs; body = b }))))

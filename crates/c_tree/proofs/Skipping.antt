@@ -24,7 +24,7 @@ some_none x h = cc
 pub is_there : (i : Input) (before ends : List Term) → open_after (peek i) before ≡ Some ends → peek i ≡ terms.End → ⊥
 is_there i before ends fits ended = some_none ends (ap (λ (k : Term). open_after k before) (sym ended) ∙ fits)
 
-one_skipped : (n : ℕ) (top : Term) (rest ends : List Term) (i : Input) → open_after (peek i) (top ∷ rest) ≡ Some ends → skip_from (suc n) (top ∷ rest) i ≡ skip_from n ends (next i)
+pub one_skipped : (n : ℕ) (top : Term) (rest ends : List Term) (i : Input) → open_after (peek i) (top ∷ rest) ≡ Some ends → skip_from (suc n) (top ∷ rest) i ≡ skip_from n ends (next i)
 unfolding skip_from
 one_skipped n top rest ends i fits = rw fits refl
 
@@ -36,7 +36,7 @@ goes_on close start (top ∷ rest) ends i some fits read = go read.count read.en
     go zero le all = absurd (omega (arith, next_shorter i (is_there i (top ∷ rest) ends fits)))
     go (suc n) le all = record { count = n; enough = omega (arith, next_shorter i (is_there i (top ∷ rest) ends fits)); all = sym (one_skipped n top rest ends i fits) ∙ all }
 
-one_refused : (n : ℕ) (top : Term) (rest : List Term) (i : Input) → open_after (peek i) (top ∷ rest) ≡ None → skip_from n (top ∷ rest) i ≡ Err (refusal i)
+pub one_refused : (n : ℕ) (top : Term) (rest : List Term) (i : Input) → open_after (peek i) (top ∷ rest) ≡ None → skip_from n (top ∷ rest) i ≡ Err (refusal i)
 unfolding skip_from
 one_refused zero top rest i fails = refl
 one_refused (suc n) top rest i fails = rw fails refl
@@ -45,7 +45,7 @@ pub refuses : (close : Term) (start : Input) (before : List Term) (i : Input) �
 refuses close start [] i some fails read = absurd (some refl)
 refuses close start (top ∷ rest) i some fails read = sym read.all ∙ one_refused read.count top rest i fails
 
-none_left : (n : ℕ) (i : Input) → skip_from n [] i ≡ Ok (tt, i)
+pub none_left : (n : ℕ) (i : Input) → skip_from n [] i ≡ Ok (tt, i)
 unfolding skip_from
 none_left zero i = refl
 none_left (suc n) i = refl

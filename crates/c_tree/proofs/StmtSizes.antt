@@ -158,7 +158,7 @@ pub itype_le : NeverGrows spec.itype
 unfolding spec.itype
 itype_le = bind_le look _ look_le itype_by_le
 
-local_shrinks : (levels : ℕ) → Shrinks (spec.local levels)
+pub local_shrinks : (levels : ℕ) → Shrinks (spec.local levels)
 unfolding spec.local same_term
 local_shrinks levels = bind_second here _ here_le (λ from. bind_second spec.quals _ quals_le (λ qs. bind_second spec.itype _ itype_le (λ kind. bind_first (spec.lname levels) _ (lname_shrinks levels)
     (λ first. bind_le (more_of spec.comma_mark (spec.lname levels)) _ (more_of_le spec.comma_mark (spec.lname levels) (λ n. refl) (lname_shrinks levels)) (λ more. close_le {A = Local} terms.Semicolon (record { from = from; quals = qs; itype = kind; first = first; more = more }) refl)))))
@@ -305,7 +305,7 @@ module _ (levels : ℕ) (inner : Around → Parser Stmt) (shrinks : (around : Ar
   stmt_by_shrinks around terms.HandleType i is x j e = bind_first _ _ handles_shrinks (λ h. pure_le _) i x j e
   stmt_by_shrinks around _ i is x j e = call_stmt_shrinks levels i x j e
 
-past_limit_fails : (b : Bool) (i : Input) (x : Stmt) (j : Input) → stmt_spec.past_limit b i ≡ Ok (x, j) → ⊥
+pub past_limit_fails : (b : Bool) (i : Input) (x : Stmt) (j : Input) → stmt_spec.past_limit b i ≡ Ok (x, j) → ⊥
 past_limit_fails true i x j e = not_err (too_deep i) x j e
 past_limit_fails false i x j e = not_err (refusal i) x j e
 

@@ -34,9 +34,9 @@ use Rattle.c_tree.specs.Stmt.{stmt, block}
 abbrev pub max_levels : ℕ
 max_levels = 64
 
--- the body of a function, whose statements are at the first level
-unfoldable pub body : Parser Block
-body = block max_levels (stmt max_levels) arounds.Nothing
+-- the body of a function, whose statements are at the first of so many levels
+unfoldable pub body : ℕ → Parser Block
+body levels = block levels (stmt levels) arounds.Nothing
 
 -- ---- tokens that are skipped
 
@@ -145,15 +145,6 @@ error_fn = do
   is_body ← (λ i. Ok (sees terms.LeftBrace i, i))
   error_by from is_body
 
-unfoldable pub main_fn : Parser Mainfn
-main_fn = do
-  from ← take_token
-  opened ← expect terms.LeftParen
-  is_void ← eat terms.Void
-  closed ← expect terms.RightParen
-  b ← body
-  pure (record { from = from; body = b })
-
 -- the name of a parameter, if it has one
 abbrev pub name_if : Bool → Parser (Unit {0})
 name_if true = name >>= λ _. pure tt
@@ -175,19 +166,6 @@ parameter = do
   said ← void_if is_void
   closed ← expect terms.RightParen
   pure tt
-
-abbrev pub body_if : Bool → Parser (Option Block)
-body_if true = pure None
-body_if false = body >>= λ b. pure (Some b)
-
--- behind `void *`
-unfoldable pub thread_fn : Parser Threadfn
-thread_fn = do
-  f ← name
-  said ← parameter
-  is_proto ← eat terms.Semicolon
-  b ← body_if is_proto
-  pure (record { name = f; body = b })
 
 -- ---- items
 
@@ -217,57 +195,84 @@ proto_if false = refuse
 unfoldable pub profile_proto : Parser Proto
 profile_proto = λ i. proto_if (is_profile (peek i)) i
 
-abbrev pub typed_by : Term → Parser Typed
-typed_by terms.Name = globals >>= λ g. pure (typeds.Globals g)
-typed_by terms.Main = main_fn >>= λ m. pure (typeds.Main m)
-typed_by _ = profile_proto >>= λ p. pure (typeds.Proto p)
+-- ---- with bodies of so many levels
 
-unfoldable pub typed : Parser Typed
-typed = look >>= typed_by
+module _ (levels : ℕ) where
+  unfoldable pub main_fn : Parser Mainfn
+  main_fn = do
+    from ← take_token
+    opened ← expect terms.LeftParen
+    is_void ← eat terms.Void
+    closed ← expect terms.RightParen
+    b ← body levels
+    pure (record { from = from; body = b })
 
-abbrev pub untyped_by : Term → Parser Untyped
-untyped_by terms.Star = take_token >> (thread_fn >>= λ t. pure (untypeds.Thread t))
-untyped_by terms.ReachError = error_fn
-untyped_by _ = profile_proto >>= λ p. pure (untypeds.Proto p)
+  abbrev pub body_if : Bool → Parser (Option Block)
+  body_if true = pure None
+  body_if false = body levels >>= λ b. pure (Some b)
 
-unfoldable pub untyped : Parser Untyped
-untyped = look >>= untyped_by
+  -- behind `void *`
+  unfoldable pub thread_fn : Parser Threadfn
+  thread_fn = do
+    f ← name
+    said ← parameter
+    is_proto ← eat terms.Semicolon
+    b ← body_if is_proto
+    pure (record { name = f; body = b })
 
-unfoldable pub typed_body : Parser Body
-typed_body = do
-  kind ← itype
-  t ← typed
-  pure (bodies.Typed kind t)
+  -- ---- items
 
-unfoldable pub void_body : Parser Body
-void_body = do
-  from ← take_token
-  u ← untyped
-  pure (bodies.Void from u)
+  abbrev pub typed_by : Term → Parser Typed
+  typed_by terms.Name = globals >>= λ g. pure (typeds.Globals g)
+  typed_by terms.Main = main_fn >>= λ m. pure (typeds.Main m)
+  typed_by _ = profile_proto >>= λ p. pure (typeds.Proto p)
 
-abbrev pub body_by : Term → Parser Body
-body_by terms.Int = typed_body
-body_by terms.Long = typed_body
-body_by terms.Void = void_body
-body_by terms.MutexType = locks >>= λ l. pure (bodies.Locks l)
-body_by terms.HandleType = handles >>= λ h. pure (bodies.Handles h)
-body_by _ = refuse
+  unfoldable pub typed : Parser Typed
+  typed = look >>= typed_by
 
-unfoldable pub item_body : Parser Body
-item_body = look >>= body_by
+  abbrev pub untyped_by : Term → Parser Untyped
+  untyped_by terms.Star = take_token >> (thread_fn >>= λ t. pure (untypeds.Thread t))
+  untyped_by terms.ReachError = error_fn
+  untyped_by _ = profile_proto >>= λ p. pure (untypeds.Proto p)
 
-unfoldable pub item : Parser Item
-item = do
-  from ← here
-  qs ← quals
-  b ← item_body
-  pure (record { from = from; quals = qs; body = b })
+  unfoldable pub untyped : Parser Untyped
+  untyped = look >>= untyped_by
 
--- items up to the end of the text
-unfoldable pub tree : Parser Tree
-tree = do
-  all ← many terms.End item
-  pure (record { items = all })
+  unfoldable pub typed_body : Parser Body
+  typed_body = do
+    kind ← itype
+    t ← typed
+    pure (bodies.Typed kind t)
+
+  unfoldable pub void_body : Parser Body
+  void_body = do
+    from ← take_token
+    u ← untyped
+    pure (bodies.Void from u)
+
+  abbrev pub body_by : Term → Parser Body
+  body_by terms.Int = typed_body
+  body_by terms.Long = typed_body
+  body_by terms.Void = void_body
+  body_by terms.MutexType = locks >>= λ l. pure (bodies.Locks l)
+  body_by terms.HandleType = handles >>= λ h. pure (bodies.Handles h)
+  body_by _ = refuse
+
+  unfoldable pub item_body : Parser Body
+  item_body = look >>= body_by
+
+  unfoldable pub item : Parser Item
+  item = do
+    from ← here
+    qs ← quals
+    b ← item_body
+    pure (record { from = from; quals = qs; body = b })
+
+  -- items up to the end of the text
+  unfoldable pub tree : Parser Tree
+  tree = do
+    all ← many terms.End item
+    pure (record { items = all })
 
 -- ---- texts
 
@@ -279,7 +284,7 @@ value_of (Err refusal) = Err refusal
 -- the tree of tokens of a text that has so many bytes
 abbrev pub tree_of : ℕ → Result (List Lexeme) Refusal → Result Tree Refusal
 tree_of end (Err refusal) = Err refusal
-tree_of end (Ok tokens) = value_of (tree (record { tokens = tokens; end = end }))
+tree_of end (Ok tokens) = value_of (tree max_levels (record { tokens = tokens; end = end }))
 
 -- The tree of a text, or the first refusal: that of its first faulty token, and else that of its grammar.
 abbrev pub parsed : List ℕ → Result Tree Refusal

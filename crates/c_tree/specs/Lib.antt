@@ -10,3 +10,8 @@ pub mod Many
 pub mod Stmt
 pub mod NestsStmt
 pub mod Item
+pub mod Sequence
+pub mod GrammarSimple
+pub mod GrammarStmt
+pub mod GrammarItem
+pub mod Refused

@@ -28,7 +28,7 @@ const MAX_LEVELS: u32 = 64;
 
 #[tactic(auto, unfolding(crate::specs::Item::body))]
 fn body(alloc: Global, tokens: &mut Tokens<'_, '_>) -> Result<Block, Stop>
-    ensures { Reads (spec.body tokens.old) result tokens.new }
+    ensures { Reads (spec.body spec.max_levels tokens.old) result tokens.new }
 {
     Statements {
         alloc,
@@ -164,7 +164,7 @@ fn error_fn(alloc: Global, tokens: &mut Tokens<'_, '_>) -> Result<Untyped, Stop>
 
 #[tactic(auto, unfolding(crate::specs::Item::main_fn))]
 fn main_fn(alloc: Global, tokens: &mut Tokens<'_, '_>) -> Result<Mainfn, Stop>
-    ensures { Reads (spec.main_fn tokens.old) result tokens.new }
+    ensures { Reads (spec.main_fn spec.max_levels tokens.old) result tokens.new }
 {
     let from = tokens.take();
     tokens.expect(Term::LeftParen)?;
@@ -207,7 +207,7 @@ fn parameter(alloc: Global, tokens: &mut Tokens<'_, '_>) -> Result<(), Stop>
 
 #[tactic(auto, unfolding(crate::specs::Item::thread_fn))]
 fn thread_fn(alloc: Global, tokens: &mut Tokens<'_, '_>) -> Result<Threadfn, Stop>
-    ensures { Reads (spec.thread_fn tokens.old) result tokens.new }
+    ensures { Reads (spec.thread_fn spec.max_levels tokens.old) result tokens.new }
 {
     let name = name(alloc, tokens)?;
     parameter(alloc, tokens)?;
@@ -254,7 +254,7 @@ fn profile_proto(alloc: Global, tokens: &mut Tokens<'_, '_>) -> Result<Proto, St
 
 #[tactic(auto, unfolding(crate::specs::Item::typed))]
 fn typed(alloc: Global, tokens: &mut Tokens<'_, '_>) -> Result<Typed, Stop>
-    ensures { Reads (spec.typed tokens.old) result tokens.new }
+    ensures { Reads (spec.typed spec.max_levels tokens.old) result tokens.new }
 {
     match tokens.peek() {
         Term::Name => Ok(Typed::Globals(globals(alloc, tokens)?)),
@@ -265,7 +265,7 @@ fn typed(alloc: Global, tokens: &mut Tokens<'_, '_>) -> Result<Typed, Stop>
 
 #[tactic(auto, unfolding(crate::specs::Item::untyped))]
 fn untyped(alloc: Global, tokens: &mut Tokens<'_, '_>) -> Result<Untyped, Stop>
-    ensures { Reads (spec.untyped tokens.old) result tokens.new }
+    ensures { Reads (spec.untyped spec.max_levels tokens.old) result tokens.new }
 {
     match tokens.peek() {
         Term::Star => {
@@ -279,7 +279,7 @@ fn untyped(alloc: Global, tokens: &mut Tokens<'_, '_>) -> Result<Untyped, Stop>
 
 #[tactic(auto, unfolding(crate::specs::Item::typed_body))]
 fn typed_body(alloc: Global, tokens: &mut Tokens<'_, '_>) -> Result<Body, Stop>
-    ensures { Reads (spec.typed_body tokens.old) result tokens.new }
+    ensures { Reads (spec.typed_body spec.max_levels tokens.old) result tokens.new }
 {
     let kind = itype(tokens)?;
     Ok(Body::Typed(kind, typed(alloc, tokens)?))
@@ -287,7 +287,7 @@ fn typed_body(alloc: Global, tokens: &mut Tokens<'_, '_>) -> Result<Body, Stop>
 
 #[tactic(auto, unfolding(crate::specs::Item::void_body))]
 fn void_body(alloc: Global, tokens: &mut Tokens<'_, '_>) -> Result<Body, Stop>
-    ensures { Reads (spec.void_body tokens.old) result tokens.new }
+    ensures { Reads (spec.void_body spec.max_levels tokens.old) result tokens.new }
 {
     let from = tokens.take();
     Ok(Body::Void(from, untyped(alloc, tokens)?))
@@ -295,7 +295,7 @@ fn void_body(alloc: Global, tokens: &mut Tokens<'_, '_>) -> Result<Body, Stop>
 
 #[tactic(auto, unfolding(crate::specs::Item::item_body))]
 fn item_body(alloc: Global, tokens: &mut Tokens<'_, '_>) -> Result<Body, Stop>
-    ensures { Reads (spec.item_body tokens.old) result tokens.new }
+    ensures { Reads (spec.item_body spec.max_levels tokens.old) result tokens.new }
 {
     match tokens.peek() {
         Term::Int | Term::Long => typed_body(alloc, tokens),
@@ -308,7 +308,7 @@ fn item_body(alloc: Global, tokens: &mut Tokens<'_, '_>) -> Result<Body, Stop>
 
 #[tactic(auto, unfolding(crate::specs::Item::item))]
 fn item(alloc: Global, tokens: &mut Tokens<'_, '_>) -> Result<Item, Stop>
-    ensures { Reads (spec.item tokens.old) result tokens.new }
+    ensures { Reads (spec.item spec.max_levels tokens.old) result tokens.new }
 {
     let from = tokens.place();
     let quals = quals(alloc, tokens)?;
@@ -317,7 +317,7 @@ fn item(alloc: Global, tokens: &mut Tokens<'_, '_>) -> Result<Item, Stop>
 }
 
 fn items(alloc: Global, tokens: &mut Tokens<'_, '_>) -> Result<Items<Item>, Stop>
-    ensures { Reads (many Term.End spec.item tokens.old) result tokens.new }
+    ensures { Reads (many Term.End (spec.item spec.max_levels) tokens.old) result tokens.new }
 {
     let mut all = Items::new(alloc);
     'items: while !tokens.sees(Term::End) {
@@ -329,7 +329,7 @@ fn items(alloc: Global, tokens: &mut Tokens<'_, '_>) -> Result<Items<Item>, Stop
 
 #[tactic(auto, unfolding(crate::specs::Item::tree))]
 pub fn tree(alloc: Global, tokens: &mut Tokens<'_, '_>) -> Result<Tree, Stop>
-    ensures { Reads (spec.tree tokens.old) result tokens.new }
+    ensures { Reads (spec.tree spec.max_levels tokens.old) result tokens.new }
 {
     Ok(Tree {
         items: items(alloc, tokens)?,

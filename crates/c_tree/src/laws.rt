@@ -1,11 +1,16 @@
-//! What the grammar of expressions says, and that reading gives just that.
+//! What the grammar says, and that reading gives just that.
 
-ghost use Rattle.std.specs.Prelude.{◌≡◌, ◌<◌, ℕ, List, Ok};
-ghost use Rattle.c_lex.specs.Tokens.{Lexeme};
+ghost use Rattle.std.specs.Prelude.{◌≡◌, ◌<◌, ℕ, List, Ok, Err, length};
+ghost use Rattle.c_lex.specs.Tokens.{Lexeme, lexed};
 ghost use Rattle.c_tree.specs.Expr as spec;
 ghost use Rattle.c_tree.specs.Grammar.{IsExpr, binds};
+ghost use Rattle.c_tree.specs.GrammarItem.{IsTree, IsTreeOf};
 ghost use Rattle.c_tree.specs.Input.{Input, term_at};
+ghost use Rattle.c_tree.specs.Item.{parsed};
+ghost use Rattle.c_tree.specs.Refused.{IsRefusedWith};
 ghost use Rattle.c_tree.specs.declared.expr.Expr.{Expr};
+ghost use Rattle.c_tree.specs.declared.item.Tree.{Tree};
+ghost use Rattle.thr_base.specs.declared.stops.Refusal.{Refusal};
 
 /// An expression is read exactly where the tokens stand for one within the levels that are left, and they stand for
 /// no two.
@@ -17,4 +22,20 @@ pub fn expressions_are_read_exactly()
         → spec.expr levels (record { tokens = ts; end = end }) ≡ Ok (e, record { tokens = rest; end = end }) }
     // No other expression stands there.
     ensures one { (levels : ℕ) (e f : Expr) (ts rest : List Lexeme) → IsExpr levels e ts rest → IsExpr levels f ts rest → binds (term_at rest) < 1 → e ≡ f }
+{}
+
+/// A text has the tree that is read exactly where its tokens, all of them, stand for it; and they stand for no two.
+pub fn trees_are_read_exactly()
+    // The text has tokens, and they stand for what is read.
+    ensures found { (text : List ℕ) (t : Tree) → parsed text ≡ Ok t → IsTreeOf text t }
+    // What they stand for is read.
+    ensures only { (text : List ℕ) (t : Tree) → IsTreeOf text t → parsed text ≡ Ok t }
+    // Tokens stand for no other tree.
+    ensures one { (tokens : List Lexeme) (t u : Tree) → IsTree t tokens → IsTree u tokens → t ≡ u }
+{}
+
+/// What is refused is a token with which no tree goes on behind those in front of it, or the end of the text: none with
+/// however many levels, or where a level too many is refused, none within the levels of the profile.
+pub fn no_tree_goes_on_where_a_text_is_refused()
+    ensures { (text : List ℕ) (tokens : List Lexeme) (d : Refusal) → lexed text ≡ Ok tokens → parsed text ≡ Err d → IsRefusedWith (length text) tokens d }
 {}

@@ -26,7 +26,9 @@ pub use item::{
     Body, Errfn, Globals, Gname, Item, Locks, Mainfn, Mname, Proto, Start, Threadfn, Tree, Typed,
     Untyped,
 };
-pub use laws::expressions_are_read_exactly;
+pub use laws::{
+    expressions_are_read_exactly, no_tree_goes_on_where_a_text_is_refused, trees_are_read_exactly,
+};
 pub use reader::parse;
 pub use simple::{
     Assign, Call, Cond, Handles, Itype, Lname, Local, Nil, Nondet, Qual, QualKind, Right,

@@ -1,8 +1,10 @@
 //! Reads a text: its tokens, and then its tree.
 
-ghost use Rattle.std.specs.Prelude.{◌≤◌, length};
+ghost use Rattle.std.specs.Prelude.{◌≤◌, length, IfOk};
 ghost use Rattle.c_lex.specs.Tokens.{views, Gives};
-ghost use Rattle.c_tree.specs.Item.{parsed, tree, value_of};
+ghost use Rattle.c_tree.specs.GrammarItem.{IsTreeOf};
+ghost use Rattle.c_tree.specs.Item.{max_levels, parsed, tree, value_of};
+ghost use Rattle.c_tree.specs.Refused.{IsRefusedBy};
 
 use crate::item::Tree;
 use crate::items;
@@ -12,7 +14,7 @@ use std::alloc::Global;
 use thr_base::Stop;
 
 fn tree_of(alloc: Global, tokens: &[Token<'_>], end: u32) -> Result<Tree, Stop>
-    ensures { Gives (λ t. t) result (value_of (tree (record { tokens = views tokens.now; end = end }))) }
+    ensures { Gives (λ t. t) result (value_of (tree max_levels (record { tokens = views tokens.now; end = end }))) }
 {
     let mut left = Tokens::new(tokens, end);
     items::tree(alloc, &mut left)
@@ -24,6 +26,8 @@ fn tree_of(alloc: Global, tokens: &[Token<'_>], end: u32) -> Result<Tree, Stop>
 pub fn parse(alloc: Global, text: &str) -> Result<Tree, Stop>
     requires { length text.now ≤ TEXT_LIMIT }
     ensures exact { Gives (λ t. t) result (parsed text.now) }
+    ensures tree { IfOk result (λ t. IsTreeOf text.now t) }
+    ensures refused { IsRefusedBy text.now result }
 {
     let end = text.len() as u32;
     match lex(alloc, text) {
