@@ -3,6 +3,7 @@ pub mod PointColumns
 pub mod PointBounds
 pub mod PointStages
 pub mod Stages
+pub mod Firsts
 pub mod Combinations
 pub mod GivenLines
 pub mod ConstantTests

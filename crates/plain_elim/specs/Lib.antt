@@ -1,5 +1,6 @@
 pub mod Decision
 pub mod Held
 pub mod PointParts
+pub mod LineParts
 pub mod Combined
 pub mod Stages

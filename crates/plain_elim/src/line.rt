@@ -1,5 +1,5 @@
 ghost use Rattle.std.specs.Prelude.{◌≡◌, ◌<◌, length, pos, int_lt, get_or};
-ghost use Rattle.std.specs.List.{AllByRecursion};
+ghost use Rattle.std.specs.List.{AllByRecursion, position_or_len};
 ghost use Rattle.thr_base.specs.Number.{Fits};
 ghost use Rattle.farkas_cert.specs.Line as specs;
 
@@ -9,19 +9,20 @@ use std::marker::Model;
 #[derive(Debug, Drop)]
 pub struct Line {
     equal: bool,
+    /// The place of the first number that is not 0, so that no one looks for it again.
+    first: usize,
     numbers: Vec<i128>,
 }
 
 impl Model for Line {
-    ghost use Rattle.std.specs.List.{AllByRecursion};
-    ghost use Rattle.thr_base.specs.Number.{Fits};
     ghost use Rattle.farkas_cert.specs.Line as lines;
+    ghost use Rattle.plain_elim.specs.LineParts.{IsHeld};
 
     ghost Value = { lines.Line };
 
     ghost view = { λ inside. record { equal = inside.equal; numbers = inside.numbers.items } };
 
-    ghost invariant = { λ inside. AllByRecursion Fits inside.numbers.items };
+    ghost invariant = { λ inside. IsHeld inside.first inside.numbers.items };
 }
 
 /// The number at a place, or 0 past the end.
@@ -37,12 +38,26 @@ pub fn is_nonzero(number: i128) -> bool
     number != 0
 }
 
+/// The place of the first number that is not 0, or their count.
+fn first_nonzero(numbers: &[i128]) -> usize
+    ensures { result ≡ position_or_len specs.is_nonzero numbers.now }
+{
+    numbers
+        .iter()
+        .take_while(|number| !is_nonzero(**number))
+        .count()
+}
+
 impl Line {
     pub fn of(equal: bool, numbers: Vec<i128>) -> Line
         requires { AllByRecursion Fits numbers.items }
         ensures { result ≡ record { equal = equal; numbers = numbers.items } }
     {
-        Line { equal, numbers }
+        Line {
+            equal,
+            first: first_nonzero(numbers.as_slice()),
+            numbers,
+        }
     }
 
     pub fn is_equality(&self) -> bool
@@ -100,26 +115,17 @@ impl Line {
         &self.numbers.as_slice()[columns as usize + 1..]
     }
 
-    #[tactic(auto, unfolding(farkas_cert::specs::Line::has_variable))]
     pub fn has_variable(&self, columns: u32) -> bool
         ensures { result ≡ specs.has_variable columns self.now }
     {
-        self.numbers
-            .iter()
-            .take(columns as usize)
-            .any(|number| is_nonzero(*number))
+        self.first < self.numbers.len().min(columns as usize)
     }
 
-    #[tactic(auto, unfolding(farkas_cert::specs::Line::lowest_column))]
     /// The first column with a coefficient, or the number of columns where there is none.
     pub fn lowest_column(&self, columns: u32) -> u32
         ensures { result ≡ specs.lowest_column columns self.now }
     {
-        self.numbers
-            .iter()
-            .take(columns as usize)
-            .take_while(|number| !is_nonzero(**number))
-            .count() as u32
+        self.first.min(columns as usize) as u32
     }
 
     #[tactic(auto, unfolding(farkas_cert::specs::Line::is_false))]
