@@ -7,3 +7,4 @@ pub mod InitialRows
 pub mod NextValues
 pub mod StepRows
 pub mod WorkedProgram
+pub mod AtomTexts

@@ -1,6 +1,7 @@
 pub mod Program
 pub mod Step
 pub mod Rows
+pub mod AtomText
 pub mod Stored
 pub mod Laws
 pub mod Worked

@@ -2,6 +2,7 @@
 //! the rows of initial states hold at exactly these states, and the rows of an edge at exactly the steps by it.
 #![tactic(auto)]
 
+mod atom_text;
 mod blocks;
 mod edges;
 mod graph;
@@ -9,6 +10,7 @@ mod initial;
 mod laws;
 mod program;
 
+pub use atom_text::push_atom;
 pub use edges::edge_rows;
 pub use graph::{Column, Edge, Line, ThreadGraph};
 pub use initial::init_rows;

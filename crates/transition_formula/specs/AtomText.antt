@@ -1,0 +1,38 @@
+-- The one text of an atom: its terms by rising column, the columns before a step in front of those after it, and its bound.
+use Rattle.std.specs.Prelude.{ℕ, ◌==◌, ℤ, pos, negsuc, unsigned_abs, Bool, true, false, ◌&&◌, if◌then◌else◌, List, [], ◌∷◌, ◌++◌, map, length, ◌+◌, codes}
+use Rattle.thr_base.specs.Number.{number_text}
+use Rattle.lin_rows.specs.Row.{Row}
+use Rattle.transition_formula.specs.Program.{Column}
+
+-- the texts of the columns, and behind them those of the columns after a step
+abbrev pub column_texts : List Column → List (List ℕ)
+column_texts columns = map (λ column. column.text) columns ++ map (λ column. column.text ++ codes "'") columns
+
+-- how many columns an atom is over: those of a state, or those before and after a step
+abbrev pub atom_width : List Column → Bool → ℕ
+atom_width columns env = if env then length columns + length columns else length columns
+
+-- what stands in front of the first term or a later one, by the sign of its coefficient
+abbrev pub joint : Bool → ℤ → List ℕ
+joint true (pos n) = []
+joint true (negsuc n) = codes "-"
+joint false (pos n) = codes " + "
+joint false (negsuc n) = codes " - "
+
+-- the size of a coefficient; 1 is left out
+abbrev pub factor : ℕ → List ℕ
+factor size = if size == 1 then [] else number_text (pos size) ++ codes "*"
+
+-- the term of a column; there is none where the coefficient is 0
+abbrev pub term_text : Bool → ℤ → List ℕ → List ℕ
+term_text first k text = if unsigned_abs k == 0 then [] else joint first k ++ (factor (unsigned_abs k) ++ text)
+
+-- the terms of columns, of which the first that there is may be the first of all
+abbrev pub terms_text : Bool → List ℤ → List (List ℕ) → List ℕ
+terms_text first [] texts = []
+terms_text first (k ∷ ks) [] = []
+terms_text first (k ∷ ks) (text ∷ texts) = term_text first k text ++ terms_text (first && (unsigned_abs k == 0)) ks texts
+
+-- the text of an atom
+abbrev pub atom_text : List Column → Row → List ℕ
+atom_text columns atom = terms_text true atom.coefficients (column_texts columns) ++ (codes " <= " ++ number_text atom.bound)
