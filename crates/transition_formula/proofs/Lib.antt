@@ -8,3 +8,5 @@ pub mod NextValues
 pub mod StepRows
 pub mod WorkedProgram
 pub mod AtomTexts
+pub mod Words
+pub mod Terms
