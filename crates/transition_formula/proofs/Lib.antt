@@ -10,3 +10,5 @@ pub mod WorkedProgram
 pub mod AtomTexts
 pub mod Words
 pub mod Terms
+pub mod ColumnTexts
+pub mod ReadTerms

@@ -1,6 +1,7 @@
 ghost use Rattle.std.specs.Prelude.{◌≡◌, ◌==◌, ◌&&◌, ◌<◌, ◌≤◌, ◌+◌, ◌++◌, ℕ, List, pos, unsigned_abs, true, Some, length, slice_get, OnOk};
 ghost use Rattle.std.specs.List.{AllByRecursion};
 ghost use Rattle.thr_base.specs.Number.{Fits};
+ghost use Rattle.transition_formula.specs.Program.{IsProgram};
 ghost use Rattle.transition_formula.specs.AtomText.{atom_text, atom_width, column_texts, factor, joint, term_text, terms_text};
 
 use crate::program::Program;
@@ -41,9 +42,10 @@ fn push_factor(out: &mut Vec<u8>, coefficient: i128) -> Result<(), AllocError>
 }
 
 /// Appends the text of a column; behind those of a state come those after a step.
-fn push_column(out: &mut Vec<u8>, program: &Program, column: usize) -> Result<(), AllocError>
+pub(crate) fn push_column(out: &mut Vec<u8>, program: &Program, column: usize) -> Result<(), AllocError>
     requires { column < length program.now.columns + length program.now.columns }
-    ensures { OnOk result ((text : List ℕ) → slice_get (column_texts program.now.columns) column ≡ Some text → out.new.items ≡ out.old.items ++ text) }
+    ensures text { OnOk result ((text : List ℕ) → slice_get (column_texts program.now.columns) column ≡ Some text → out.new.items ≡ out.old.items ++ text) }
+    ensures program { IsProgram program.now }
 {
     let columns = program.columns() as usize;
     if column < columns {
@@ -74,7 +76,7 @@ fn push_term(
 }
 
 /// Whether the next term is the first one.
-fn stays_first(first: bool, coefficient: i128) -> bool
+pub(crate) fn stays_first(first: bool, coefficient: i128) -> bool
     ensures { result ≡ (first && (unsigned_abs coefficient == 0)) }
 {
     first && coefficient == 0

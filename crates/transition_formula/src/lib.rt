@@ -9,6 +9,7 @@ mod graph;
 mod initial;
 mod laws;
 mod program;
+mod read_atom;
 mod read_term;
 
 pub use atom_text::push_atom;
