@@ -1,10 +1,10 @@
 -- The texts of columns are words that differ.
-use Rattle.std.proofs.Common.{◌≡◌, ◌≢◌, ℕ, zero, suc, ◌+◌, ◌-◌, ◌<◌, ◌≤◌, Bool, true, false, ◌&&◌, List, [], ◌∷◌, ◌++◌, length, get_or, map, refl, sym, ap, ◌∙◌, arith, inl, inr, ◌⊎◌, length-append}
+use Rattle.std.proofs.Common.{◌≡◌, ◌≢◌, ℕ, ◌+◌, ◌-◌, ◌<◌, ◌≤◌, Bool, true, false, ◌&&◌, List, [], ◌∷◌, ◌++◌, length, get_or, map, refl, sym, ap, ◌∙◌, arith, inl, inr, ◌⊎◌, length-append}
 use Rattle.std.specs.List.{AllByRecursion, AllPairs, list_all}
 use Rattle.std.proofs.Math.ListN.{get_or-append}
 use Rattle.std.proofs.lemmas.Bool.Decides.{leb_tells}
 use Rattle.std.proofs.lemmas.List.{length-map, get_or-map, get_or-append_right, append_cancel_right}
-use Rattle.lin_rows.proofs.Lists.{AllByRecursion-append, AllByRecursion-weaken, AllByRecursion-map, AllByRecursion-at}
+use Rattle.lin_rows.proofs.Lists.{AllByRecursion-append, AllByRecursion-map, AllByRecursion-at}
 use Rattle.transition_formula.specs.Program.{Column, IsColumnText, IsProgram, is_text_byte, Program}
 use Rattle.transition_formula.specs.AtomText.{column_texts}
 use Rattle.transition_formula.specs.AtomReading.{IsPlain, IsWord}
@@ -22,6 +22,7 @@ each-from_list_all p P gives (x ∷ xs) all = (gives x (both_true-left (p x) (li
     both_true-left : (a b : Bool) → (a && b) ≡ true → a ≡ true
     both_true-left true b e = refl
     both_true-left false b e = e
+
     both_true-right : (a b : Bool) → (a && b) ≡ true → b ≡ true
     both_true-right true b e = e
     both_true-right false b e = cc
@@ -57,7 +58,7 @@ column_texts-words program is =
     let texts = texts_of program.columns in
     let words : AllByRecursion IsWord texts = AllByRecursion-map (λ (column : Column). IsColumnText column.text) IsWord (λ (column : Column). column.text) (λ column word. IsWord-column column.text word) program.columns is.texts_are in
     rw (column_texts-are program.columns) (AllByRecursion-append IsWord texts (afters_of texts) words
-      (AllByRecursion-map IsWord IsWord (λ (text : List ℕ). text ++ (39 ∷ [])) IsWord-after texts words))
+    (AllByRecursion-map IsWord IsWord (λ (text : List ℕ). text ++ (39 ∷ [])) IsWord-after texts words))
 
 -- a text with a quote at its end is none without
 quote-at_end : (xs ys : List ℕ) → AllByRecursion (λ b. b ≢ 39) xs → xs ≢ ys ++ (39 ∷ [])
@@ -79,11 +80,13 @@ texts-apart : (texts : List (List ℕ)) → AllPairs (λ a b. a ≢ b) texts →
     → (i j : ℕ) → i < j → j < length texts + length texts
     → get_or (texts ++ afters_of texts) j [] ≢ get_or (texts ++ afters_of texts) i []
 texts-apart texts differ plain i j below within same = elim (lt_or_ge j (length texts)) [
-    inl j_in ↦ differ i j [] below j_in (sym (sym (text-at texts j j_in) ∙ same ∙ text-at texts i (omega arith)))
+  | inl j_in ↦ differ i j [] below j_in (sym (sym (text-at texts j j_in) ∙ same ∙ text-at texts i (omega arith)))
   | inr j_out ↦ elim (lt_or_ge i (length texts)) [
-        inl i_in ↦ quote-at_end (get_or texts i []) (get_or texts (j - length texts) []) (AllByRecursion-at (λ text. AllByRecursion (λ b. b ≢ 39) text) texts i [] plain i_in) (sym (text-at texts i i_in) ∙ sym same ∙ text-at_after texts j j_out within)
-      | inr i_out ↦ differ (i - length texts) (j - length texts) [] (omega arith) (omega arith)
-          (append_cancel_right (get_or texts (i - length texts) []) (get_or texts (j - length texts) []) (39 ∷ []) (sym (text-at_after texts i i_out (omega arith)) ∙ sym same ∙ text-at_after texts j j_out within)) ] ]
+    | inl i_in ↦ quote-at_end (get_or texts i []) (get_or texts (j - length texts) []) (AllByRecursion-at (λ text. AllByRecursion (λ b. b ≢ 39) text) texts i [] plain i_in) (sym (text-at texts i i_in) ∙ sym same ∙ text-at_after texts j j_out within)
+    | inr i_out ↦ differ (i - length texts) (j - length texts) [] (omega arith) (omega arith)
+        (append_cancel_right (get_or texts (i - length texts) []) (get_or texts (j - length texts) []) (39 ∷ []) (sym (text-at_after texts i i_out (omega arith)) ∙ sym same ∙ text-at_after texts j j_out within))
+  ]
+]
   where
     lt_or_ge : (a b : ℕ) → (a < b) ⊎ (b ≤ a)
     lt_or_ge a b = elim (leb_tells b a) [ inl p ↦ inr p.1 | inr p ↦ inl p.1 ]

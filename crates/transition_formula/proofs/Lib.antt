@@ -12,3 +12,4 @@ pub mod Words
 pub mod Terms
 pub mod ColumnTexts
 pub mod ReadTerms
+pub mod NormalAtoms

@@ -1,5 +1,5 @@
 -- The terms of an atom are read column by column.
-use Rattle.std.proofs.Common.{◌≡◌, ◌≢◌, ◌==◌, ◌&&◌, ℕ, zero, suc, ◌+◌, ◌-◌, ◌<◌, ◌≤◌, ℤ, pos, negsuc, unsigned_abs, Bool, true, false, List, [], ◌∷◌, ◌++◌, length, take, drop, get_or, codes, refl, sym, ap, ◌∙◌, subst, arith, append_assoc, inl, inr, ◌⊎◌, length-append}
+use Rattle.std.proofs.Common.{◌≡◌, ◌≢◌, ◌==◌, ◌&&◌, ℕ, suc, ◌+◌, ◌<◌, ◌≤◌, ℤ, pos, negsuc, unsigned_abs, Bool, true, false, List, [], ◌∷◌, ◌++◌, length, take, drop, get_or, codes, refl, sym, ap, ◌∙◌, arith, append_assoc, inl, inr, ◌⊎◌, length-append}
 use Rattle.std.specs.List.{AllByRecursion}
 use Rattle.std.proofs.Math.Seq.{drop-append_seam, drop-length, take-length}
 use Rattle.std.proofs.lemmas.Bool.Decides.{eqb_tells}
@@ -39,12 +39,13 @@ pub later-blank : (ks : List ℤ) (texts : List (List ℕ)) (bound : List ℕ) �
 later-blank [] texts bound = (_, refl)
 later-blank (k ∷ ks) [] bound = (_, refl)
 later-blank (k ∷ ks) (text ∷ texts) bound = elim (zero_or_not k) [
-    inl p ↦
+  | inl p ↦
       (let rest = later-blank ks texts bound in
       (rest.0, rw (term_text-none false k text p) rest.1))
   | inr p ↦
       (let rest = later_joint-blank k ((factor (unsigned_abs k) ++ text) ++ (terms_text false ks texts ++ (codes " <= " ++ bound))) in
-      (rest.0, rw (term_text-some false k text p, append_assoc, append_assoc) rest.1)) ]
+      (rest.0, rw (term_text-some false k text p, append_assoc, append_assoc) rest.1))
+]
 
 -- What comes: the bound, or a term of a column of these.
 pub data Next (first : Bool) (P : List ℕ → Type 0) (bound text : List ℕ) : Type 0 where
@@ -66,8 +67,9 @@ pub next-of : (first : Bool) (P : List ℕ → Type 0) (ks : List ℤ) (texts : 
 next-of first P [] texts bound fit all = AtBound refl
 next-of first P (k ∷ ks) [] bound fit all = AtBound refl
 next-of first P (k ∷ ks) (name ∷ texts) bound fit all = elim (zero_or_not k) [
-    inl p ↦ next-none first P k ks name texts bound p (next-of first P ks texts bound fit.1 all.1)
-  | inr p ↦ next-term first P k ks name texts bound p fit.0 all.0 ]
+  | inl p ↦ next-none first P k ks name texts bound p (next-of first P ks texts bound fit.1 all.1)
+  | inr p ↦ next-term first P k ks name texts bound p fit.0 all.0
+]
 
 -- What the reader of a term says of a text.
 pub record ReadsTerm (first : Bool) (name text : List ℕ) (k : ℤ) (len : ℕ) : Type 0 where
@@ -90,7 +92,7 @@ reads-first : (first : Bool) (name bound text : List ℕ) (k z : ℤ) (len : ℕ
     → text ≡ term_text first z name ++ (terms_text (first && (unsigned_abs z == 0)) ks texts ++ (codes " <= " ++ bound))
     → (k ≡ z) × (len ≡ length (term_text first z name))
 reads-first first name bound text k z len ks texts reads z_fits fit others is = elim (zero_or_not z) [
-    inl p ↦
+  | inl p ↦
       (let none = term_text-none first z name p in
       let rest : text ≡ terms_text first ks texts ++ (codes " <= " ++ bound) = rw (none, after_none first z p) at is in
       let found = reads-next first name bound text k len reads (rw rest (next-of first (IsOther name) ks texts bound fit others)) in
@@ -98,7 +100,8 @@ reads-first first name bound text k z len ks texts reads z_fits fit others is = 
   | inr p ↦
       (let blank = later-blank ks texts bound in
       let rest : text ≡ term_text first z name ++ (32 ∷ blank.0) = rw (after_some first z p, blank.1) at is in
-      reads.read z blank.0 p z_fits rest) ]
+      reads.read z blank.0 p z_fits rest)
+]
 
 -- What is read of the first columns: the text goes on with the terms of the others.
 pub record ReadSoFar (texts : List (List ℕ)) (width : ℕ) (text : List ℕ) (column place : ℕ) (first : Bool) (read : List ℤ) : Type 0 where

@@ -1,5 +1,5 @@
 -- A term taken apart: its sign, its size and the text of its column.
-use Rattle.std.proofs.Common.{◌≡◌, ◌≢◌, ◌==◌, ℕ, zero, suc, ◌+◌, ◌-◌, ◌<◌, ◌≤◌, ℤ, pos, negsuc, Bool, true, false, List, [], ◌∷◌, ◌++◌, length, take, drop, unsigned_abs, refl, sym, ap, ◌∙◌, arith, append_assoc, inl, inr, ◌⊎◌, length-append}
+use Rattle.std.proofs.Common.{◌≡◌, ◌≢◌, ℕ, ◌+◌, ◌<◌, ℤ, pos, negsuc, Bool, List, [], ◌∷◌, ◌++◌, length, take, drop, unsigned_abs, refl, ap, ◌∙◌, arith, append_assoc, inl, inr, length-append}
 use Rattle.std.specs.List.{AllByRecursion}
 use Rattle.std.proofs.lemmas.Bool.Decides.{eqb_tells}
 use Rattle.std.proofs.Math.Seq.{take-append_seam, drop-append_seam}
@@ -26,8 +26,9 @@ term_text-none first k name e = rw e refl
 -- a number with its star, and then a word: no blank, and no `-` at its front
 factored-no_blanks : (n : ℕ) (name : List ℕ) → Fits (pos n) → IsWord name → AllByRecursion (λ b. b ≢ 32) (factor n ++ name)
 factored-no_blanks n name fits is = elim (eqb_tells n 1) [
-    inl p ↦ rw (factor-one n p.1) (no_blanks name is.bytes)
-  | inr p ↦ rw (factor-more n p.1, append_assoc) (AllByRecursion-append (λ b. b ≢ 32) (number_text (pos n)) (42 ∷ name) (no_blanks (number_text (pos n)) (number_text-plain n fits)) (λ e. omega arith, no_blanks name is.bytes)) ]
+  | inl p ↦ rw (factor-one n p.1) (no_blanks name is.bytes)
+  | inr p ↦ rw (factor-more n p.1, append_assoc) (AllByRecursion-append (λ b. b ≢ 32) (number_text (pos n)) (42 ∷ name) (no_blanks (number_text (pos n)) (number_text-plain n fits)) (λ e. omega arith, no_blanks name is.bytes))
+]
 
 no_minus-front : (xs ys : List ℕ) → AllByRecursion IsPlain xs → HasNoMinus ys → HasNoMinus (xs ++ ys)
 no_minus-front [] ys plain rest = rest
@@ -41,8 +42,9 @@ blank_no_minus rest e = omega arith
 
 factored-no_minus : (n : ℕ) (name rest : List ℕ) → Fits (pos n) → IsWord name → HasNoMinus ((factor n ++ name) ++ (32 ∷ rest))
 factored-no_minus n name rest fits is = elim (eqb_tells n 1) [
-    inl p ↦ rw (factor-one n p.1) (no_minus-front name (32 ∷ rest) is.bytes (blank_no_minus rest))
-  | inr p ↦ rw (factor-more n p.1, append_assoc, append_assoc) (no_minus-front (number_text (pos n)) (42 ∷ (name ++ (32 ∷ rest))) (number_text-plain n fits) (star_no_minus (name ++ (32 ∷ rest)))) ]
+  | inl p ↦ rw (factor-one n p.1) (no_minus-front name (32 ∷ rest) is.bytes (blank_no_minus rest))
+  | inr p ↦ rw (factor-more n p.1, append_assoc, append_assoc) (no_minus-front (number_text (pos n)) (42 ∷ (name ++ (32 ∷ rest))) (number_text-plain n fits) (star_no_minus (name ++ (32 ∷ rest))))
+]
 
 -- what the reader finds of a term
 pub record Parts (first : Bool) (k : ℤ) (name : List ℕ) (negative : Bool) (size : ℤ) (found : List ℕ) (end : ℕ) : Type 0 where

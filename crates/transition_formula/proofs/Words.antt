@@ -1,15 +1,15 @@
 -- Words: what stands in front of a mark, and the texts of terms taken apart.
-use Rattle.std.proofs.Common.{◌≡◌, ◌≢◌, ◌==◌, ℕ, zero, suc, ◌+◌, ◌-◌, ◌<◌, ◌≤◌, ◌^◌, ℤ, pos, negsuc, Bool, true, false, List, [], ◌∷◌, ◌++◌, length, take, drop, get_or, map, unsigned_abs, Option, Some, None, refl, sym, ap, ◌∙◌, subst, arith, append_assoc, cond, inl, inr, ◌⊎◌, length-append}
+use Rattle.std.proofs.Common.{◌≡◌, ◌≢◌, ◌==◌, ℕ, zero, suc, ◌+◌, ◌<◌, ℤ, pos, List, [], ◌∷◌, ◌++◌, length, take, drop, get_or, Some, None, refl, sym, ap, ◌∙◌, arith, append_assoc, inl, inr, ◌⊎◌, length-append}
 use Rattle.std.specs.List.{AllByRecursion, position, position_from}
 use Rattle.std.specs.Char.{IsAsciiDigit}
 use Rattle.std.proofs.lemmas.Iterator.Adapters.{position_from-zero}
 use Rattle.std.proofs.lemmas.Bool.Decides.{eqb_tells}
-use Rattle.std.proofs.Math.Seq.{take-append_seam, drop-append_seam}
+use Rattle.std.proofs.Math.Seq.{take-append_seam}
 use Rattle.thr_base.specs.Number.{Fits, number_text}
 use Rattle.thr_base.proofs.Numbers.{IsTextOf-number_text}
-use Rattle.lin_rows.proofs.Lists.{AllByRecursion-append, AllByRecursion-weaken}
-use Rattle.transition_formula.specs.AtomText.{factor, joint, term_text}
-use Rattle.transition_formula.specs.AtomReading.{IsPlain, IsWord, HasNoMinus, is_negative}
+use Rattle.lin_rows.proofs.Lists.{AllByRecursion-weaken}
+use Rattle.transition_formula.specs.AtomText.{factor}
+use Rattle.transition_formula.specs.AtomReading.{IsPlain, IsWord}
 
 position_from-step : (mark i b : ℕ) (xs : List ℕ) → b ≢ mark → position_from (λ c. c == mark) i (b ∷ xs) ≡ position_from (λ c. c == mark) (i + 1) xs
 position_from-step mark i b xs other = elim (eqb_tells b mark) [ inl p ↦ absurd (other p.1) | inr p ↦ rw p.0 refl ]
@@ -87,8 +87,9 @@ pub factor_at : (n : ℕ) (name word : List ℕ) (star : ℕ) → Fits (pos n) �
     → ((front rest : List ℕ) → AllByRecursion (λ b. b ≢ 42) front → word ≡ front ++ (42 ∷ rest) → star ≡ length front)
     → OneFactor n name word star ⊎ Factor n name word star
 factor_at n name word star fits is word-is unmarked marked = elim (eqb_tells n 1) [
-    inl p ↦ inl (factor_at-one n name word star p.1 is word-is unmarked)
-  | inr p ↦ inr (factor_at-more n name word star p.1 fits is word-is marked) ]
+  | inl p ↦ inl (factor_at-one n name word star p.1 is word-is unmarked)
+  | inr p ↦ inr (factor_at-more n name word star p.1 fits is word-is marked)
+]
 
 -- a star at the end means that there is none
 pub factor-at_end : (n : ℕ) (name word : List ℕ) (star : ℕ) → star ≡ length word → OneFactor n name word star ⊎ Factor n name word star → (pos 1 ≡ pos n) × (0 ≡ length (factor n))

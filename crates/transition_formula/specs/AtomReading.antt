@@ -1,7 +1,6 @@
 -- What the parts of the reader of atoms say. No public clause cites this file.
 use Rattle.std.specs.Prelude.{◌≡◌, ◌≢◌, ℕ, ◌<◌, ℤ, pos, negsuc, Bool, true, false, List, [], ◌∷◌, ◌++◌, length, codes}
 use Rattle.std.specs.List.{AllByRecursion}
-use Rattle.thr_base.specs.Number.{Fits}
 use Rattle.transition_formula.specs.AtomText.{terms_text}
 
 -- Neither a blank, a `*` nor a `-`.

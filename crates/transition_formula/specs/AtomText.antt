@@ -1,7 +1,8 @@
 -- The one text of an atom: its terms by rising column, the columns before a step in front of those after it, and its bound.
-use Rattle.std.specs.Prelude.{ℕ, ◌==◌, ℤ, pos, negsuc, unsigned_abs, Bool, true, false, ◌&&◌, if◌then◌else◌, List, [], ◌∷◌, ◌++◌, map, length, ◌+◌, codes}
+use Rattle.std.specs.Prelude.{◌≡◌, ℕ, ◌==◌, ℤ, pos, negsuc, unsigned_abs, Bool, true, false, ◌&&◌, if◌then◌else◌, List, [], ◌∷◌, ◌++◌, map, length, ◌+◌, codes}
 use Rattle.thr_base.specs.Number.{number_text}
 use Rattle.lin_rows.specs.Row.{Row}
+use Rattle.lin_rows.specs.Atom.{IsAtom}
 use Rattle.transition_formula.specs.Program.{Column}
 
 -- the texts of the columns, and behind them those of the columns after a step
@@ -36,3 +37,9 @@ terms_text first (k ∷ ks) (text ∷ texts) = term_text first k text ++ terms_t
 -- the text of an atom
 abbrev pub atom_text : List Column → Row → List ℕ
 atom_text columns atom = terms_text true atom.coefficients (column_texts columns) ++ (codes " <= " ++ number_text atom.bound)
+
+-- The text is that of this atom, which is over the columns of a state or over those before and after a step.
+pub record IsAtomText (columns : List Column) (env : Bool) (atom : Row) (text : List ℕ) : Type 0 where
+  pub atom_is : IsAtom atom
+  pub width : length atom.coefficients ≡ atom_width columns env
+  pub text_is : text ≡ atom_text columns atom

@@ -42,7 +42,11 @@ fn push_factor(out: &mut Vec<u8>, coefficient: i128) -> Result<(), AllocError>
 }
 
 /// Appends the text of a column; behind those of a state come those after a step.
-pub(crate) fn push_column(out: &mut Vec<u8>, program: &Program, column: usize) -> Result<(), AllocError>
+pub(crate) fn push_column(
+    out: &mut Vec<u8>,
+    program: &Program,
+    column: usize,
+) -> Result<(), AllocError>
     requires { column < length program.now.columns + length program.now.columns }
     ensures text { OnOk result ((text : List ℕ) → slice_get (column_texts program.now.columns) column ≡ Some text → out.new.items ≡ out.old.items ++ text) }
     ensures program { IsProgram program.now }

@@ -9,8 +9,8 @@ mod graph;
 mod initial;
 mod laws;
 mod program;
-mod read_atom;
 mod read_term;
+mod reading;
 
 pub use atom_text::push_atom;
 pub use edges::edge_rows;
@@ -18,6 +18,7 @@ pub use graph::{Column, Edge, Line, ThreadGraph};
 pub use initial::init_rows;
 pub use laws::{edge_rows_are_exact, init_rows_are_exact};
 pub use program::Program;
+pub use reading::read_atom;
 
 #[cfg(test)]
 mod tests;

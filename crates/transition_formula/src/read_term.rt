@@ -62,7 +62,11 @@ fn read_joint(text: &[u8], first: bool) -> (bool, usize)
     ensures end { (rest : List ℕ) → text.now ≡ codes " <= " ++ rest → result.1 ≡ 0 }
 {
     if first {
-        return if text.starts_with(b"-") { (true, 1) } else { (false, 0) };
+        return if text.starts_with(b"-") {
+            (true, 1)
+        } else {
+            (false, 0)
+        };
     }
     if text.starts_with(b" - ") {
         return (true, 3);

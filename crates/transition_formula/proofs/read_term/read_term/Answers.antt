@@ -1,4 +1,4 @@
-use Rattle.std.proofs.Common.{ℕ, ◌≡◌, ◌∙◌, [], length, take, drop, pos, ap, sym, arith, unsigned_abs}
+use Rattle.std.proofs.Common.{◌≡◌, ◌∙◌, [], length, take, drop, ap, sym, arith}
 use Rattle.lin_rows.proofs.Numbers.{read_back}
 use Rattle.std.proofs.lemmas.Bool.{false≢true}
 use Rattle.transition_formula.proofs.Words.{drop_none}

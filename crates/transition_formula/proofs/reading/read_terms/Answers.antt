@@ -1,4 +1,4 @@
-use Rattle.std.proofs.Common.{◌≡◌, ◌∷◌, ◌++◌, ◌==◌, ◌&&◌, unsigned_abs, ◌∙◌, sym, ◌<◌, ◌≤◌, ◌+◌, [], ℕ, length, get_or, drop, arith}
+use Rattle.std.proofs.Common.{◌≡◌, ◌∷◌, ◌++◌, ◌==◌, ◌&&◌, unsigned_abs, ◌∙◌, sym, ◌<◌, ◌≤◌, ◌+◌, [], length, get_or, drop, arith}
 use Rattle.std.proofs.lemmas.Option.{get_or_from_slice_get}
 use Rattle.std.specs.List.{AllByRecursion}
 use Rattle.lin_rows.proofs.Numbers.{read_back}
@@ -6,7 +6,7 @@ use Rattle.transition_formula.specs.AtomText.{column_texts}
 use Rattle.transition_formula.proofs.AtomTexts.{length-column_texts}
 use Rattle.transition_formula.proofs.ColumnTexts.{column_texts-words, column_texts-apart}
 use Rattle.transition_formula.proofs.ReadTerms.{ReadsTerm, IsOther, so_far-next, others-of, all-read}
-use Rattle.transition_formula.proofs.read_atom.read_terms.Goals as goal
+use Rattle.transition_formula.proofs.reading.read_terms.Goals as goal
 
 pub columns-preserved : goal.columns-preserved
 columns-preserved c =
@@ -17,7 +17,7 @@ columns-preserved c =
     let within : i < length texts = omega (arith, length-column_texts program.columns, c.requires) in
     let name-is : get_or texts i [] ≡ name = get_or_from_slice_get texts i c.put_name.new.name.items [] c.in_ok-put_name.ensures.name ∙ sym c.as_slice.ensures.value in
     let others : AllByRecursion (IsOther name) (drop (i + 1) texts) = rw name-is at (others-of texts i (column_texts-words program c.put_name.ensures.program) within
-      (λ j later there. column_texts-apart program c.put_name.ensures.program i j later (omega (arith, length-column_texts program.columns)))) in
+    (λ j later there. column_texts-apart program c.put_name.ensures.program i j later (omega (arith, length-column_texts program.columns)))) in
     let k = c.read_term-coefficient.result.0 in
     let len = c.read_term-coefficient.result.1 in
     let ensured = c.read_term-coefficient.ensures in
