@@ -14,6 +14,7 @@ pub record IsWord (text : List ℕ) : Type 0 where
   pub some : 0 < length text
   pub bytes : AllByRecursion IsPlain text
 
+-- the number is below 0
 abbrev pub is_negative : ℤ → Bool
 is_negative (pos n) = false
 is_negative (negsuc n) = true

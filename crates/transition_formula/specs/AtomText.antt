@@ -13,7 +13,7 @@ column_texts columns = map (λ column. column.text) columns ++ map (λ column. c
 abbrev pub atom_width : List Column → Bool → ℕ
 atom_width columns env = if env then length columns + length columns else length columns
 
--- what stands in front of the first term or a later one, by the sign of its coefficient
+-- what stands in front of a term, by whether it is the first and the sign of its coefficient
 abbrev pub joint : Bool → ℤ → List ℕ
 joint true (pos n) = []
 joint true (negsuc n) = codes "-"
@@ -28,7 +28,7 @@ factor size = if size == 1 then [] else number_text (pos size) ++ codes "*"
 abbrev pub term_text : Bool → ℤ → List ℕ → List ℕ
 term_text first k text = if unsigned_abs k == 0 then [] else joint first k ++ (factor (unsigned_abs k) ++ text)
 
--- the terms of columns, of which the first that there is may be the first of all
+-- the terms of columns; the test says that no term stands in front of them
 abbrev pub terms_text : Bool → List ℤ → List (List ℕ) → List ℕ
 terms_text first [] texts = []
 terms_text first (k ∷ ks) [] = []

@@ -70,7 +70,7 @@ fn read_bound(text: &[u8]) -> Option<i128>
     parse_number(text.strip_prefix(b" <= ")?)
 }
 
-/// The atom with these numbers, if there is one; else it may be another one or none.
+/// The atom with these numbers where they are an atom's; else another one that says the same, or none.
 fn atom_of(alloc: Global, coefficients: &[i128], bound: i128) -> Result<Option<Atom>, AllocError>
     requires coefficients { AllByRecursion Fits coefficients.now }
     requires bound { Fits bound }
@@ -92,7 +92,7 @@ fn atom_of(alloc: Global, coefficients: &[i128], bound: i128) -> Result<Option<A
     }
 }
 
-/// Reads an atom whose text this is, if it is one's; else the atom may be another one.
+/// Reads the atom whose text this is, if it is one's; else another one or none.
 fn read_candidate(
     alloc: Global,
     program: &Program,
@@ -111,6 +111,7 @@ fn read_candidate(
     }
 }
 
+/// Whether the text is the atom's.
 fn has_text(
     alloc: Global,
     program: &Program,
