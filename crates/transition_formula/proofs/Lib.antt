@@ -7,3 +7,9 @@ pub mod InitialRows
 pub mod NextValues
 pub mod StepRows
 pub mod WorkedProgram
+pub mod AtomTexts
+pub mod Words
+pub mod Terms
+pub mod ColumnTexts
+pub mod ReadTerms
+pub mod NormalAtoms

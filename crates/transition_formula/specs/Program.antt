@@ -1,7 +1,8 @@
 -- Programs: the columns of a state, and each thread as a graph of locations and edges. Threads and edges are numbered from 1,
 -- columns and locations from 0, where location 0 is the failing one.
-use Rattle.std.specs.Prelude.{◌≡◌, ◌≢◌, ◌↔◌, ◌+◌, ◌-◌, ◌^◌, ◌<◌, ◌≤◌, ℕ, zero, suc, ℤ, pos, List, length, map, take, nat_eq, Option, Some, None, IsSome, IsNone, slice_get, AllPairs}
-use Rattle.std.specs.List.{AllByRecursion, IsDistinct}
+use Rattle.std.specs.Prelude.{Bool, true, false, ◌==◌, ◌||◌, codes, slice_index, ◌≡◌, ◌≢◌, ◌↔◌, ◌+◌, ◌-◌, ◌^◌, ◌<◌, ◌≤◌, ℕ, zero, suc, ℤ, pos, List, length, map, take, nat_eq, Option, Some, None, IsSome, IsNone, slice_get, AllPairs}
+use Rattle.std.specs.List.{AllByRecursion, IsDistinct, list_all, list_any}
+use Rattle.std.specs.Char.{is_ascii_alphanumeric, is_ascii_digit}
 use Rattle.thr_base.specs.Number.{Fits}
 use Rattle.lin_rows.specs.Row.{Row}
 use Rattle.lin_rows.specs.System.{IsRowOver}
@@ -57,6 +58,16 @@ pub record IsEdgeOf (program : Program) (i e : ℕ) (thread : Thread) (edge : Ed
 abbrev pub first_counter : Program → ℕ
 first_counter program = length program.columns - length program.threads
 
+-- a letter, a digit, or one of _ . $ #
+abbrev pub is_text_byte : ℕ → Bool
+is_text_byte b = is_ascii_alphanumeric b || list_any (λ c. b == c) (codes "_.$#")
+
+-- The text of a column: at least one such byte, and no digit in front.
+pub record IsColumnText (text : List ℕ) : Type 0 where
+  pub some : 0 < length text
+  pub bytes : list_all is_text_byte text ≡ true
+  pub no_number : is_ascii_digit (slice_index text 0) ≡ false
+
 -- A value that a column has initially fits.
 abbrev pub StartFits : Option ℤ → Type 0
 StartFits None = Unit {0}
@@ -108,6 +119,7 @@ pub record IsProgram (program : Program) : Type 0 where
   pub few_columns : length program.columns ≤ 64
   pub few_threads : length program.threads ≤ 8
   pub has_counters : length program.threads ≤ length program.columns
+  pub texts_are : AllByRecursion (λ column. IsColumnText column.text) program.columns
   pub texts_differ : AllPairs (λ a b. a ≢ b) (map (λ column. column.text) program.columns)
   pub starts_fit : AllByRecursion (λ column. StartFits column.start) program.columns
   pub owners_exist : AllByRecursion (λ column. IsOwner (length program.threads) column.owner) program.columns

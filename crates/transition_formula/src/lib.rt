@@ -2,18 +2,23 @@
 //! the rows of initial states hold at exactly these states, and the rows of an edge at exactly the steps by it.
 #![tactic(auto)]
 
+mod atom_text;
 mod blocks;
 mod edges;
 mod graph;
 mod initial;
 mod laws;
 mod program;
+mod read_term;
+mod reading;
 
+pub use atom_text::push_atom;
 pub use edges::edge_rows;
 pub use graph::{Column, Edge, Line, ThreadGraph};
 pub use initial::init_rows;
 pub use laws::{edge_rows_are_exact, init_rows_are_exact};
 pub use program::Program;
+pub use reading::read_atom;
 
 #[cfg(test)]
 mod tests;

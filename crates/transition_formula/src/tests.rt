@@ -184,3 +184,90 @@ fn parts_of_a_program(rt: HostRuntime) -> Result<(), Fail> {
     assert_eq!(rt; program.edges(ThreadNo(2)).len(), 1);
     Ok(())
 }
+
+/// The text is that of the atom with these numbers: it is read as it, and printed for it.
+fn is_text_of(
+    alloc: Global,
+    program: &Program,
+    text: &[u8],
+    env: bool,
+    coefficients: &[i128],
+    bound: i128,
+) -> Result<bool, AllocError> {
+    let Some(atom) = read_atom(alloc, program, text, env)? else {
+        return Ok(false);
+    };
+    let mut out = Vec::new(alloc);
+    push_atom(&mut out, program, &atom, env)?;
+    let same = atom.coefficients() == coefficients && atom.bound() == bound;
+    Ok(same && out.as_slice() == text)
+}
+
+fn is_no_text(
+    alloc: Global,
+    program: &Program,
+    text: &[u8],
+    env: bool,
+) -> Result<bool, AllocError> {
+    Ok(read_atom(alloc, program, text, env)?.is_none())
+}
+
+#[test]
+fn texts_of_atoms(rt: HostRuntime) -> Result<(), Fail> {
+    let alloc = rt.alloc();
+    let program = worked(rt.alloc())?;
+    assert!(rt;
+        is_text_of(
+            alloc,
+            &program,
+            b"2*x - t1.l <= -3",
+            false,
+            &[2, -1, 0, 0],
+            -3
+        )?
+    );
+    assert!(rt;
+        is_text_of(
+            alloc,
+            &program,
+            b"-x + 12*t2.$pc <= 0",
+            false,
+            &[-1, 0, 0, 12],
+            0
+        )?
+    );
+    let over_a_step = [0, 3, 0, 0, -2, 0, 0, 0];
+    assert!(rt;
+        is_text_of(
+            alloc,
+            &program,
+            b"3*t1.l - 2*x' <= 7",
+            true,
+            &over_a_step,
+            7
+        )?
+    );
+    Ok(())
+}
+
+#[test]
+fn texts_of_no_atom(rt: HostRuntime) -> Result<(), Fail> {
+    let program = worked(rt.alloc())?;
+    let lines = b"2*x <= 4
+x <= 170141183460469231731687303715884105727
+1*x <= 0
+t1.l + x <= 0
+x' <= 0
+y <= 0
++x <= 0
+x <=0
+x + x <= 0
+0 <= 1
+ <= 1
+
+2*x";
+    for line in lines.split(|b| *b == b'\n') {
+        assert!(rt; is_no_text(rt.alloc(), &program, line, false)?);
+    }
+    Ok(())
+}
