@@ -1,0 +1,4 @@
+pub mod Home
+pub mod Fact
+pub mod Instance
+pub mod Least
