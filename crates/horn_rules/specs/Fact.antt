@@ -1,10 +1,10 @@
 -- Predicates and facts. Positions count from 1.
-use Rattle.std.specs.Prelude.{◌≡◌, ℕ, ◌<◌, ◌≤◌, List, [], ◌∷◌, length, filter_map}
+use Rattle.std.specs.Prelude.{◌≡◌, ℕ, ◌<◌, List, [], ◌∷◌, length, filter_map}
 use Rattle.std.specs.List.{AllByRecursion}
 use Rattle.lin_rows.specs.Row.{Row}
 use Rattle.lin_rows.specs.Atom.{IsAtom}
 use Rattle.transition_formula.specs.Program.{Program, numbered}
-use Rattle.horn_rules.specs.Home.{Home, home_width, IsHomeOf}
+use Rattle.horn_rules.specs.Home.{Home, home_width}
 
 -- the predicates of each home, as a list of atoms
 abbrev pub Sets : Type 0

@@ -9,19 +9,22 @@ pub data Home : Type 0 where
   -- an edge of a thread: what holds of its steps, as the other threads see them
   Env : ℕ → ℕ → Home
 
--- the homes at locations of threads, of which the first has number i
-abbrev pub state_homes : ℕ → List Thread → List Home
-state_homes i [] = []
-state_homes i (thread ∷ threads) = map (State i) (range_with_len 0 thread.locations) ++ state_homes (suc i) threads
+-- what each thread gives by its number, one thread after another; the first of these threads has number i
+abbrev pub by_thread : (ℕ → Thread → List Home) → ℕ → List Thread → List Home
+by_thread give i [] = []
+by_thread give i (thread ∷ threads) = give i thread ++ by_thread give (suc i) threads
 
--- the homes at edges of threads, of which the first has number i
-abbrev pub env_homes : ℕ → List Thread → List Home
-env_homes i [] = []
-env_homes i (thread ∷ threads) = map (Env i) (range_with_len 1 (length thread.edges)) ++ env_homes (suc i) threads
+-- the homes at the locations of thread i
+abbrev pub state_homes : ℕ → Thread → List Home
+state_homes i thread = map (State i) (range_with_len 0 thread.locations)
+
+-- the homes at the edges of thread i
+abbrev pub env_homes : ℕ → Thread → List Home
+env_homes i thread = map (Env i) (range_with_len 1 (length thread.edges))
 
 -- all homes, in the order of their numbers
 abbrev pub homes : Program → List Home
-homes program = state_homes 1 program.threads ++ env_homes 1 program.threads
+homes program = by_thread state_homes 1 program.threads ++ by_thread env_homes 1 program.threads
 
 abbrev pub IsHomeOf : Program → Home → Type 0
 IsHomeOf program home = Contains (homes program) home

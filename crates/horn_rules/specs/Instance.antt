@@ -1,5 +1,5 @@
 -- The rules: from which facts a fact may follow, and which rows decide what it holds.
-use Rattle.std.specs.Prelude.{◌≡◌, ◌≢◌, ℕ, ◌+◌, ℤ, pos, List, [], ◌∷◌, ◌++◌, length, map}
+use Rattle.std.specs.Prelude.{◌≡◌, ◌≢◌, ℕ, ◌+◌, pos, List, [], ◌∷◌, ◌++◌, length, map}
 use Rattle.thr_base.specs.declared.names.RuleName.{RuleName}
 use Rattle.thr_base.specs.declared.names.RuleName.TheVariants.{Rg, Og}
 use Rattle.lin_rows.specs.Row.{Row}
@@ -59,31 +59,31 @@ pub data IsCase (program : Program) (sets : Sets) : RuleName → List Fact → C
       → IsCase program sets rule [] (record { target = State i 1; system = init_system program; place = λ atom. atom })
   own : (rule : RuleName) (i e : ℕ) (thread : Thread) (edge : Edge) (f : Fact) → IsEdgeOf program i e thread edge → f.home ≡ State i edge.from
       → IsCase program sets rule (f ∷ []) (record {
-          target = State i edge.to;
-          system = with_edge program thread edge (state_rows program sets thread edge.from f (behind program edge));
-          place = moved (length program.columns) edge.inputs;
-        })
+        target = State i edge.to;
+        system = with_edge program thread edge (state_rows program sets thread edge.from f (behind program edge));
+        place = moved (length program.columns) edge.inputs;
+      })
   guar : (i e : ℕ) (thread : Thread) (edge : Edge) (f : Fact) → IsEdgeOf program i e thread edge → f.home ≡ State i edge.from
       → IsCase program sets Rg (f ∷ []) (record {
-          target = Env i e;
-          system = with_edge program thread edge (state_rows program sets thread edge.from f (behind program edge));
-          place = widened edge.inputs;
-        })
+        target = Env i e;
+        system = with_edge program thread edge (state_rows program sets thread edge.from f (behind program edge));
+        place = widened edge.inputs;
+      })
   env : (k l i e : ℕ) (other thread : Thread) (edge : Edge) (f t : Fact) → k ≢ i → IsThreadOf program k other → IsEdgeOf program i e thread edge
       → f.home ≡ State k l → t.home ≡ Env i e
       → IsCase program sets Rg (f ∷ t ∷ []) (record {
-          target = State k l;
-          system = record {
-            columns = length program.columns + length program.columns;
-            rows = state_rows program sets other l f (length program.columns) ++ env_rows program sets thread edge t;
-          };
-          place = moved (length program.columns) 0;
-        })
+        target = State k l;
+        system = record {
+          columns = length program.columns + length program.columns;
+          rows = state_rows program sets other l f (length program.columns) ++ env_rows program sets thread edge t;
+        };
+        place = moved (length program.columns) 0;
+      })
   inter : (k l i e : ℕ) (other thread : Thread) (edge : Edge) (f g : Fact) → k ≢ i → IsThreadOf program k other → IsEdgeOf program i e thread edge
       → f.home ≡ State k l → g.home ≡ State i edge.from
       → IsCase program sets Og (f ∷ g ∷ []) (record {
-          target = State k l;
-          system = with_edge program thread edge
-              (state_rows program sets other l f (behind program edge) ++ state_rows program sets thread edge.from g (behind program edge));
-          place = moved (length program.columns) edge.inputs;
-        })
+        target = State k l;
+        system = with_edge program thread edge
+            (state_rows program sets other l f (behind program edge) ++ state_rows program sets thread edge.from g (behind program edge));
+        place = moved (length program.columns) edge.inputs;
+      })

@@ -1,3 +1,7 @@
 //! The rules of compositional verification over a program, with facts as what they are over: homes, predicates, facts, the
 //! instances of rely-guarantee and of Owicki and Gries with their rows, what an instance gives, and the least set of facts.
 #![tactic(auto)]
+
+mod homes;
+
+pub use homes::{home_count, named, number};
