@@ -1,2 +1,5 @@
 pub mod Places
 pub mod Numbers
+pub mod Placed
+pub mod Held
+pub mod OwnSteps

@@ -1,5 +1,5 @@
 -- Predicates and facts. Positions count from 1.
-use Rattle.std.specs.Prelude.{◌≡◌, ℕ, ◌<◌, List, [], ◌∷◌, length, filter_map}
+use Rattle.std.specs.Prelude.{◌≡◌, ◌≢◌, ℕ, ◌<◌, List, [], ◌∷◌, length, filter_map, AllPairs}
 use Rattle.std.specs.List.{AllByRecursion}
 use Rattle.lin_rows.specs.Row.{Row}
 use Rattle.lin_rows.specs.Atom.{IsAtom}
@@ -15,9 +15,14 @@ pub record IsAtomOf (program : Program) (home : Home) (atom : Row) : Type 0 wher
   pub is_atom : IsAtom atom
   pub one_each : length atom.coefficients ≡ home_width (length program.columns) home
 
--- Each predicate is an atom of its home.
+-- The predicates of a home: atoms of it, none of them twice.
+pub record IsSetOf (program : Program) (home : Home) (atoms : List Row) : Type 0 where
+  pub are_atoms : AllByRecursion (IsAtomOf program home) atoms
+  pub none_twice : AllPairs (λ a b. a ≢ b) atoms
+
+-- Each home has predicates of it.
 abbrev pub AreSetsOf : Program → Sets → Type 0
-AreSetsOf program sets = (home : Home) → AllByRecursion (IsAtomOf program home) (sets home)
+AreSetsOf program sets = (home : Home) → IsSetOf program home (sets home)
 
 -- A fact: at a home, the predicates at these positions hold.
 pub record Fact : Type 0 where

@@ -52,38 +52,59 @@ pub record Case : Type 0 where
   pub system : System
   pub place : Row → Row
 
+-- thread i is at its start
+abbrev pub init_case : Program → ℕ → Case
+init_case program i = record { target = State i 1; system = init_system program; place = λ atom. atom }
+
+-- a step of thread i by the edge, from fact f
+abbrev pub own_case : Program → Sets → ℕ → Thread → Edge → Fact → Case
+own_case program sets i thread edge f = record {
+  target = State i edge.to;
+  system = with_edge program thread edge (state_rows program sets thread edge.from f (behind program edge));
+  place = moved (length program.columns) edge.inputs;
+}
+
+-- a step of thread i by its edge e, from fact f, as the other threads see it
+abbrev pub guar_case : Program → Sets → ℕ → ℕ → Thread → Edge → Fact → Case
+guar_case program sets i e thread edge f = record {
+  target = Env i e;
+  system = with_edge program thread edge (state_rows program sets thread edge.from f (behind program edge));
+  place = widened edge.inputs;
+}
+
+-- thread k, at location l, stays there in a step of the thread by the edge, of which t tells
+abbrev pub env_case : Program → Sets → ℕ → ℕ → Thread → Thread → Edge → Fact → Fact → Case
+env_case program sets k l other thread edge f t =
+    let n = length program.columns in
+    record {
+      target = State k l;
+      system = record { columns = n + n; rows = state_rows program sets other l f n ++ env_rows program sets thread edge t };
+      place = moved n 0;
+    }
+
+-- thread k, at location l, stays there in a step of the thread by the edge, from a state of which g tells
+abbrev pub inter_case : Program → Sets → ℕ → ℕ → Thread → Thread → Edge → Fact → Fact → Case
+inter_case program sets k l other thread edge f g =
+    let k_rows = state_rows program sets other l f (behind program edge) in
+    let i_rows = state_rows program sets thread edge.from g (behind program edge) in
+    record {
+      target = State k l;
+      system = with_edge program thread edge (k_rows ++ i_rows);
+      place = moved (length program.columns) edge.inputs;
+    }
+
 -- The instances of a rule, each with its premises. A step of a thread leads on from a fact at its source: by rely-guarantee it
 -- tells an environment fact at its edge, which leads on facts of the other threads; by Owicki and Gries it does so itself.
 pub data IsCase (program : Program) (sets : Sets) : RuleName → List Fact → Case → Type 0 where
   init : (rule : RuleName) (i : ℕ) (thread : Thread) → IsThreadOf program i thread
-      → IsCase program sets rule [] (record { target = State i 1; system = init_system program; place = λ atom. atom })
+      → IsCase program sets rule [] (init_case program i)
   own : (rule : RuleName) (i e : ℕ) (thread : Thread) (edge : Edge) (f : Fact) → IsEdgeOf program i e thread edge → f.home ≡ State i edge.from
-      → IsCase program sets rule (f ∷ []) (record {
-        target = State i edge.to;
-        system = with_edge program thread edge (state_rows program sets thread edge.from f (behind program edge));
-        place = moved (length program.columns) edge.inputs;
-      })
+      → IsCase program sets rule (f ∷ []) (own_case program sets i thread edge f)
   guar : (i e : ℕ) (thread : Thread) (edge : Edge) (f : Fact) → IsEdgeOf program i e thread edge → f.home ≡ State i edge.from
-      → IsCase program sets Rg (f ∷ []) (record {
-        target = Env i e;
-        system = with_edge program thread edge (state_rows program sets thread edge.from f (behind program edge));
-        place = widened edge.inputs;
-      })
+      → IsCase program sets Rg (f ∷ []) (guar_case program sets i e thread edge f)
   env : (k l i e : ℕ) (other thread : Thread) (edge : Edge) (f t : Fact) → k ≢ i → IsThreadOf program k other → IsEdgeOf program i e thread edge
       → f.home ≡ State k l → t.home ≡ Env i e
-      → IsCase program sets Rg (f ∷ t ∷ []) (record {
-        target = State k l;
-        system = record {
-          columns = length program.columns + length program.columns;
-          rows = state_rows program sets other l f (length program.columns) ++ env_rows program sets thread edge t;
-        };
-        place = moved (length program.columns) 0;
-      })
+      → IsCase program sets Rg (f ∷ t ∷ []) (env_case program sets k l other thread edge f t)
   inter : (k l i e : ℕ) (other thread : Thread) (edge : Edge) (f g : Fact) → k ≢ i → IsThreadOf program k other → IsEdgeOf program i e thread edge
       → f.home ≡ State k l → g.home ≡ State i edge.from
-      → IsCase program sets Og (f ∷ g ∷ []) (record {
-        target = State k l;
-        system = with_edge program thread edge
-            (state_rows program sets other l f (behind program edge) ++ state_rows program sets thread edge.from g (behind program edge));
-        place = moved (length program.columns) edge.inputs;
-      })
+      → IsCase program sets Og (f ∷ g ∷ []) (inter_case program sets k l other thread edge f g)

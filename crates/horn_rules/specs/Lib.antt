@@ -3,3 +3,4 @@ pub mod Stored
 pub mod Fact
 pub mod Instance
 pub mod Least
+pub mod Laws

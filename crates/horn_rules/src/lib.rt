@@ -3,5 +3,7 @@
 #![tactic(auto)]
 
 mod homes;
+mod laws;
 
 pub use homes::{home_count, named, number};
+pub use laws::{held_atoms_hold, own_steps_are_described};
