@@ -3,3 +3,4 @@ pub mod Numbers
 pub mod Placed
 pub mod Held
 pub mod OwnSteps
+pub mod WorkedProgram

@@ -4,3 +4,4 @@ pub mod Fact
 pub mod Instance
 pub mod Least
 pub mod Laws
+pub mod Worked

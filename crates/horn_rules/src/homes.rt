@@ -91,12 +91,13 @@ pub fn number(program: &Program, home: Home) -> HomeNo
     requires { IsHomeOf program.now (home_of home) }
     ensures { numbered (homes program.now) result.0 ≡ Some (home_of home) }
 {
-    let states = count_before(program, Kind::Location, program.threads());
+    let threads = program.threads();
     match home {
         Home::State(thread, location) => {
             HomeNo(place_of(program, Kind::Location, thread, location.0) + 1)
         }
         Home::Env(thread, edge) => {
+            let states = count_before(program, Kind::Location, threads);
             HomeNo(states + place_of(program, Kind::Edge, thread, edge.0 - 1) + 1)
         }
     }

@@ -7,3 +7,6 @@ mod laws;
 
 pub use homes::{home_count, named, number};
 pub use laws::{held_atoms_hold, own_steps_are_described};
+
+#[cfg(test)]
+mod tests;
