@@ -1,0 +1,39 @@
+-- Predicates and facts. Positions count from 1.
+use Rattle.std.specs.Prelude.{◌≡◌, ◌≢◌, ℕ, ◌<◌, List, [], ◌∷◌, length, filter_map, AllPairs}
+use Rattle.std.specs.List.{AllByRecursion}
+use Rattle.lin_rows.specs.Row.{Row}
+use Rattle.lin_rows.specs.Atom.{IsAtom}
+use Rattle.transition_formula.specs.Program.{Program, numbered}
+use Rattle.horn_rules.specs.Home.{Home, home_width}
+
+-- the predicates of each home, as a list of atoms
+abbrev pub Sets : Type 0
+Sets = Home → List Row
+
+-- The atom has one coefficient for each column of the home.
+pub record IsAtomOf (program : Program) (home : Home) (atom : Row) : Type 0 where
+  pub is_atom : IsAtom atom
+  pub one_each : length atom.coefficients ≡ home_width (length program.columns) home
+
+-- The predicates of a home: atoms of it, none of them twice.
+pub record IsSetOf (program : Program) (home : Home) (atoms : List Row) : Type 0 where
+  pub are_atoms : AllByRecursion (IsAtomOf program home) atoms
+  pub none_twice : AllPairs (λ a b. a ≢ b) atoms
+
+-- Each home has predicates of it.
+abbrev pub AreSetsOf : Program → Sets → Type 0
+AreSetsOf program sets = (home : Home) → IsSetOf program home (sets home)
+
+-- A fact: at a home, the predicates at these positions hold.
+pub record Fact : Type 0 where
+  pub home : Home
+  pub held : List ℕ
+
+-- the atoms of a fact, in the order of positions
+abbrev pub atoms_of : Sets → Fact → List Row
+atoms_of sets fact = filter_map (numbered (sets fact.home)) fact.held
+
+-- The positions rise, from above `last`.
+abbrev pub Rise : ℕ → List ℕ → Type 0
+Rise last [] = Unit {0}
+Rise last (k ∷ ks) = (last < k) × Rise k ks

@@ -1,0 +1,35 @@
+-- Homes: where facts stand.
+use Rattle.std.specs.Prelude.{ℕ, suc, ◌+◌, List, [], ◌∷◌, ◌++◌, length, map}
+use Rattle.std.specs.List.{range_with_len, Contains}
+use Rattle.transition_formula.specs.Program.{Program, Thread}
+
+pub data Home : Type 0 where
+  -- a location of a thread: what holds of the states in which the thread is there
+  State : ℕ → ℕ → Home
+  -- an edge of a thread: what holds of its steps, as the other threads see them
+  Env : ℕ → ℕ → Home
+
+-- what each thread gives by its number, one thread after another; the first of these threads has number i
+abbrev pub by_thread : (ℕ → Thread → List Home) → ℕ → List Thread → List Home
+by_thread give i [] = []
+by_thread give i (thread ∷ threads) = give i thread ++ by_thread give (suc i) threads
+
+-- the homes at the locations of thread i
+abbrev pub state_homes : ℕ → Thread → List Home
+state_homes i thread = map (State i) (range_with_len 0 thread.locations)
+
+-- the homes at the edges of thread i
+abbrev pub env_homes : ℕ → Thread → List Home
+env_homes i thread = map (Env i) (range_with_len 1 (length thread.edges))
+
+-- all homes, in the order of their numbers
+abbrev pub homes : Program → List Home
+homes program = by_thread state_homes 1 program.threads ++ by_thread env_homes 1 program.threads
+
+abbrev pub IsHomeOf : Program → Home → Type 0
+IsHomeOf program home = Contains (homes program) home
+
+-- how many columns the atoms of a home are over, where a state has n
+abbrev pub home_width : ℕ → Home → ℕ
+home_width n (State i l) = n
+home_width n (Env i e) = n + n

@@ -1,0 +1,7 @@
+pub mod Home
+pub mod Stored
+pub mod Fact
+pub mod Instance
+pub mod Least
+pub mod Laws
+pub mod Worked
