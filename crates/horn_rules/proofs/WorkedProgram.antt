@@ -70,6 +70,7 @@ worked-is = record {
   few_columns = omega arith;
   few_threads = omega arith;
   has_counters = omega arith;
+  texts_are = (record { some = omega arith; bytes = refl; no_number = refl }, (record { some = omega arith; bytes = refl; no_number = refl }, tt));
   texts_differ = AllPairs-from_IsDistinct bytes_eq-Decides _ texts-differ;
   starts_fit = (one-fits, (one-fits, tt));
   owners_exist = ((omega arith, omega arith), ((omega arith, omega arith), tt));
