@@ -6,3 +6,4 @@ pub mod Described
 pub mod OwnSteps
 pub mod OtherSteps
 pub mod WorkedProgram
+pub mod Posts

@@ -1,5 +1,5 @@
 -- What the facts that instances give say of states.
-use Rattle.std.specs.Prelude.{◌≡◌, ◌≢◌, ℕ, ℤ, pos, List, ◌++◌, length, Some, slice_get}
+use Rattle.std.specs.Prelude.{◌≡◌, ◌≢◌, ℕ, ℤ, pos, List, ◌++◌, length, Option, Some, slice_get}
 use Rattle.std.specs.List.{AllByRecursion}
 use Rattle.thr_base.specs.declared.names.RuleName.{RuleName}
 use Rattle.lin_rows.specs.Row.{Meets}
@@ -9,13 +9,17 @@ use Rattle.transition_formula.specs.Step.{Steps, IsInitial}
 use Rattle.horn_rules.specs.Home.{State, Env}
 use Rattle.horn_rules.specs.Fact.{Sets, Fact, AreSetsOf, atoms_of}
 use Rattle.horn_rules.specs.Instance.{Case, IsCase, init_case, own_case, guar_case, env_case, inter_case}
-use Rattle.horn_rules.specs.Least.{IsFactOf}
+use Rattle.horn_rules.specs.Least.{IsFactOf, IsPost}
 
 -- The atoms of the fact that an instance gives hold, as they are placed, at each whole point of its system.
 abbrev pub HeldAtomsHold : Type 0
 HeldAtomsHold = (program : Program) (rule : RuleName) (sets : Sets) (premises : List Fact) (given : Case) (fact : Fact) (z : List ℤ)
     → AreSetsOf program sets → IsCase program sets rule premises given → IsFactOf sets given fact → IsPoint given.system z
     → AllByRecursion (λ atom. Meets (given.place atom) z) (atoms_of sets fact)
+
+-- An instance gives one thing at most.
+abbrev pub PostsAreUnique : Type 0
+PostsAreUnique = (sets : Sets) (given : Case) (one other : Option Fact) → IsPost sets given one → IsPost sets given other → one ≡ other
 
 -- The fact describes the state: it stands at a location of a thread, the thread is there, and the fact's atoms hold.
 pub record Describes (program : Program) (sets : Sets) (fact : Fact) (state : List ℤ) : Type 0 where

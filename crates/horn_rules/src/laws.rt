@@ -1,8 +1,13 @@
-ghost use Rattle.horn_rules.specs.Laws.{HeldAtomsHold, StartsAreDescribed, OwnStepsAreDescribed, OwnStepsAreTold, ToldStepsAreDescribed, InterferingStepsAreDescribed};
+ghost use Rattle.horn_rules.specs.Laws.{HeldAtomsHold, PostsAreUnique, StartsAreDescribed, OwnStepsAreDescribed, OwnStepsAreTold, ToldStepsAreDescribed, InterferingStepsAreDescribed};
 
 /// The atoms of the fact that an instance gives hold at each whole point of its system: a law, and no code.
 pub fn held_atoms_hold()
     ensures { HeldAtomsHold }
+{}
+
+/// An instance gives one thing at most: a law, and no code.
+pub fn posts_are_unique()
+    ensures { PostsAreUnique }
 {}
 
 /// The fact that a thread's start gives describes each initial state: a law, and no code.

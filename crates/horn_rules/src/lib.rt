@@ -8,7 +8,7 @@ mod laws;
 pub use homes::{home_count, named, number};
 pub use laws::{
     held_atoms_hold, interfering_steps_are_described, own_steps_are_described, own_steps_are_told,
-    starts_are_described, told_steps_are_described,
+    posts_are_unique, starts_are_described, told_steps_are_described,
 };
 
 #[cfg(test)]
