@@ -16,10 +16,10 @@ use Rattle.horn_rules.proofs.Placed.{IsAtom-widened, IsAtom-moved}
 
 -- ---- what holds of the elements at positions holds of the list of these elements
 
-Contains-first : {A : Type 0} (x : A) (xs : List A) → Contains (x ∷ xs) x
+pub Contains-first : {A : Type 0} (x : A) (xs : List A) → Contains (x ∷ xs) x
 Contains-first x xs = (0, omega arith, refl)
 
-Contains-later : {A : Type 0} (x y : A) (xs : List A) → Contains xs y → Contains (x ∷ xs) y
+pub Contains-later : {A : Type 0} (x y : A) (xs : List A) → Contains xs y → Contains (x ∷ xs) y
 Contains-later x y xs (k, h, e) = (suc k, omega arith, e)
 
 all-cons_option : {A : Type 0} (P : A → Type 0) (o : Option A) (xs : List A) → ((x : A) → o ≡ Some x → P x) → AllByRecursion P xs → AllByRecursion P (cons_option o xs)

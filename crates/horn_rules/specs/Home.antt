@@ -3,6 +3,7 @@ use Rattle.std.specs.Prelude.{ℕ, suc, ◌+◌, List, [], ◌∷◌, ◌++◌, 
 use Rattle.std.specs.List.{range_with_len, Contains}
 use Rattle.transition_formula.specs.Program.{Program, Thread}
 
+-- a home, with the number of its thread
 pub data Home : Type 0 where
   -- a location of a thread: what holds of the states in which the thread is there
   State : ℕ → ℕ → Home
@@ -26,6 +27,7 @@ env_homes i thread = map (Env i) (range_with_len 1 (length thread.edges))
 abbrev pub homes : Program → List Home
 homes program = by_thread state_homes 1 program.threads ++ by_thread env_homes 1 program.threads
 
+-- The program has this home.
 abbrev pub IsHomeOf : Program → Home → Type 0
 IsHomeOf program home = Contains (homes program) home
 

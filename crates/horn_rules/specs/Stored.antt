@@ -7,6 +7,7 @@ use Rattle.horn_rules.specs.declared.homes.Kind.{Kind}
 use Rattle.horn_rules.specs.declared.homes.Kind.TheVariants.{Location, Edge}
 use Rattle.horn_rules.specs.Home.{Home, State, Env, state_homes, env_homes}
 
+-- the home that the code's value stands for
 abbrev pub home_of : StoredHome → Home
 home_of (StoredState thread location) = State thread.0 location.0
 home_of (StoredEnv thread edge) = Env thread.0 edge.0

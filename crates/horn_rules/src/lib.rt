@@ -6,7 +6,10 @@ mod homes;
 mod laws;
 
 pub use homes::{home_count, named, number};
-pub use laws::{held_atoms_hold, own_steps_are_described};
+pub use laws::{
+    held_atoms_hold, interfering_steps_are_described, own_steps_are_described, own_steps_are_told,
+    posts_are_unique, starts_are_described, told_steps_are_described,
+};
 
 #[cfg(test)]
 mod tests;

@@ -123,5 +123,10 @@ fn homes_of_two_threads_in_order(rt: HostRuntime) -> Result<(), Fail> {
 #[test]
 fn laws_are_called() {
     held_atoms_hold();
+    posts_are_unique();
+    starts_are_described();
     own_steps_are_described();
+    own_steps_are_told();
+    told_steps_are_described();
+    interfering_steps_are_described();
 }
