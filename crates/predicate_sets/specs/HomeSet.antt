@@ -1,0 +1,27 @@
+-- The list of the predicates of a home.
+use Rattle.std.specs.Prelude.{◌≡◌, ◌≢◌, ◌≤◌, ℕ, zero, suc, List, [], ◌∷◌, length, slice_get, Some}
+use Rattle.std.specs.List.{AllByRecursion}
+use Rattle.lin_rows.specs.Row.{Row}
+
+-- how many atoms a home has at most
+abbrev pub most_atoms : ℕ
+most_atoms = 128
+
+-- The atom stands nowhere in the list.
+abbrev pub Lacks : List Row → Row → Type 0
+Lacks set atom = AllByRecursion (λ other. other ≢ atom) set
+
+-- The atom stands in the list at this position, from 1.
+abbrev pub StandsAt : List Row → Row → ℕ → Type 0
+StandsAt set atom zero = ⊥
+StandsAt set atom (suc place) = slice_get set place ≡ Some atom
+
+-- No atom stands in the list twice.
+abbrev pub AreDistinct : List Row → Type 0
+AreDistinct [] = Unit {0}
+AreDistinct (atom ∷ set) = Lacks set atom × AreDistinct set
+
+-- What is known of each list that a program holds.
+pub record IsHomeSet (set : List Row) : Type 0 where
+  pub few : length set ≤ most_atoms
+  pub distinct : AreDistinct set

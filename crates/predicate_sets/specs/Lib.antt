@@ -1,0 +1,2 @@
+pub mod HomeSet
+pub mod Sets
