@@ -7,3 +7,4 @@ pub mod OwnSteps
 pub mod OtherSteps
 pub mod WorkedProgram
 pub mod Posts
+pub mod Premises

@@ -10,6 +10,8 @@ use Rattle.thr_base.specs.Number.{Fits}
 use Rattle.transition_formula.specs.Program.{Column, Thread, Program, IsThreadOf, IsCounter, IsThread, IsEdge, IsProgram, numbered}
 use Rattle.horn_rules.specs.Home.{Home, homes, IsHomeOf}
 use Rattle.horn_rules.specs.Worked.{counter_column, bare_edge, first_thread, second_thread, worked_program}
+use Rattle.horn_rules.specs.declared.job.Premise.{Premise}
+use Rattle.horn_rules.specs.Job.{IsAtSource}
 
 first-counts : (column : Column) → Some (counter_column 1 (116 ∷ 49 ∷ [])) ≡ Some column → IsCounter 1 column
 first-counts column at = let same : counter_column 1 (116 ∷ 49 ∷ []) ≡ column = cc in subst (λ found. IsCounter 1 found) same (record { owned = refl; starts = refl })
@@ -90,3 +92,13 @@ numbered-there xs (suc n) h k = there xs n (omega arith)
 pub home-numbered : (program : Program) (n : ℕ) (home : Home) → numbered (homes program) n ≡ Some home → IsHomeOf program home
 home-numbered program zero home e = cc
 home-numbered program (suc k) home e = (k, slice_get_within (homes program) k home e, get_or_from_slice_get (homes program) k home home e)
+
+-- a premise without predicates at the source of the first edge
+pub worked-source : (program : Program) (premise : Premise) → program ≡ worked_program → premise.fact.home.0 ≡ 2 → premise.set.value ≡ [] → IsAtSource program premise 1
+worked-source program premise worked home empty = record {
+  i = 1;
+  thread = first_thread;
+  edge = bare_edge 1 2;
+  edge_is = rw worked (record { thread_is = refl; edge_is = refl });
+  premise_is = record { home_is = rw (worked, home) refl; set_is = rw empty (record { are_atoms = tt; none_twice = λ i j d below within e. absurd (omega arith) }) };
+}

@@ -1,11 +1,15 @@
 //! The rules of compositional verification over a program, with facts as what they are over: homes, predicates, facts, the
-//! instances of rely-guarantee and of Owicki and Gries with their rows, what an instance gives, and the least set of facts.
+//! instances of rely-guarantee and of Owicki and Gries with their rows, what an instance gives, and the least set of facts. The
+//! layers above learn that the rows of a job are exactly those of its instance.
 #![tactic(auto)]
 
 mod homes;
+mod job;
 mod laws;
+mod premise;
 
 pub use homes::{home_count, named, number};
+pub use job::{Job, Premise, instance_rows};
 pub use laws::{
     held_atoms_hold, interfering_steps_are_described, own_steps_are_described, own_steps_are_told,
     posts_are_unique, starts_are_described, told_steps_are_described,

@@ -1,12 +1,14 @@
-ghost use Rattle.std.specs.Prelude.{◌≡◌, ◌∷◌, [], map, IfOk};
+ghost use Rattle.std.specs.Prelude.{◌≡◌, ◌≤◌, ◌∷◌, [], map, None, IfOk};
+ghost use Rattle.horn_rules.specs.Job.{AreItsPremises};
 ghost use Rattle.transition_formula.specs.Stored.{column_of, edge_of, thread_of};
 ghost use Rattle.horn_rules.specs.Worked.{bare_edge, counter_column, first_thread, second_thread, worked_columns, worked_program};
 
 use super::*;
 use lin_rows::Rows;
+use predicate_sets::Sets;
 use std::alloc::{AllocError, Global};
 use std::test::Fail;
-use thr_base::{EdgeNo, Home, HomeNo, Loc, ThreadNo};
+use thr_base::{EdgeNo, Epoch, Fact, FactId, Home, HomeNo, Instance, Loc, ThreadNo};
 use transition_formula::{Column, Edge, Program, ThreadGraph};
 
 fn counter(alloc: Global, thread: ThreadNo, text: &[u8]) -> Result<Column, AllocError>
@@ -117,6 +119,69 @@ fn homes_of_two_threads_in_order(rt: HostRuntime) -> Result<(), Fail> {
     assert!(rt; is_env(&program, 8, 1, 1));
     assert!(rt; is_env(&program, 9, 1, 2));
     assert!(rt; is_env(&program, 10, 2, 1));
+    Ok(())
+}
+
+/// A premise at a home without predicates.
+fn premise(alloc: Global, home: u32) -> Result<Premise, AllocError>
+    requires { 1 ≤ home }
+    ensures { IfOk result (λ premise. (premise.fact.home.0 ≡ home) × (premise.set.value ≡ [])) }
+{
+    let sets = Sets::new(alloc, home)?;
+    let set = sets.at(HomeNo(home))?;
+    let fact = Fact {
+        home: HomeNo(home),
+        held: 0,
+    };
+    Ok(Premise {
+        id: FactId(1),
+        fact,
+        set,
+    })
+}
+
+/// How many rows an instance has.
+fn count(
+    alloc: Global,
+    program: &Program,
+    instance: Instance,
+    first: Option<Premise>,
+) -> Result<u32, AllocError>
+    requires { AreItsPremises program.now instance first None }
+{
+    let target = Sets::new(alloc, 1)?.at(HomeNo(1))?;
+    let job = Job {
+        program,
+        worker: 1,
+        instance,
+        home: HomeNo(1),
+        epoch: Epoch(0),
+        first,
+        second: None,
+        target,
+    };
+    Ok(instance_rows(alloc, program, &job)?.view().count())
+}
+
+/// How many rows the first step of the first thread has.
+fn own_count(alloc: Global) -> Result<u32, AllocError> {
+    let program = worked(alloc)?;
+    let premise = premise(alloc, 2)?;
+    count(
+        alloc,
+        &program,
+        Instance::Own(FactId(1), EdgeNo(1)),
+        Some(premise),
+    )
+}
+
+#[test]
+fn a_start_has_a_row_a_column_and_a_step_four_rows(rt: HostRuntime) -> Result<(), Fail> {
+    let alloc = rt.alloc();
+    let program = worked(alloc)?;
+    let start = count(alloc, &program, Instance::Init(ThreadNo(1)), None)?;
+    assert_eq!(rt; start, 2);
+    assert_eq!(rt; own_count(alloc)?, 4);
     Ok(())
 }
 

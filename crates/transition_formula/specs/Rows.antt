@@ -90,6 +90,21 @@ edge_system program thread edge =
 abbrev pub AreEdgeRows : Program → ℕ → ℕ → System → Type 0
 AreEdgeRows program i e rows = (thread : Thread) (edge : Edge) → IsEdgeOf program i e thread edge → rows ≡ edge_system program thread edge
 
+-- what all threads see of a step by an edge, over the columns before and after: its thread steps, and columns are kept
+abbrev pub seen_system : Program → Thread → Edge → System
+seen_system program thread edge =
+    let n = length program.columns in
+    record {
+      columns = n + n;
+      rows = column_is (n + n) thread.counter (pos edge.from)
+          ∷ column_is (n + n) (n + thread.counter) (pos edge.to)
+          ∷ map (kept_row n 0) (kept_columns n thread.counter edge);
+    }
+
+-- What rows are what all threads see of edge e of thread i.
+abbrev pub AreSeenRows : Program → ℕ → ℕ → System → Type 0
+AreSeenRows program i e rows = (thread : Thread) (edge : Edge) → IsEdgeOf program i e thread edge → rows ≡ seen_system program thread edge
+
 -- the system with more rows, at its end
 abbrev pub with_rows : System → List Row → System
 with_rows system rows = record system { rows = system.rows ++ rows }

@@ -4,7 +4,7 @@ ghost use Rattle.thr_base.specs.Number.{Fits};
 ghost use Rattle.lin_rows.specs.System.{IsRowOver, with_row};
 ghost use Rattle.lin_rows.specs.View.{row_of};
 ghost use Rattle.transition_formula.specs.Program.{IsProgram, Thread, IsEdge, IsThreadOf, IsFormOver, numbered};
-ghost use Rattle.transition_formula.specs.Rows.{column_is, edge_width, is_kept, kept_row, kept_columns, test_row, set_row, edge_system, AreEdgeRows, with_rows};
+ghost use Rattle.transition_formula.specs.Rows.{column_is, edge_width, is_kept, kept_row, kept_columns, test_row, set_row, edge_system, AreEdgeRows, seen_system, AreSeenRows, with_rows};
 ghost use Rattle.transition_formula.specs.Stored.{edge_of, form_of, set_of, thread_of};
 
 use crate::blocks::{push_opposites, push_unit, push_zeros};
@@ -245,4 +245,45 @@ pub fn edge_rows(
     let thread = program.thread(i);
     let edge = edge_at(thread, e);
     rows_of(alloc, program, thread, edge)
+}
+
+/// The rows of an edge that all threads see.
+fn seen_rows_of(
+    alloc: Global,
+    program: &Program,
+    thread: &ThreadGraph,
+    edge: &Edge,
+) -> Result<Rows, AllocError>
+    requires program { IsProgram program.now }
+    requires counter { thread.now.counter < length program.now.columns }
+    ensures { IfOk result (λ rows. rows ≡ seen_system program.now (thread_of thread.now) (edge_of edge.now)) }
+{
+    let columns = program.columns();
+    let shape = Shape { columns, inputs: 0 };
+    let width = columns + columns;
+    let mut rows = Rows::new(alloc, width);
+    let mut row = Vec::with_capacity(alloc, width as usize)?;
+    let counter = thread.counter;
+    let (from, to) = (i128::from(edge.from.0), i128::from(edge.to.0));
+    push_column_is(&mut rows, &mut row, counter, from)?;
+    push_column_is(&mut rows, &mut row, columns + counter, to)?;
+    push_kept_rows(&mut rows, &mut row, shape, counter, edge)?;
+    Ok(rows)
+}
+
+/// What all threads see of the steps by an edge, as rows over the columns before the step and the columns after it: where its
+/// thread is, and which columns stay.
+pub fn seen_rows(
+    alloc: Global,
+    program: &Program,
+    i: ThreadNo,
+    e: EdgeNo,
+) -> Result<Rows, AllocError>
+    requires thread { IsSome (numbered program.now.threads i.0) }
+    requires edge { (thread : Thread) → IsThreadOf program.now i.0 thread → IsSome (numbered thread.edges e.0) }
+    ensures { IfOk result (AreSeenRows program.now i.0 e.0) }
+{
+    let thread = program.thread(i);
+    let edge = edge_at(thread, e);
+    seen_rows_of(alloc, program, thread, edge)
 }

@@ -13,7 +13,7 @@ mod read_term;
 mod reading;
 
 pub use atom_text::push_atom;
-pub use edges::edge_rows;
+pub use edges::{edge_rows, seen_rows};
 pub use graph::{Column, Edge, Line, ThreadGraph};
 pub use initial::init_rows;
 pub use laws::{edge_rows_are_exact, init_rows_are_exact};

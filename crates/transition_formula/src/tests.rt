@@ -174,6 +174,19 @@ fn rows_of_an_edge_of_the_second_thread(rt: HostRuntime) -> Result<(), Fail> {
 }
 
 #[test]
+fn rows_that_all_threads_see_of_an_edge(rt: HostRuntime) -> Result<(), Fail> {
+    let program = worked(rt.alloc())?;
+    let rows = seen_rows(rt.alloc(), &program, ThreadNo(2), EdgeNo(1))?;
+    let rows = rows.view();
+    assert_eq!(rt; (rows.columns(), rows.count()), (8, 4));
+    assert!(rt; is_equality(&rows, 0, &[0, 0, 0, 1, 0, 0, 0, 0], 1));
+    assert!(rt; is_equality(&rows, 1, &[0, 0, 0, 0, 0, 0, 0, 1], 2));
+    assert!(rt; is_equality(&rows, 2, &[0, -1, 0, 0, 0, 1, 0, 0], 0));
+    assert!(rt; is_equality(&rows, 3, &[0, 0, -1, 0, 0, 0, 1, 0], 0));
+    Ok(())
+}
+
+#[test]
 fn parts_of_a_program(rt: HostRuntime) -> Result<(), Fail> {
     let program = worked(rt.alloc())?;
     assert_eq!(rt; (program.columns(), program.threads()), (4, 2));

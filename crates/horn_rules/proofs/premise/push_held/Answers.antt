@@ -1,0 +1,20 @@
+use Rattle.std.proofs.Common.{◌-◌, length, ap, sym, ◌∙◌, arith}
+use Rattle.transition_formula.specs.Program.{numbered}
+use Rattle.horn_rules.specs.Instance.{widened}
+use Rattle.horn_rules.specs.Job.{holds}
+use Rattle.horn_rules.proofs.Premises.{held-next, held-room}
+use Rattle.horn_rules.proofs.premise.push_held.Goals as goal
+
+pub positions-preserved : goal.positions-preserved
+positions-preserved c =
+    let row = widened (c.args.rows.now.columns - c.args.columns) in
+    let atom = numbered c.args.atoms.now in
+    let held = holds c.args.held in
+    let width = c.positions.invariant.width in
+    let more = ap (λ system. system.rows) c.in_ok-push_if_held.ensures in
+    record {
+      made = held-next row atom held _ _ _ c.positions.position c.positions-test.true (rw (sym width) more) c.positions.invariant.made;
+      width = ap (λ system. system.columns) c.in_ok-push_if_held.ensures ∙ width;
+      room = held-room row atom held _ _ c.positions.position (length c.args.rows.now.rows) (rw (sym width) more) c.positions.invariant.room;
+      from_1 = omega (arith, c.positions.invariant.from_1);
+    }
