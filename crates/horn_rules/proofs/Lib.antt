@@ -8,3 +8,4 @@ pub mod OtherSteps
 pub mod WorkedProgram
 pub mod Posts
 pub mod Premises
+pub mod Jobs

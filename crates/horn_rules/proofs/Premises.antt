@@ -214,7 +214,7 @@ env_is program sets first second f t l w other thread edge set empty one two las
     (said_is program sets first f other l n empty.columns says_f whole)
     (ap₂ (λ (a : List Row) (b : List Row). a ++ b) (ap (λ system. system.rows) rows_is) held) width
 
-pub few_seen : (program : Program) (thread : Thread) (edge : Edge) (rows : System) → IsProgram program → rows ≡ seen_system program thread edge → length rows.rows ≤ 66
+pub few_seen : (program : Program) (thread : Thread) (edge : Edge) (rows : System) → IsProgram program → rows ≡ seen_system program thread edge → length rows.rows ≤ 4098
 few_seen program thread edge rows is rows_is =
     let n = length program.columns in
     let kept = kept_columns n thread.counter edge in
@@ -232,7 +232,7 @@ pub seen_wide : (program : Program) (thread : Thread) (edge : Edge) (rows view e
 seen_wide program thread edge rows view empty w is same width made =
     omega (arith, ap (λ system. system.columns) is, ap (λ system. system.columns) same, width, ap (λ system. system.columns) made)
 
-pub few_after : (seen view empty said last : System) (w : ℕ) → length seen.rows ≤ 66 → view ≡ seen → length said.rows ≤ length empty.rows + 129 → empty ≡ record { columns = w; rows = [] }
+pub few_after : (seen view empty said last : System) (w : ℕ) → length seen.rows ≤ 4098 → view ≡ seen → length said.rows ≤ length empty.rows + 129 → empty ≡ record { columns = w; rows = [] }
     → last ≡ with_rows said view.rows → length last.rows < 2 ^ 31
 few_after seen view empty said last w few same more made is =
     omega (arith, few, ap (λ system. length system.rows) same, more, ap (λ system. length system.rows) made, ap (λ system. length system.rows) is, length-append said.rows view.rows)

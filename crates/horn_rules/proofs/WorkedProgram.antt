@@ -8,16 +8,17 @@ use Rattle.std.proofs.lemmas.Map.Made.{AllPairs-from_IsDistinct}
 use Rattle.std.proofs.lemmas.Option.{slice_get_within, get_or_from_slice_get}
 use Rattle.thr_base.specs.Number.{Fits}
 use Rattle.transition_formula.specs.Program.{Column, Thread, Program, IsThreadOf, IsCounter, IsThread, IsEdge, IsProgram, numbered}
+use Rattle.transition_formula.proofs.OwnTexts.{first-own, second-own}
 use Rattle.horn_rules.specs.Home.{Home, homes, IsHomeOf}
 use Rattle.horn_rules.specs.Worked.{counter_column, bare_edge, first_thread, second_thread, worked_program}
 use Rattle.horn_rules.specs.declared.job.Premise.{Premise}
 use Rattle.horn_rules.specs.Job.{IsAtSource}
 
-first-counts : (column : Column) → Some (counter_column 1 (116 ∷ 49 ∷ [])) ≡ Some column → IsCounter 1 column
-first-counts column at = let same : counter_column 1 (116 ∷ 49 ∷ []) ≡ column = cc in subst (λ found. IsCounter 1 found) same (record { owned = refl; starts = refl })
+first-counts : (column : Column) → Some (counter_column 1 (116 ∷ 49 ∷ 46 ∷ 36 ∷ 112 ∷ 99 ∷ [])) ≡ Some column → IsCounter 1 column
+first-counts column at = let same : counter_column 1 (116 ∷ 49 ∷ 46 ∷ 36 ∷ 112 ∷ 99 ∷ []) ≡ column = cc in subst (λ found. IsCounter 1 found) same (record { owned = refl; starts = refl })
 
-second-counts : (column : Column) → Some (counter_column 2 (116 ∷ 50 ∷ [])) ≡ Some column → IsCounter 2 column
-second-counts column at = let same : counter_column 2 (116 ∷ 50 ∷ []) ≡ column = cc in subst (λ found. IsCounter 2 found) same (record { owned = refl; starts = refl })
+second-counts : (column : Column) → Some (counter_column 2 (116 ∷ 50 ∷ 46 ∷ 36 ∷ 112 ∷ 99 ∷ [])) ≡ Some column → IsCounter 2 column
+second-counts column at = let same : counter_column 2 (116 ∷ 50 ∷ 46 ∷ 36 ∷ 112 ∷ 99 ∷ []) ≡ column = cc in subst (λ found. IsCounter 2 found) same (record { owned = refl; starts = refl })
 
 edge-is : (thread : Thread) (from to : ℕ) → 0 < from → from < thread.locations → to < thread.locations → IsEdge worked_program thread (bare_edge from to)
 unfolding IsDistinct
@@ -60,7 +61,7 @@ threads-are (suc (suc zero)) thread at = let same : second_thread ≡ thread = c
 threads-are (suc (suc (suc zero))) thread at = cc
 threads-are (suc (suc (suc (suc k)))) thread at = cc
 
-texts-differ : IsDistinct bytes_eq ((116 ∷ 49 ∷ []) ∷ (116 ∷ 50 ∷ []) ∷ [])
+texts-differ : IsDistinct bytes_eq ((116 ∷ 49 ∷ 46 ∷ 36 ∷ 112 ∷ 99 ∷ []) ∷ (116 ∷ 50 ∷ 46 ∷ 36 ∷ 112 ∷ 99 ∷ []) ∷ [])
 unfolding IsDistinct
 texts-differ = ((refl, tt), (tt, tt))
 
@@ -72,7 +73,10 @@ worked-is = record {
   few_columns = omega arith;
   few_threads = omega arith;
   has_counters = omega arith;
-  texts_are = (record { some = omega arith; bytes = refl; no_number = refl }, (record { some = omega arith; bytes = refl; no_number = refl }, tt));
+  texts_are = (
+    record { is_text = record { some = omega arith; bytes = refl; no_number = refl }; tells_owner = first-own (36 ∷ 112 ∷ 99 ∷ []) (omega arith) },
+    (record { is_text = record { some = omega arith; bytes = refl; no_number = refl }; tells_owner = second-own (36 ∷ 112 ∷ 99 ∷ []) (omega arith) }, tt),
+  );
   texts_differ = AllPairs-from_IsDistinct bytes_eq-Decides _ texts-differ;
   starts_fit = (one-fits, (one-fits, tt));
   owners_exist = ((omega arith, omega arith), ((omega arith, omega arith), tt));

@@ -2,13 +2,16 @@
 use Rattle.std.specs.Prelude.{◌≡◌, ◌≢◌, ℕ, ℤ, pos, List, ◌++◌, length, Option, Some, slice_get}
 use Rattle.std.specs.List.{AllByRecursion}
 use Rattle.thr_base.specs.declared.names.RuleName.{RuleName}
+use Rattle.thr_base.specs.declared.names.Instance.{Instance}
 use Rattle.lin_rows.specs.Row.{Meets}
 use Rattle.lin_rows.specs.System.{IsPoint}
 use Rattle.transition_formula.specs.Program.{Program, Thread, Edge, IsThreadOf, IsEdgeOf, IsProgram}
 use Rattle.transition_formula.specs.Step.{Steps, IsInitial}
+use Rattle.horn_rules.specs.declared.job.Premise.{Premise}
 use Rattle.horn_rules.specs.Home.{State, Env}
 use Rattle.horn_rules.specs.Fact.{Sets, Fact, AreSetsOf, atoms_of}
 use Rattle.horn_rules.specs.Instance.{Case, IsCase, init_case, own_case, guar_case, env_case, inter_case}
+use Rattle.horn_rules.specs.Job.{IsCaseOf, HasKind}
 use Rattle.horn_rules.specs.Least.{IsFactOf, IsPost}
 
 -- The atoms of the fact that an instance gives hold, as they are placed, at each whole point of its system.
@@ -20,6 +23,11 @@ HeldAtomsHold = (program : Program) (rule : RuleName) (sets : Sets) (premises : 
 -- An instance gives one thing at most.
 abbrev pub PostsAreUnique : Type 0
 PostsAreUnique = (sets : Sets) (given : Case) (one other : Option Fact) → IsPost sets given one → IsPost sets given other → one ≡ other
+
+-- What the instance of a job comes to is a case of each rule that has instances of its kind.
+abbrev pub JobsAreCases : Type 0
+JobsAreCases = (program : Program) (sets : Sets) (rule : RuleName) (instance : Instance) (first second : Option Premise) (premises : List Fact) (given : Case)
+    → HasKind rule instance → IsCaseOf program sets instance first second premises given → IsCase program sets rule premises given
 
 -- The fact describes the state: it stands at a location of a thread, the thread is there, and the fact's atoms hold.
 pub record Describes (program : Program) (sets : Sets) (fact : Fact) (state : List ℤ) : Type 0 where

@@ -4,5 +4,6 @@ pub mod Fact
 pub mod Instance
 pub mod Job
 pub mod Least
+pub mod Posted
 pub mod Laws
 pub mod Worked

@@ -7,7 +7,7 @@ abbrev pub counter_column : ℕ → List ℕ → Column
 counter_column i text = record { text = text; owner = Some i; start = Some (pos 1) }
 
 abbrev pub worked_columns : List Column
-worked_columns = counter_column 1 (116 ∷ 49 ∷ []) ∷ counter_column 2 (116 ∷ 50 ∷ []) ∷ []
+worked_columns = counter_column 1 (116 ∷ 49 ∷ 46 ∷ 36 ∷ 112 ∷ 99 ∷ []) ∷ counter_column 2 (116 ∷ 50 ∷ 46 ∷ 36 ∷ 112 ∷ 99 ∷ []) ∷ []
 
 -- a step that only leads on
 abbrev pub bare_edge : ℕ → ℕ → Edge

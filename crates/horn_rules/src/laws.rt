@@ -1,4 +1,4 @@
-ghost use Rattle.horn_rules.specs.Laws.{HeldAtomsHold, PostsAreUnique, StartsAreDescribed, OwnStepsAreDescribed, OwnStepsAreTold, ToldStepsAreDescribed, InterferingStepsAreDescribed};
+ghost use Rattle.horn_rules.specs.Laws.{HeldAtomsHold, PostsAreUnique, JobsAreCases, StartsAreDescribed, OwnStepsAreDescribed, OwnStepsAreTold, ToldStepsAreDescribed, InterferingStepsAreDescribed};
 
 /// The atoms of the fact that an instance gives hold at each whole point of its system: a law, and no code.
 pub fn held_atoms_hold()
@@ -8,6 +8,11 @@ pub fn held_atoms_hold()
 /// An instance gives one thing at most: a law, and no code.
 pub fn posts_are_unique()
     ensures { PostsAreUnique }
+{}
+
+/// What the instance of a job comes to is a case of each rule that has instances of its kind: a law, and no code.
+pub fn jobs_are_cases()
+    ensures { JobsAreCases }
 {}
 
 /// The fact that a thread's start gives describes each initial state: a law, and no code.

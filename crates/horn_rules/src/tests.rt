@@ -26,8 +26,8 @@ fn columns(alloc: Global) -> Result<Vec<Column>, AllocError>
     ensures { IfOk result (λ made. map column_of made.items ≡ worked_columns) }
 {
     let mut columns = Vec::new(alloc);
-    columns.push(counter(alloc, ThreadNo(1), b"t1")?)?;
-    columns.push(counter(alloc, ThreadNo(2), b"t2")?)?;
+    columns.push(counter(alloc, ThreadNo(1), b"t1.$pc")?)?;
+    columns.push(counter(alloc, ThreadNo(2), b"t2.$pc")?)?;
     Ok(columns)
 }
 
@@ -189,6 +189,7 @@ fn a_start_has_a_row_a_column_and_a_step_four_rows(rt: HostRuntime) -> Result<()
 fn laws_are_called() {
     held_atoms_hold();
     posts_are_unique();
+    jobs_are_cases();
     starts_are_described();
     own_steps_are_described();
     own_steps_are_told();
