@@ -9,3 +9,4 @@ pub mod WorkedProgram
 pub mod Posts
 pub mod Premises
 pub mod Jobs
+pub mod StoredSets
