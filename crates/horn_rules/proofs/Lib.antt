@@ -10,3 +10,4 @@ pub mod Posts
 pub mod Premises
 pub mod Jobs
 pub mod StoredSets
+pub mod Positions
