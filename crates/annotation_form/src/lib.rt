@@ -1,0 +1,13 @@
+//! Texts of what a user gives and gets as predicates, one line for each. The layers above learn that a text is read as the
+//! sets of its predicates, or that the line which is named is the first that cannot stand there.
+#![tactic(auto)]
+
+mod adding;
+mod home_text;
+mod laws;
+mod line;
+mod predicates;
+
+pub use home_text::push_home;
+pub use laws::{a_text_has_no_bad_line, one_line_is_bad};
+pub use predicates::read_predicates;
