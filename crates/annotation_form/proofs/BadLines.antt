@@ -1,5 +1,5 @@
 -- A text has one bad line at most, and none where it is a text of predicates.
-use Rattle.std.proofs.Common.{◌≡◌, ℕ, suc, ◌+◌, ◌<◌, ◌≤◌, List, [], ◌∷◌, ◌++◌, length, refl, sym, ap, subst, ◌∙◌, arith, append_assoc, length-append, inl, inr}
+use Rattle.std.proofs.Common.{◌≡◌, ℕ, suc, ◌<◌, List, [], ◌∷◌, ◌++◌, length, sym, ap, subst, ◌∙◌, arith, append_assoc, length-append, inl, inr}
 use Rattle.std.specs.List.{AllByRecursion}
 use Rattle.std.proofs.lemmas.Bool.Decides.{leb_tells}
 use Rattle.transition_formula.specs.Program.{Program}
@@ -29,11 +29,11 @@ not-among program xs ys r s (z ∷ more) lines_are rest_is shorter are begin (Ba
     let here : z ++ (10 ∷ (lines_text more ++ s)) ≡ line ++ (10 ∷ after) = sym (append_assoc z (10 ∷ lines_text more) s) ∙ sym rest_is ∙ r_is in
     let one = cut-at_mark 10 z (lines_text more ++ s) line after z_line.0 is_line here in
     let whole : lines_text ys ++ begin.rest ≡ lines_text (xs ++ line ∷ []) ++ (lines_text more ++ begin.rest) =
-      ap (λ lines. lines_text lines ++ begin.rest) lines_are
-      ∙ lines_text-append xs (z ∷ more) begin.rest
-      ∙ ap (λ (t : List ℕ). lines_text xs ++ t) (append_assoc z (10 ∷ lines_text more) begin.rest)
-      ∙ ap (λ (t : List ℕ). lines_text xs ++ (t ++ (10 ∷ (lines_text more ++ begin.rest)))) one.0
-      ∙ sym (lines_text-more xs line (lines_text more ++ begin.rest)) in
+    ap (λ lines. lines_text lines ++ begin.rest) lines_are
+    ∙ lines_text-append xs (z ∷ more) begin.rest
+    ∙ ap (λ (t : List ℕ). lines_text xs ++ t) (append_assoc z (10 ∷ lines_text more) begin.rest)
+    ∙ ap (λ (t : List ℕ). lines_text xs ++ (t ++ (10 ∷ (lines_text more ++ begin.rest)))) one.0
+    ∙ sym (lines_text-more xs line (lines_text more ++ begin.rest)) in
     none (record { predicates = begin.predicates; rest = lines_text more ++ begin.rest; is_text = subst (IsPredicatesText program begin.predicates) whole begin.is_text })
 
 not-earlier : (program : Program) (text : List ℕ) (n m : ℕ) → (a : IsBadLine program text n) → (b : IsBadLine program text m) → length a.before < length b.before → ⊥

@@ -1,11 +1,10 @@
 -- The text of a home, and what stands behind it.
-use Rattle.std.proofs.Common.{◌≡◌, ◌≢◌, ℕ, zero, suc, ◌+◌, ◌<◌, ◌^◌, ℤ, pos, List, [], ◌∷◌, ◌++◌, length, codes, get_or, refl, sym, ap, ap₂, ◌∙◌, arith, append_assoc}
+use Rattle.std.proofs.Common.{◌≡◌, ◌≢◌, ℕ, ◌<◌, ◌^◌, pos, List, [], ◌∷◌, ◌++◌, codes, get_or, refl, sym, ap, ap₂, ◌∙◌, arith, append_assoc}
 use Rattle.std.specs.List.{AllByRecursion}
 use Rattle.thr_base.specs.Number.{Fits, number_text}
 use Rattle.thr_base.proofs.Numbers.{IsTextOf-number_text}
 use Rattle.horn_rules.specs.Home.{Home, State, Env}
 use Rattle.transition_formula.proofs.Words.{number_text-plain, no_blanks}
-use Rattle.annotation_form.specs.Predicates.{home_text}
 use Rattle.annotation_form.specs.Reading.{IsSmall, AreWordsOf, IsHead}
 use Rattle.annotation_form.proofs.Cuts.{cut-at_mark, no_mark}
 

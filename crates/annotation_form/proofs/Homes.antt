@@ -1,5 +1,5 @@
 -- Which homes a program has, and that each has one number.
-use Rattle.std.proofs.Common.{◌≡◌, ◌≢◌, ℕ, zero, suc, ◌+◌, ◌-◌, ◌<◌, ◌≤◌, ◌^◌, ◌↔◌, List, [], ◌∷◌, ◌++◌, length, map, take, Option, Some, None, refl, sym, ap, subst, ◌∙◌, arith, inl, inr, ◌⊎◌}
+use Rattle.std.proofs.Common.{◌≡◌, ℕ, zero, suc, ◌+◌, ◌-◌, ◌<◌, ◌≤◌, ◌^◌, List, [], ◌∷◌, ◌++◌, length, map, take, Option, Some, None, refl, sym, ap, subst, ◌∙◌, arith, inl, inr}
 use Rattle.std.specs.Prelude.{option_map}
 use Rattle.std.specs.Option.{IsSome}
 use Rattle.std.specs.List.{slice_get, Contains, range_with_len}
@@ -38,7 +38,7 @@ state_kind : IsKind state_homes State
 unfolding thread_no
 state_kind = record {
   at = λ i thread place h. slice_get-map (State i) (range_with_len 0 thread.locations) place
-  ∙ ap (option_map (State i)) (range-at 0 thread.locations place place (omega (arith, length-map-range_with_len (State i) 0 thread.locations)) (omega arith));
+      ∙ ap (option_map (State i)) (range-at 0 thread.locations place place (omega (arith, length-map-range_with_len (State i) 0 thread.locations)) (omega arith));
   thread_is = λ i place. refl;
   unique = λ i j k e. cc;
 }
@@ -47,7 +47,7 @@ env_kind : IsKind env_homes edge_at
 unfolding thread_no edge_at
 env_kind = record {
   at = λ i thread place h. slice_get-map (Env i) (range_with_len 1 (length thread.edges)) place
-  ∙ ap (option_map (Env i)) (range-at 1 (length thread.edges) place (suc place) (omega (arith, length-map-range_with_len (Env i) 1 (length thread.edges))) (omega arith));
+      ∙ ap (option_map (Env i)) (range-at 1 (length thread.edges) place (suc place) (omega (arith, length-map-range_with_len (Env i) 1 (length thread.edges))) (omega arith));
   thread_is = λ i place. refl;
   unique = λ i j k e. (let next : suc j ≡ suc k = cc in omega arith);
 }
@@ -167,7 +167,7 @@ where-is xs ys p x e = elim (leb_tells (length xs) p) [
       let q = p - length xs in
       let there : p ≡ length xs + q = omega arith in
       later q there (sym (slice_get-append_right xs ys p q there) ∙ e)
-    )
+      )
 ]
 
 by_thread-unique : (give : ℕ → Thread → List Home) (home_in : ℕ → ℕ → Home) → IsKind give home_in → (i : ℕ) (threads : List Thread) (j k : ℕ) (home : Home)
@@ -192,7 +192,7 @@ kinds-apart threads p q home a b =
     let one = by_thread-found state_homes 1 threads p home a in
     let other = by_thread-found env_homes 1 threads q home b in
     let same : State (1 + one.k) one.place ≡ Env (1 + other.k) (suc other.place) =
-      sym (home-is state_homes State state_kind (1 + one.k) one.thread one.place home one.home_is) ∙ home-is env_homes edge_at env_kind (1 + other.k) other.thread other.place home other.home_is in
+    sym (home-is state_homes State state_kind (1 + one.k) one.thread one.place home one.home_is) ∙ home-is env_homes edge_at env_kind (1 + other.k) other.thread other.place home other.home_is in
     cc
 
 pub homes-unique : (program : Program) (j k : ℕ) (home : Home) → slice_get (homes program) j ≡ Some home → slice_get (homes program) k ≡ Some home → j ≡ k

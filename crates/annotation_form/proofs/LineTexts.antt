@@ -1,5 +1,5 @@
 -- The lines of predicates: what is read of them, and that they are lines.
-use Rattle.std.proofs.Common.{◌≡◌, ◌≢◌, ◌==◌, ◌&&◌, ℕ, zero, suc, ◌+◌, ◌<◌, ◌^◌, ℤ, pos, negsuc, unsigned_abs, Bool, true, false, List, [], ◌∷◌, ◌++◌, length, map, get_or, codes, Some, None, refl, sym, ap, ap₂, subst, ◌∙◌, arith}
+use Rattle.std.proofs.Common.{◌≡◌, ◌≢◌, ◌==◌, ◌&&◌, ℕ, suc, ◌+◌, ◌<◌, ◌^◌, ℤ, pos, negsuc, unsigned_abs, Bool, true, false, List, [], ◌∷◌, ◌++◌, length, map, get_or, codes, Some, None, refl, sym, ap, ap₂, subst, ◌∙◌, arith}
 use Rattle.std.specs.Prelude.{if◌then◌else◌}
 use Rattle.std.specs.List.{AllByRecursion, list_all}
 use Rattle.std.specs.Char.{IsAsciiDigit}
@@ -132,9 +132,9 @@ pub predicate-line : (program : Program) (p : Predicate) → IsProgram program �
 predicate-line program p is of =
     let fits = of.is_atom.is_atom.fits in
     let atom : IsLine (atom_text program.columns p.atom) =
-      line-append (terms_text true p.atom.coefficients (column_texts program.columns)) (codes " <= " ++ number_text p.atom.bound)
-      (terms-line true p.atom.coefficients (column_texts program.columns) fits.coefficients (columns-lines program is))
-      (λ e. omega arith, (λ e. omega arith, (λ e. omega arith, (λ e. omega arith, number-line p.atom.bound fits.bound)))) in
+    line-append (terms_text true p.atom.coefficients (column_texts program.columns)) (codes " <= " ++ number_text p.atom.bound)
+    (terms-line true p.atom.coefficients (column_texts program.columns) fits.coefficients (columns-lines program is))
+    (λ e. omega arith, (λ e. omega arith, (λ e. omega arith, (λ e. omega arith, number-line p.atom.bound fits.bound)))) in
     line-append (home_text p.home) (codes " : " ++ atom_text program.columns p.atom) (home-line p.home (home-small program p.home is of.has_home)) (λ e. omega arith, (λ e. omega arith, (λ e. omega arith, atom)))
 
 pub predicates-lines : (program : Program) (ps : List Predicate) → IsProgram program → AllByRecursion (IsPredicateOf program) ps → AllByRecursion IsLine (predicate_texts program ps)

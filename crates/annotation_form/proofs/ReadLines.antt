@@ -1,5 +1,5 @@
 -- How a text is read, line by line.
-use Rattle.std.proofs.Common.{◌≡◌, ◌≢◌, ℕ, zero, suc, ◌+◌, ◌<◌, ◌≤◌, List, [], ◌∷◌, ◌++◌, length, map, codes, replicate, refl, sym, ap, ap₂, subst, ◌∙◌, arith, append_assoc, append-nil, length-append, inl, inr, ◌⊎◌}
+use Rattle.std.proofs.Common.{◌≡◌, ◌≢◌, ℕ, ◌+◌, ◌<◌, ◌≤◌, List, [], ◌∷◌, ◌++◌, length, codes, replicate, refl, sym, ap, ap₂, subst, ◌∙◌, arith, append_assoc, append-nil, length-append, inl, inr, ◌⊎◌}
 use Rattle.std.specs.List.{AllByRecursion}
 use Rattle.std.proofs.lemmas.Bool.Decides.{leb_tells}
 use Rattle.std.proofs.lemmas.List.{map-append, length-map, append_cancel_right}
@@ -14,7 +14,7 @@ use Rattle.annotation_form.specs.Reading.{HasRoom, IsLineOf, IsTaken, IsReadSoFa
 use Rattle.annotation_form.proofs.Cuts.{AllByRecursion-left, AllByRecursion-right, lines_text-more, length-lines_text, Longer, cut-lines, cut-open}
 use Rattle.annotation_form.proofs.Marks.{marked_or_not, Marked}
 use Rattle.annotation_form.proofs.Sets.{allowed-none, allowed-more, allowed-room, allowed-last, sets_of-none}
-use Rattle.annotation_form.proofs.LineTexts.{predicates-lines, predicate-line, predicate-no_end, predicates-no_end, end-line}
+use Rattle.annotation_form.proofs.LineTexts.{predicates-lines, predicate-no_end, predicates-no_end, end-line}
 
 -- the lines of a text of predicates
 abbrev all_lines : Program → List Predicate → List (List ℕ)
@@ -44,7 +44,7 @@ cut-whole xs ys r p q e =
           let back = cut-lines ys xs [] r q p (sym whole) (omega (arith, many.1)) in
           let none = no_more back.more r back.rest_is in
           absurd (omega (arith, many.1, ap length (back.lines_are ∙ none-equal ys back.more none)))
-        )
+          )
     ]
 
 same-lines : (xs ys : List (List ℕ)) → AllByRecursion IsLine xs → AllByRecursion IsLine ys → lines_text xs ≡ lines_text ys → xs ≡ ys
@@ -141,16 +141,16 @@ only-more program before others p line only only_line p_text of e =
     let front : on.front ≡ before = only on.front (AllByRecursion-left (IsPredicateOf program) on.front (on.next ∷ on.back) all) on.front_texts in
     let next : on.next ≡ p = only_line on.next (record { of_program = (AllByRecursion-right (IsPredicateOf program) on.front (on.next ∷ on.back) all).0; line_is = sym on.next_text }) in
     let none : on.back ≡ [] = no-back on.back (
-      omega (
-        arith,
-        ap length lines,
-        length-append (predicate_texts program before) (line ∷ []),
-        length-map others (predicate_text program),
-        length-map before (predicate_text program),
-        ap length on.are,
-        length-append on.front (on.next ∷ on.back),
-        ap length front,
-      )) in
+    omega (
+      arith,
+      ap length lines,
+      length-append (predicate_texts program before) (line ∷ []),
+      length-map others (predicate_text program),
+      length-map before (predicate_text program),
+      ap length on.are,
+      length-append on.front (on.next ∷ on.back),
+      ap length front,
+    )) in
     on.are ∙ ap₂ (λ (f : List Predicate) (b : List Predicate). f ++ b) front (ap₂ (λ (q : Predicate) (b : List Predicate). q ∷ b) next none)
   where
     no-back : (b : List Predicate) → length b ≡ 0 → b ≡ []
@@ -170,7 +170,7 @@ so_far-next program text sets later number left line rest s left_is taken =
       sets_are = taken.later_is;
       number_is = omega (arith, s.number_is, length-append s.before (p ∷ []));
       text_is = s.text_is ∙ ap (λ (t : List ℕ). lines_text (predicate_texts program s.before) ++ t) left_is ∙ sym (lines_text-more (predicate_texts program s.before) line rest)
-      ∙ ap (λ lines. lines_text lines ++ rest) (sym texts);
+          ∙ ap (λ lines. lines_text lines ++ rest) (sym texts);
     }
 
 -- ---- the text ends well

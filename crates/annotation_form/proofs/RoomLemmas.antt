@@ -1,6 +1,5 @@
 -- A predicate is added to the sets, or has no room there.
-use Rattle.std.proofs.Common.{◌≡◌, ◌≢◌, ℕ, zero, suc, ◌+◌, ◌-◌, ◌<◌, ◌≤◌, List, [], ◌∷◌, ◌++◌, length, get_or, Some, refl, sym, ap, subst, ◌∙◌, arith}
-use Rattle.std.specs.List.{slice_get, AllByRecursion}
+use Rattle.std.proofs.Common.{◌≡◌, ◌≢◌, ℕ, zero, suc, ◌<◌, ◌≤◌, List, [], ◌∷◌, ◌++◌, length, Some, refl, sym, ap, subst, ◌∙◌, arith}
 use Rattle.lin_rows.specs.Row.{Row}
 use Rattle.transition_formula.specs.Program.{Program, numbered}
 use Rattle.transition_formula.proofs.Lookups.{AllByRecursion-slice_get}
@@ -21,7 +20,7 @@ here : (program : Program) (sets : List (List Row)) (number : ℕ) (home : Home)
 here program sets number home atoms before is e = is.atoms_are ∙ ap (λ s. set_at s number) e ∙ set_at-sets_of program before number home is.numbered_is
 
 pub full-no_room : (program : Program) (sets : List (List Row)) (number : ℕ) (home : Home) (atom : Row) (atoms : List Row) (before : List Predicate) → IsAt program sets number home atoms → sets ≡ sets_of program before
-    → 2 ≤ length atoms → ¬ HasRoom before (record { home = home; atom = atom })
+    → most_atoms_read ≤ length atoms → ¬ HasRoom before (record { home = home; atom = atom })
 full-no_room program sets number home atom atoms before is e many has = omega (arith, has.room, ap length (here program sets number home atoms before is e))
 
 stands-lacks : (set : List Row) (atom : Row) (place : ℕ) → StandsAt set atom place → Lacks set atom → ⊥
@@ -34,7 +33,7 @@ known-no_room program sets number home atom atoms place before is e stands has =
     stands-lacks (atoms_at home before) atom place (subst (λ s. StandsAt s atom place) (sym is.atoms_are ∙ here program sets number home atoms before is e) stands) has.lacks
 
 pub new-room : (program : Program) (sets : List (List Row)) (number : ℕ) (home : Home) (atom : Row) (atoms : List Row) (before : List Predicate) → IsAt program sets number home atoms → sets ≡ sets_of program before
-    → length atoms < 2 → Lacks (set_at sets number) atom → HasRoom before (record { home = home; atom = atom })
+    → length atoms < most_atoms_read → Lacks (set_at sets number) atom → HasRoom before (record { home = home; atom = atom })
 new-room program sets number home atom atoms before is e few lacks =
     let same = here program sets number home atoms before is e in
     record { lacks = subst (λ s. Lacks s atom) (sym is.atoms_are ∙ same) lacks; room = omega (arith, ap length same) }

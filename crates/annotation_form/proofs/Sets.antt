@@ -1,12 +1,11 @@
 -- The predicates of each home, and how they grow.
-use Rattle.std.proofs.Common.{◌≡◌, ◌≢◌, ℕ, zero, suc, ◌+◌, ◌-◌, ◌<◌, ◌≤◌, Bool, true, false, List, [], ◌∷◌, ◌++◌, length, map, get_or, set, replicate, Option, Some, None, refl, sym, ap, ap₂, subst, ◌∙◌, arith, inl, inr, ◌⊎◌, append-nil, length-append}
+use Rattle.std.proofs.Common.{◌≡◌, ◌≢◌, ℕ, zero, suc, ◌-◌, ◌<◌, Bool, true, false, List, [], ◌∷◌, ◌++◌, length, map, get_or, set, replicate, Some, refl, sym, ap, ap₂, subst, ◌∙◌, arith, inl, inr, ◌⊎◌, append-nil, length-append}
 use Rattle.std.specs.Prelude.{if◌then◌else◌, option_map, AllPairs}
-use Rattle.std.specs.List.{slice_get, AllByRecursion}
+use Rattle.std.specs.List.{slice_get}
 use Rattle.std.proofs.lemmas.Bool.Decides.{eqb_tells}
 use Rattle.std.proofs.lemmas.Option.{slice_get-map, get_or_from_slice_get}
 use Rattle.std.proofs.lemmas.List.Quantifiers.{all_pairs_push}
 use Rattle.std.proofs.Math.Seq.{get_or-append_seam}
-use Rattle.std.proofs.Math.ListN.{get_or-append}
 use Rattle.lin_rows.specs.Row.{Row}
 use Rattle.lin_rows.proofs.Lists.{AllByRecursion-append, AllByRecursion-at}
 use Rattle.transition_formula.specs.Program.{Program, numbered}
@@ -16,7 +15,7 @@ use Rattle.predicate_sets.specs.HomeSet.{Lacks}
 use Rattle.predicate_sets.specs.Sets.{set_at, with_set}
 use Rattle.annotation_form.specs.Predicates.{Predicate, IsPredicateOf, AreAllowed, same_home, atoms_at, most_atoms_read, sets_of}
 use Rattle.annotation_form.specs.Reading.{HasRoom}
-use Rattle.annotation_form.proofs.Cuts.{AllByRecursion-left, AllByRecursion-right}
+use Rattle.annotation_form.proofs.Cuts.{AllByRecursion-right}
 use Rattle.annotation_form.proofs.Homes.{homes-unique}
 
 -- ---- the atoms at a home
@@ -96,8 +95,8 @@ with_set-sets_of program before (suc k) home atom e =
     ap (λ (s : List Row). set (sets_of program before) (suc k - 1) (s ++ atom ∷ [])) here
     ∙ ap (λ (i : ℕ). set (sets_of program before) i (atoms_at home before ++ atom ∷ [])) place
     ∙ map-set (λ (h : Home). atoms_at h before) (λ (h : Home). atoms_at h (before ++ p ∷ [])) (homes program) k home (atoms_at home before ++ atom ∷ []) e
-        (atoms_at-more home before p refl)
-        (λ j z at other. sym (atoms_at-same z before p (λ same. other (homes-unique program j k home (at ∙ ap Some same) e))))
+    (atoms_at-more home before p refl)
+    (λ j z at other. sym (atoms_at-same z before p (λ same. other (homes-unique program j k home (at ∙ ap Some same) e))))
 
 pub sets_of-none : (program : Program) → sets_of program [] ≡ replicate (length (homes program)) []
 sets_of-none program = none (homes program)
@@ -151,7 +150,7 @@ lacks-from (x ∷ xs) a ys h = (
 pub allowed-room : (program : Program) (before : List Predicate) (p : Predicate) (more : List Predicate) → AreAllowed program (before ++ p ∷ more) → HasRoom before p
 allowed-room program before p more allowed =
     let here : atoms_at p.home (before ++ p ∷ more) ≡ atoms_at p.home before ++ (p.atom ∷ atoms_at p.home more) =
-      atoms_at-append p.home before (p ∷ more) ∙ ap (λ (r : List Row). atoms_at p.home before ++ r) (atoms_at-append p.home (p ∷ []) more ∙ ap (λ (r : List Row). r ++ atoms_at p.home more) (atoms_at-here p.home p refl)) in
+    atoms_at-append p.home before (p ∷ more) ∙ ap (λ (r : List Row). atoms_at p.home before ++ r) (atoms_at-append p.home (p ∷ []) more ∙ ap (λ (r : List Row). r ++ atoms_at p.home more) (atoms_at-here p.home p refl)) in
     record {
       lacks = lacks-from (atoms_at p.home before) p.atom (atoms_at p.home more) (subst (AllPairs (λ a b. a ≢ b)) here (allowed.are_sets p.home).none_twice);
       room = omega (arith, allowed.few p.home, ap length here, length-append (atoms_at p.home before) (p.atom ∷ atoms_at p.home more));

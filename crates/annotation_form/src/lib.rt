@@ -9,5 +9,8 @@ mod line;
 mod predicates;
 
 pub use home_text::push_home;
-pub use laws::{a_text_has_no_bad_line, one_line_is_bad};
+pub use laws::one_line_is_bad_at_most;
 pub use predicates::read_predicates;
+
+#[cfg(test)]
+mod tests;

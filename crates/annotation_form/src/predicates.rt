@@ -45,11 +45,7 @@ fn read_lines(alloc: Global, program: &Program, text: &[u8]) -> Result<Lines, Al
 }
 
 /// The predicates of a text: for each home of the program its atoms, in the order of their lines.
-pub fn read_predicates(
-    alloc: Global,
-    program: &Program,
-    text: &[u8],
-) -> Result<Sets, LineStop>
+pub fn read_predicates(alloc: Global, program: &Program, text: &[u8]) -> Result<Sets, LineStop>
     requires { length text.now ≤ 1048576 }
     ensures answer { IsReadAnswer program.now text.now result }
     // A text is read as the sets of its predicates, whatever predicates it is the text of.

@@ -1,4 +1,4 @@
-use Rattle.std.proofs.Common.{◌≡◌, ◌≤◌, ◌∙◌, ◌↔◌, ℕ, Bool, true, false, IsTrue, length, sym, refl, arith, inl, inr}
+use Rattle.std.proofs.Common.{◌≤◌, ◌∙◌, ◌↔◌, ℕ, false, IsTrue, length, sym, refl, arith, inl, inr}
 use Rattle.std.proofs.lemmas.Bool.{false≢true}
 use Rattle.std.proofs.lemmas.Bool.Decides.{leb_tells}
 use Rattle.std.specs.Prelude.{nat_le}

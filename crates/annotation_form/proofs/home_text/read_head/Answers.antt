@@ -1,4 +1,3 @@
-use Rattle.std.proofs.Common.{◌∙◌, sym}
 use Rattle.annotation_form.proofs.HomeTexts.{no_thread, no_place, split3}
 use Rattle.annotation_form.proofs.home_text.read_head.Goals as goal
 
