@@ -1,4 +1,5 @@
 pub mod Home
+pub mod HomeText
 pub mod Stored
 pub mod Fact
 pub mod Instance

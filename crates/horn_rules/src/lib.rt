@@ -3,12 +3,14 @@
 //! layers above learn that the rows of a job are exactly those of its instance.
 #![tactic(auto)]
 
+mod home_text;
 mod homes;
 mod job;
 mod laws;
 mod posted;
 mod premise;
 
+pub use home_text::push_home;
 pub use homes::{home_count, named, number};
 pub use job::{Job, Premise, instance_rows};
 pub use laws::{

@@ -1,0 +1,211 @@
+-- Which homes a program has, and that each has one number.
+use Rattle.std.proofs.Common.{◌≡◌, ℕ, zero, suc, ◌+◌, ◌-◌, ◌<◌, ◌≤◌, ◌^◌, List, [], ◌∷◌, ◌++◌, length, map, take, Option, Some, None, refl, sym, ap, subst, ◌∙◌, arith, inl, inr}
+use Rattle.std.specs.Prelude.{option_map}
+use Rattle.std.specs.Option.{IsSome}
+use Rattle.std.specs.List.{slice_get, Contains, range_with_len}
+use Rattle.std.proofs.lemmas.Bool.Decides.{leb_tells}
+use Rattle.std.proofs.lemmas.Option.{slice_get_within, slice_get-map, get_or_from_slice_get}
+use Rattle.std.proofs.lemmas.List.{length-map}
+use Rattle.std.proofs.lemmas.List.FromFn.{length-map-range_with_len}
+use Rattle.transition_formula.specs.Program.{Program, Thread, IsThreadOf, IsProgram, numbered}
+use Rattle.transition_formula.specs.Stored.{edge_of}
+use Rattle.transition_formula.specs.declared.graph.Edge.{Edge as StoredEdge}
+use Rattle.horn_rules.specs.Home.{Home, State, Env, by_thread, state_homes, env_homes, homes, IsHomeOf}
+use Rattle.horn_rules.proofs.Places.{slice_get-append_left, slice_get-append_right, range-at, by_thread-at, by_thread-found}
+use Rattle.horn_rules.proofs.Numbers.{state_home-place, env_home-place}
+use Rattle.annotation_form.specs.Reading.{IsSmall}
+
+contains : {A : Type 0} (xs : List A) (p : ℕ) (x : A) → slice_get xs p ≡ Some x → Contains xs x
+contains xs p x e = (p, slice_get_within xs p x e, get_or_from_slice_get xs p x x e)
+
+-- ---- the two kinds of homes
+
+thread_no : Home → ℕ
+thread_no (State i l) = i
+thread_no (Env i e) = i
+
+-- What is known of the homes of one kind: where each stands, whose it is, and that its place is its own.
+record IsKind (give : ℕ → Thread → List Home) (home_in : ℕ → ℕ → Home) : Type 0 where
+  at : (i : ℕ) (thread : Thread) (place : ℕ) → place < length (give i thread) → slice_get (give i thread) place ≡ Some (home_in i place)
+  thread_is : (i place : ℕ) → thread_no (home_in i place) ≡ i
+  unique : (i j k : ℕ) → home_in i j ≡ home_in i k → j ≡ k
+
+-- the first edge has number 1
+edge_at : ℕ → ℕ → Home
+edge_at i place = Env i (suc place)
+
+state_kind : IsKind state_homes State
+unfolding thread_no
+state_kind = record {
+  at = λ i thread place h. slice_get-map (State i) (range_with_len 0 thread.locations) place
+      ∙ ap (option_map (State i)) (range-at 0 thread.locations place place (omega (arith, length-map-range_with_len (State i) 0 thread.locations)) (omega arith));
+  thread_is = λ i place. refl;
+  unique = λ i j k e. cc;
+}
+
+env_kind : IsKind env_homes edge_at
+unfolding thread_no edge_at
+env_kind = record {
+  at = λ i thread place h. slice_get-map (Env i) (range_with_len 1 (length thread.edges)) place
+      ∙ ap (option_map (Env i)) (range-at 1 (length thread.edges) place (suc place) (omega (arith, length-map-range_with_len (Env i) 1 (length thread.edges))) (omega arith));
+  thread_is = λ i place. refl;
+  unique = λ i j k e. (let next : suc j ≡ suc k = cc in omega arith);
+}
+
+-- ---- the homes that there are
+
+home-from_thread : (give : ℕ → Thread → List Home) (home_in : ℕ → ℕ → Home) → IsKind give home_in → (threads : List Thread) (k place : ℕ) (thread : Thread) → slice_get threads k ≡ Some thread
+    → place < length (give (suc k) thread) → (p : ℕ) × (slice_get (by_thread give 1 threads) p ≡ Some (home_in (suc k) place))
+home-from_thread give home_in is threads k place thread at within = (
+  length (by_thread give 1 (take k threads)) + place,
+  by_thread-at give 1 k threads thread (suc k) _ place at (omega arith) within refl ∙ is.at (suc k) thread place within,
+)
+
+state-from_place : (program : Program) (i place : ℕ) (thread : Thread) → IsThreadOf program i thread → place < length (state_homes i thread) → IsHomeOf program (State i place)
+state-from_place program zero place thread at within = cc
+state-from_place program (suc k) place thread at within =
+    let there = home-from_thread state_homes State state_kind program.threads k place thread at within in
+    contains (homes program) there.0 (State (suc k) place)
+    (slice_get-append_left (by_thread state_homes 1 program.threads) (by_thread env_homes 1 program.threads) there.0 (slice_get_within _ there.0 _ there.1) ∙ there.1)
+
+env-from_place : (program : Program) (i place : ℕ) (thread : Thread) → IsThreadOf program i thread → place < length (env_homes i thread) → IsHomeOf program (Env i (suc place))
+unfolding edge_at
+env-from_place program zero place thread at within = cc
+env-from_place program (suc k) place thread at within =
+    let there = home-from_thread env_homes edge_at env_kind program.threads k place thread at within in
+    let states = by_thread state_homes 1 program.threads in
+    contains (homes program) (length states + there.0) (Env (suc k) (suc place))
+    (slice_get-append_right states (by_thread env_homes 1 program.threads) (length states + there.0) there.0 refl ∙ there.1)
+
+-- what a thread has, where the thread is known
+pub location-there : (program : Program) (i l n : ℕ) (thread : Option Thread) → numbered program.threads i ≡ thread → option_map (λ thread. thread.locations) thread ≡ Some n → l < n → IsHomeOf program (State i l)
+location-there program i l n None at e h = cc
+location-there program i l n (Some thread) at e h =
+    let same : thread.locations ≡ n = cc in
+    state-from_place program i l thread at (omega (arith, length-map-range_with_len (State i) 0 thread.locations))
+
+pub location-within : (program : Program) (i l n : ℕ) → option_map (λ thread. thread.locations) (numbered program.threads i) ≡ Some n → IsHomeOf program (State i l) → l < n
+location-within program i l n e is =
+    let place = state_home-place program i l is in
+    let same : Some place.thread.locations ≡ Some n = sym (ap (option_map (λ thread. thread.locations)) place.thread_is) ∙ e in
+    let count : place.thread.locations ≡ n = cc in
+    omega (arith, place.within, length-map-range_with_len (State i) 0 place.thread.locations)
+
+pub edges-count : (thread : Option Thread) (edges : List StoredEdge) → option_map (λ thread. thread.edges) thread ≡ Some (map edge_of edges)
+    → option_map (λ thread. length thread.edges) thread ≡ Some (length edges)
+edges-count None edges e = cc
+edges-count (Some thread) edges e = let same : thread.edges ≡ map edge_of edges = cc in ap Some (ap length same ∙ length-map edges edge_of)
+
+pub edge-there : (program : Program) (i e n : ℕ) (thread : Option Thread) → numbered program.threads i ≡ thread → option_map (λ thread. length thread.edges) thread ≡ Some n → 1 ≤ e → e ≤ n
+    → IsHomeOf program (Env i e)
+edge-there program i e n None at is h k = cc
+edge-there program i zero n (Some thread) at is h k = absurd (omega arith)
+edge-there program i (suc e) n (Some thread) at is h k =
+    let same : length thread.edges ≡ n = cc in
+    env-from_place program i e thread at (omega (arith, length-map-range_with_len (Env i) 1 (length thread.edges)))
+
+pub edge-within : (program : Program) (i e n : ℕ) → option_map (λ thread. length thread.edges) (numbered program.threads i) ≡ Some n → IsHomeOf program (Env i e) → (1 ≤ e) × (e ≤ n)
+edge-within program i e n is has =
+    let there = env_home-place program i e has in
+    let place = there.1 in
+    let same : Some (length place.thread.edges) ≡ Some n = sym (ap (option_map (λ thread. length thread.edges)) place.thread_is) ∙ is in
+    let count : length place.thread.edges ≡ n = cc in
+    (omega (arith, there.0), omega (arith, there.0, place.within, length-map-range_with_len (Env i) 1 (length place.thread.edges)))
+
+-- a home's thread is one of the program
+some-thread : (threads : List Thread) (i : ℕ) (thread : Thread) → numbered threads i ≡ Some thread → IsSome (numbered threads i)
+some-thread threads i thread e = subst IsSome (sym e) refl
+
+pub state-thread : (program : Program) (i l : ℕ) → IsHomeOf program (State i l) → IsSome (numbered program.threads i)
+state-thread program i l is = let place = state_home-place program i l is in some-thread program.threads i place.thread place.thread_is
+
+pub env-thread : (program : Program) (i e : ℕ) → IsHomeOf program (Env i e) → IsSome (numbered program.threads i)
+env-thread program i e is = let place = (env_home-place program i e is).1 in some-thread program.threads i place.thread place.thread_is
+
+-- ---- the numbers of a program's homes are small
+
+small-thread : (program : Program) (i : ℕ) (thread : Thread) → IsProgram program → IsThreadOf program i thread → i < 2 ^ 32
+small-thread program zero thread is at = omega arith
+small-thread program (suc k) thread is at = omega (arith, is.few_threads, slice_get_within program.threads k thread at)
+
+pub home-small : (program : Program) (home : Home) → IsProgram program → IsHomeOf program home → IsSmall home
+home-small program (State i l) is has =
+    let place = state_home-place program i l has in
+    (small-thread program i place.thread is place.thread_is, omega (arith, place.within, length-map-range_with_len (State i) 0 place.thread.locations, (is.threads_are i place.thread place.thread_is).few_locations))
+home-small program (Env i e) is has =
+    let there = env_home-place program i e has in
+    let place = there.1 in
+    (small-thread program i place.thread is place.thread_is, omega (arith, there.0, place.within, length-map-range_with_len (Env i) 1 (length place.thread.edges), (is.threads_are i place.thread place.thread_is).few_edges))
+
+-- ---- no home stands twice among all
+
+home-is : (give : ℕ → Thread → List Home) (home_in : ℕ → ℕ → Home) → IsKind give home_in → (i : ℕ) (thread : Thread) (p : ℕ) (home : Home) → slice_get (give i thread) p ≡ Some home
+    → home ≡ home_in i p
+home-is give home_in is i thread p home e =
+    let there : Some home ≡ Some (home_in i p) = sym e ∙ is.at i thread p (slice_get_within (give i thread) p home e) in
+    cc
+
+first-thread : (give : ℕ → Thread → List Home) (home_in : ℕ → ℕ → Home) → IsKind give home_in → (i : ℕ) (thread : Thread) (p : ℕ) (home : Home) → slice_get (give i thread) p ≡ Some home
+    → thread_no home ≡ i
+first-thread give home_in is i thread p home e = ap thread_no (home-is give home_in is i thread p home e) ∙ is.thread_is i p
+
+later-thread : (give : ℕ → Thread → List Home) (home_in : ℕ → ℕ → Home) → IsKind give home_in → (i : ℕ) (threads : List Thread) (p : ℕ) (home : Home)
+    → slice_get (by_thread give i threads) p ≡ Some home → i ≤ thread_no home
+later-thread give home_in is i threads p home e =
+    let found = by_thread-found give i threads p home e in
+    omega (arith, first-thread give home_in is (i + found.k) found.thread found.place home found.home_is)
+
+-- where a place is, in one list or behind it in another
+data Where (A : Type 0) (xs ys : List A) (p : ℕ) (x : A) : Type 0 where
+  first : slice_get xs p ≡ Some x → Where A xs ys p x
+  later : (q : ℕ) → p ≡ length xs + q → slice_get ys q ≡ Some x → Where A xs ys p x
+
+where-is : {A : Type 0} (xs ys : List A) (p : ℕ) (x : A) → slice_get (xs ++ ys) p ≡ Some x → Where A xs ys p x
+where-is xs ys p x e = elim (leb_tells (length xs) p) [
+  | inr (miss, inside) ↦ first (sym (slice_get-append_left xs ys p inside) ∙ e)
+  | inl (hit, behind) ↦ (
+      let q = p - length xs in
+      let there : p ≡ length xs + q = omega arith in
+      later q there (sym (slice_get-append_right xs ys p q there) ∙ e)
+      )
+]
+
+by_thread-unique : (give : ℕ → Thread → List Home) (home_in : ℕ → ℕ → Home) → IsKind give home_in → (i : ℕ) (threads : List Thread) (j k : ℕ) (home : Home)
+    → slice_get (by_thread give i threads) j ≡ Some home → slice_get (by_thread give i threads) k ≡ Some home → j ≡ k
+by_thread-unique give home_in is i [] zero k home a b = cc
+by_thread-unique give home_in is i [] (suc j) k home a b = cc
+by_thread-unique give home_in is i (t ∷ threads) j k home a b = elim (where-is (give i t) (by_thread give (suc i) threads) j home a) [
+  | first x ↦ elim (where-is (give i t) (by_thread give (suc i) threads) k home b) [
+    | first y ↦ is.unique i j k (sym (home-is give home_in is i t j home x) ∙ home-is give home_in is i t k home y)
+    | later q ks y ↦ absurd (omega (arith, first-thread give home_in is i t j home x, later-thread give home_in is (suc i) threads q home y))
+  ]
+  | later r js x ↦ elim (where-is (give i t) (by_thread give (suc i) threads) k home b) [
+    | first y ↦ absurd (omega (arith, first-thread give home_in is i t k home y, later-thread give home_in is (suc i) threads r home x))
+    | later q ks y ↦ (let rest = by_thread-unique give home_in is (suc i) threads r q home x y in omega arith)
+  ]
+]
+
+-- a home at a location is none at an edge
+kinds-apart : (threads : List Thread) (p q : ℕ) (home : Home) → slice_get (by_thread state_homes 1 threads) p ≡ Some home → slice_get (by_thread env_homes 1 threads) q ≡ Some home → ⊥
+unfolding edge_at
+kinds-apart threads p q home a b =
+    let one = by_thread-found state_homes 1 threads p home a in
+    let other = by_thread-found env_homes 1 threads q home b in
+    let same : State (1 + one.k) one.place ≡ Env (1 + other.k) (suc other.place) =
+    sym (home-is state_homes State state_kind (1 + one.k) one.thread one.place home one.home_is) ∙ home-is env_homes edge_at env_kind (1 + other.k) other.thread other.place home other.home_is in
+    cc
+
+pub homes-unique : (program : Program) (j k : ℕ) (home : Home) → slice_get (homes program) j ≡ Some home → slice_get (homes program) k ≡ Some home → j ≡ k
+homes-unique program j k home a b =
+    let states = by_thread state_homes 1 program.threads in
+    let edges = by_thread env_homes 1 program.threads in
+    elim (where-is states edges j home a) [
+      | first x ↦ elim (where-is states edges k home b) [
+        | first y ↦ by_thread-unique state_homes State state_kind 1 program.threads j k home x y
+        | later q ks y ↦ absurd (kinds-apart program.threads j q home x y)
+      ]
+      | later r js x ↦ elim (where-is states edges k home b) [
+        | first y ↦ absurd (kinds-apart program.threads k r home y x)
+        | later q ks y ↦ (let rest = by_thread-unique env_homes edge_at env_kind 1 program.threads r q home x y in omega arith)
+      ]
+    ]

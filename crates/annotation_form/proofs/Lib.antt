@@ -1,0 +1,9 @@
+pub mod Cuts
+pub mod BadLines
+pub mod Marks
+pub mod HomeTexts
+pub mod Homes
+pub mod Sets
+pub mod RoomLemmas
+pub mod LineTexts
+pub mod ReadLines

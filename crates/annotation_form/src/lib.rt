@@ -1,0 +1,15 @@
+//! Texts of what a user gives and gets as predicates, one line for each. The layers above learn that a text is read as the
+//! sets of its predicates, or that the line which is named is the first that cannot stand there.
+#![tactic(auto)]
+
+mod adding;
+mod head;
+mod laws;
+mod line;
+mod predicates;
+
+pub use laws::one_line_is_bad_at_most;
+pub use predicates::read_predicates;
+
+#[cfg(test)]
+mod tests;

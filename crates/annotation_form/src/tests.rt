@@ -1,0 +1,255 @@
+ghost use Rattle.std.specs.Prelude.{◌≡◌, ◌≤◌, ◌<◌, ◌∷◌, [], map, length, IfOk};
+ghost use Rattle.predicate_sets.specs.Sets.{HasHome};
+ghost use Rattle.transition_formula.specs.Stored.{column_of, edge_of, thread_of};
+ghost use Rattle.horn_rules.specs.Worked.{bare_edge, counter_column, first_thread, second_thread, worked_columns, worked_program};
+
+use super::*;
+use lin_rows::Rows;
+use predicate_sets::Sets;
+use std::alloc::{AllocError, Global};
+use std::test::Fail;
+use thr_base::{EdgeNo, Home, HomeNo, LineStop, Loc, ThreadNo};
+use transition_formula::{Column, Edge, Program, ThreadGraph};
+
+fn counter(alloc: Global, thread: ThreadNo, text: &[u8]) -> Result<Column, AllocError>
+    ensures { IfOk result (λ made. column_of made ≡ counter_column thread.0 text.now) }
+{
+    let text = Vec::from_slice(alloc, text)?;
+    Ok(Column {
+        text,
+        owner: Some(thread),
+        start: Some(1),
+    })
+}
+
+fn columns(alloc: Global) -> Result<Vec<Column>, AllocError>
+    ensures { IfOk result (λ made. map column_of made.items ≡ worked_columns) }
+{
+    let mut columns = Vec::new(alloc);
+    columns.push(counter(alloc, ThreadNo(1), b"t1")?)?;
+    columns.push(counter(alloc, ThreadNo(2), b"t2")?)?;
+    Ok(columns)
+}
+
+/// An edge that only leads on.
+fn edge(alloc: Global, from: Loc, to: Loc) -> Edge
+    ensures { edge_of result ≡ bare_edge from.0 to.0 }
+{
+    Edge {
+        from,
+        to,
+        inputs: 0,
+        tests: Rows::new(alloc, 2),
+        sets: Vec::new(alloc),
+    }
+}
+
+/// The first thread has 3 locations and 2 edges.
+fn first(alloc: Global) -> Result<ThreadGraph, AllocError>
+    ensures { IfOk result (λ made. thread_of made ≡ first_thread) }
+{
+    let mut edges = Vec::new(alloc);
+    edges.push(edge(alloc, Loc(1), Loc(2)))?;
+    edges.push(edge(alloc, Loc(2), Loc(0)))?;
+    Ok(ThreadGraph {
+        counter: 0,
+        locations: 3,
+        edges,
+    })
+}
+
+/// The second thread has 4 locations and 1 edge.
+fn second(alloc: Global) -> Result<ThreadGraph, AllocError>
+    ensures { IfOk result (λ made. thread_of made ≡ second_thread) }
+{
+    let mut edges = Vec::new(alloc);
+    edges.push(edge(alloc, Loc(1), Loc(3)))?;
+    Ok(ThreadGraph {
+        counter: 1,
+        locations: 4,
+        edges,
+    })
+}
+
+fn threads(alloc: Global) -> Result<Vec<ThreadGraph>, AllocError>
+    ensures { IfOk result (λ made. map thread_of made.items ≡ first_thread ∷ second_thread ∷ []) }
+{
+    let mut threads = Vec::new(alloc);
+    threads.push(first(alloc)?)?;
+    threads.push(second(alloc)?)?;
+    Ok(threads)
+}
+
+fn worked(alloc: Global) -> Result<Program, AllocError>
+    ensures { IfOk result (λ program. program ≡ worked_program) }
+{
+    let columns = columns(alloc)?;
+    let threads = threads(alloc)?;
+    Ok(Program::new(columns, threads))
+}
+
+/// What a text of the program is read as; it has 10 homes.
+fn read(alloc: Global, program: &Program, text: &[u8]) -> Result<Sets, LineStop>
+    requires program { program.now ≡ worked_program }
+    requires length { length text.now ≤ 1048576 }
+    ensures { IfOk result (λ sets. length sets ≡ 10) }
+{
+    read_predicates(alloc, program, text)
+}
+
+/// At the place from 0, the home has this atom.
+fn stands_at(sets: &Sets, home: u32, place: usize, coefficients: &[i128], bound: i128) -> bool
+    requires { HasHome sets.now home }
+{
+    let Ok(set) = sets.at(HomeNo(home)) else {
+        return false;
+    };
+    if place < set.atoms().len() {
+        let atom = &set.atoms()[place];
+        atom.coefficients() == coefficients && atom.bound() == bound
+    } else {
+        false
+    }
+}
+
+fn count(sets: &Sets, home: u32) -> Option<usize>
+    requires { HasHome sets.now home }
+{
+    match sets.at(HomeNo(home)) {
+        Ok(set) => Some(set.atoms().len()),
+        Err(_) => None,
+    }
+}
+
+#[test]
+fn predicates_of_homes_in_the_order_of_lines(rt: HostRuntime) -> Result<(), Fail> {
+    let alloc = rt.alloc();
+    let program = worked(alloc)?;
+    let text = b"e 1 2 : t1 - t2' <= 0
+s 2 0 : t1 <= 3
+s 1 1 : -t2 <= 4
+s 2 0 : t1 + 2*t2 <= -1
+end
+";
+    let sets = read(alloc, &program, text)?;
+    assert!(rt; stands_at(&sets, 2, 0, &[0, -1], 4));
+    assert!(rt; stands_at(&sets, 4, 0, &[1, 0], 3));
+    assert!(rt; stands_at(&sets, 4, 1, &[1, 2], -1));
+    assert!(rt; stands_at(&sets, 9, 0, &[1, 0, 0, -1], 0));
+    assert_eq!(rt;
+        (count(&sets, 1), count(&sets, 2), count(&sets, 4)),
+        (Some(0), Some(1), Some(2))
+    );
+    let none = read(alloc, &program, b"end\n")?;
+    assert_eq!(rt; (count(&none, 1), count(&none, 10)), (Some(0), Some(0)));
+    Ok(())
+}
+
+/// The bad line of a text, if it has one.
+fn bad_line(alloc: Global, program: &Program, text: &[u8]) -> Option<u32> {
+    if text.len() > 1_000 {
+        return None;
+    }
+    match read_predicates(alloc, program, text) {
+        Err(LineStop::BadLine(line)) => Some(line),
+        _ => None,
+    }
+}
+
+/// The line is bad behind another one.
+fn is_bad(alloc: Global, program: &Program, line: &[u8]) -> Result<bool, AllocError> {
+    let mut text = Vec::from_slice(alloc, b"s 1 1 : t1 <= 3\n")?;
+    text.extend_from_slice(line)?;
+    text.extend_from_slice(b"\nend\n")?;
+    Ok(bad_line(alloc, program, text.as_slice()) == Some(2))
+}
+
+#[test]
+fn lines_that_cannot_stand(rt: HostRuntime) -> Result<(), Fail> {
+    let program = worked(rt.alloc())?;
+    let lines = b"s 1 3 : t1 <= 1
+s 0 1 : t1 <= 1
+s 3 1 : t1 <= 1
+e 1 0 : t1 <= 1
+e 1 3 : t1 <= 1
+e 2 2 : t1 <= 1
+s 01 1 : t1 <= 1
+s 1 01 : t1 <= 1
+s  1 1 : t1 <= 1
+s 1  1 : t1 <= 1
+s 1 1  : t1 <= 1
+s 1 1 :  t1 <= 1
+s 1 1 : t1 <= 1\x20
+\x20s 1 1 : t1 <= 1
+s 1 1: t1 <= 1
+s 1 1 t1 <= 1
+s 1 : t1 <= 1
+s 1 1 1 : t1 <= 1
+s 1 -0 : t1 <= 1
+s +1 1 : t1 <= 1
+s 1 4294967297 : t1 <= 1
+S 1 1 : t1 <= 1
+t 1 1 : t1 <= 1
+s 1 1 : 2*t1 <= 4
+s 1 1 : t1' <= 1
+s 1 1 : t3 <= 1
+s 1 1 : t1 <= 3
+s 1 1 : t1 <= 1\r
+s 1 1 : \x20
+end\x20
+
+s 1 1";
+    for line in lines.split(|b| *b == b'\n') {
+        assert!(rt; is_bad(rt.alloc(), &program, line)?);
+    }
+    assert!(rt; !is_bad(rt.alloc(), &program, b"s 1 1 : t1 <= 4")?);
+    assert!(rt; !is_bad(rt.alloc(), &program, b"e 1 1 : t1' <= 3")?);
+    Ok(())
+}
+
+#[test]
+fn texts_that_end_badly(rt: HostRuntime) -> Result<(), Fail> {
+    let alloc = rt.alloc();
+    let program = worked(alloc)?;
+    assert_eq!(rt; bad_line(alloc, &program, b""), Some(1));
+    assert_eq!(rt; bad_line(alloc, &program, b"end"), Some(1));
+    assert_eq!(rt; bad_line(alloc, &program, b"\nend\n"), Some(1));
+    assert_eq!(rt; bad_line(alloc, &program, b"end\n\n"), Some(2));
+    assert_eq!(rt; bad_line(alloc, &program, b"end\nend\n"), Some(2));
+    assert_eq!(rt; bad_line(alloc, &program, b"s 1 1 : t1 <= 3"), Some(1));
+    assert_eq!(rt; bad_line(alloc, &program, b"s 1 1 : t1 <= 3\n"), Some(2));
+    assert_eq!(rt; bad_line(alloc, &program, b"s 1 1 : t1 <= 3\nend"), Some(2));
+    assert_eq!(rt;
+        bad_line(alloc, &program, b"s 1 1 : t1 <= 3\nend\nx"),
+        Some(3)
+    );
+    Ok(())
+}
+
+#[test]
+fn a_third_atom_at_a_home_is_bad(rt: HostRuntime) -> Result<(), Fail> {
+    let alloc = rt.alloc();
+    let program = worked(alloc)?;
+    let text = b"s 1 1 : t1 <= 3
+s 1 1 : t1 <= 4
+s 1 2 : t1 <= 5
+s 1 1 : t1 <= 5
+end
+";
+    assert_eq!(rt; bad_line(alloc, &program, text), Some(4));
+    Ok(())
+}
+
+#[test]
+fn texts_of_homes(rt: HostRuntime) -> Result<(), Fail> {
+    let mut out = Vec::new(rt.alloc());
+    push_home(&mut out, Home::State(ThreadNo(2), Loc(0)))?;
+    push_home(&mut out, Home::Env(ThreadNo(1), EdgeNo(12)))?;
+    assert!(rt; out.as_slice() == b"s 2 0e 1 12".as_slice());
+    Ok(())
+}
+
+#[test]
+fn laws_are_called() {
+    one_line_is_bad_at_most();
+}
