@@ -53,7 +53,7 @@ pub fn read_predicates(alloc: Global, program: &Program, text: &[u8]) -> Result<
 {
     match read_lines(alloc, program, text) {
         Ok(Lines::Sets(sets)) => Ok(sets),
-        Ok(Lines::Bad(number)) => Err(LineStop::BadLine(number)),
+        Ok(Lines::Bad(line)) => Err(LineStop::BadLine(line)),
         Err(AllocError) => Err(LineStop::Memory),
     }
 }
