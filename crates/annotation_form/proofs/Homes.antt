@@ -1,4 +1,4 @@
--- Which homes a program has, and that each has one number.
+-- Which homes a program has.
 use Rattle.std.proofs.Common.{◌≡◌, ℕ, zero, suc, ◌+◌, ◌-◌, ◌<◌, ◌≤◌, ◌^◌, List, [], ◌∷◌, ◌++◌, length, map, take, Option, Some, None, refl, sym, ap, subst, ◌∙◌, arith, inl, inr}
 use Rattle.std.specs.Prelude.{option_map}
 use Rattle.std.specs.Option.{IsSome}
@@ -136,76 +136,3 @@ home-small program (Env i e) is has =
     let there = env_home-place program i e has in
     let place = there.1 in
     (small-thread program i place.thread is place.thread_is, omega (arith, there.0, place.within, length-map-range_with_len (Env i) 1 (length place.thread.edges), (is.threads_are i place.thread place.thread_is).few_edges))
-
--- ---- no home stands twice among all
-
-home-is : (give : ℕ → Thread → List Home) (home_in : ℕ → ℕ → Home) → IsKind give home_in → (i : ℕ) (thread : Thread) (p : ℕ) (home : Home) → slice_get (give i thread) p ≡ Some home
-    → home ≡ home_in i p
-home-is give home_in is i thread p home e =
-    let there : Some home ≡ Some (home_in i p) = sym e ∙ is.at i thread p (slice_get_within (give i thread) p home e) in
-    cc
-
-first-thread : (give : ℕ → Thread → List Home) (home_in : ℕ → ℕ → Home) → IsKind give home_in → (i : ℕ) (thread : Thread) (p : ℕ) (home : Home) → slice_get (give i thread) p ≡ Some home
-    → thread_no home ≡ i
-first-thread give home_in is i thread p home e = ap thread_no (home-is give home_in is i thread p home e) ∙ is.thread_is i p
-
-later-thread : (give : ℕ → Thread → List Home) (home_in : ℕ → ℕ → Home) → IsKind give home_in → (i : ℕ) (threads : List Thread) (p : ℕ) (home : Home)
-    → slice_get (by_thread give i threads) p ≡ Some home → i ≤ thread_no home
-later-thread give home_in is i threads p home e =
-    let found = by_thread-found give i threads p home e in
-    omega (arith, first-thread give home_in is (i + found.k) found.thread found.place home found.home_is)
-
--- where a place is, in one list or behind it in another
-data Where (A : Type 0) (xs ys : List A) (p : ℕ) (x : A) : Type 0 where
-  first : slice_get xs p ≡ Some x → Where A xs ys p x
-  later : (q : ℕ) → p ≡ length xs + q → slice_get ys q ≡ Some x → Where A xs ys p x
-
-where-is : {A : Type 0} (xs ys : List A) (p : ℕ) (x : A) → slice_get (xs ++ ys) p ≡ Some x → Where A xs ys p x
-where-is xs ys p x e = elim (leb_tells (length xs) p) [
-  | inr (miss, inside) ↦ first (sym (slice_get-append_left xs ys p inside) ∙ e)
-  | inl (hit, behind) ↦ (
-      let q = p - length xs in
-      let there : p ≡ length xs + q = omega arith in
-      later q there (sym (slice_get-append_right xs ys p q there) ∙ e)
-      )
-]
-
-by_thread-unique : (give : ℕ → Thread → List Home) (home_in : ℕ → ℕ → Home) → IsKind give home_in → (i : ℕ) (threads : List Thread) (j k : ℕ) (home : Home)
-    → slice_get (by_thread give i threads) j ≡ Some home → slice_get (by_thread give i threads) k ≡ Some home → j ≡ k
-by_thread-unique give home_in is i [] zero k home a b = cc
-by_thread-unique give home_in is i [] (suc j) k home a b = cc
-by_thread-unique give home_in is i (t ∷ threads) j k home a b = elim (where-is (give i t) (by_thread give (suc i) threads) j home a) [
-  | first x ↦ elim (where-is (give i t) (by_thread give (suc i) threads) k home b) [
-    | first y ↦ is.unique i j k (sym (home-is give home_in is i t j home x) ∙ home-is give home_in is i t k home y)
-    | later q ks y ↦ absurd (omega (arith, first-thread give home_in is i t j home x, later-thread give home_in is (suc i) threads q home y))
-  ]
-  | later r js x ↦ elim (where-is (give i t) (by_thread give (suc i) threads) k home b) [
-    | first y ↦ absurd (omega (arith, first-thread give home_in is i t k home y, later-thread give home_in is (suc i) threads r home x))
-    | later q ks y ↦ (let rest = by_thread-unique give home_in is (suc i) threads r q home x y in omega arith)
-  ]
-]
-
--- a home at a location is none at an edge
-kinds-apart : (threads : List Thread) (p q : ℕ) (home : Home) → slice_get (by_thread state_homes 1 threads) p ≡ Some home → slice_get (by_thread env_homes 1 threads) q ≡ Some home → ⊥
-unfolding edge_at
-kinds-apart threads p q home a b =
-    let one = by_thread-found state_homes 1 threads p home a in
-    let other = by_thread-found env_homes 1 threads q home b in
-    let same : State (1 + one.k) one.place ≡ Env (1 + other.k) (suc other.place) =
-    sym (home-is state_homes State state_kind (1 + one.k) one.thread one.place home one.home_is) ∙ home-is env_homes edge_at env_kind (1 + other.k) other.thread other.place home other.home_is in
-    cc
-
-pub homes-unique : (program : Program) (j k : ℕ) (home : Home) → slice_get (homes program) j ≡ Some home → slice_get (homes program) k ≡ Some home → j ≡ k
-homes-unique program j k home a b =
-    let states = by_thread state_homes 1 program.threads in
-    let edges = by_thread env_homes 1 program.threads in
-    elim (where-is states edges j home a) [
-      | first x ↦ elim (where-is states edges k home b) [
-        | first y ↦ by_thread-unique state_homes State state_kind 1 program.threads j k home x y
-        | later q ks y ↦ absurd (kinds-apart program.threads j q home x y)
-      ]
-      | later r js x ↦ elim (where-is states edges k home b) [
-        | first y ↦ absurd (kinds-apart program.threads k r home y x)
-        | later q ks y ↦ (let rest = by_thread-unique env_homes edge_at env_kind 1 program.threads r q home x y in omega arith)
-      ]
-    ]

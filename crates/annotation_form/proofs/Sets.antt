@@ -11,12 +11,12 @@ use Rattle.lin_rows.proofs.Lists.{AllByRecursion-append, AllByRecursion-at}
 use Rattle.transition_formula.specs.Program.{Program, numbered}
 use Rattle.horn_rules.specs.Home.{Home, State, Env, homes}
 use Rattle.horn_rules.specs.Fact.{IsAtomOf, IsSetOf}
+use Rattle.horn_rules.proofs.StoredSets.{one-number}
 use Rattle.predicate_sets.specs.HomeSet.{Lacks}
 use Rattle.predicate_sets.specs.Sets.{set_at, with_set}
 use Rattle.annotation_form.specs.Predicates.{Predicate, IsPredicateOf, AreAllowed, atoms_at, most_atoms_read, lists_of}
 use Rattle.annotation_form.specs.Reading.{HasRoom}
 use Rattle.annotation_form.proofs.Cuts.{AllByRecursion-right}
-use Rattle.annotation_form.proofs.Homes.{homes-unique}
 
 -- ---- the atoms at a home
 
@@ -96,7 +96,7 @@ with_set-lists_of program before (suc k) home atom e =
     ∙ ap (λ (i : ℕ). set (lists_of program before) i (atoms_at home before ++ atom ∷ [])) place
     ∙ map-set (λ (h : Home). atoms_at h before) (λ (h : Home). atoms_at h (before ++ p ∷ [])) (homes program) k home (atoms_at home before ++ atom ∷ []) e
     (atoms_at-more home before p refl)
-    (λ j z at other. sym (atoms_at-same z before p (λ same. other (homes-unique program j k home (at ∙ ap Some same) e))))
+    (λ j z at other. sym (atoms_at-same z before p (λ same. other (one-number program j k home (at ∙ ap Some same) e))))
 
 pub lists_of-none : (program : Program) → lists_of program [] ≡ replicate (length (homes program)) []
 lists_of-none program = none (homes program)

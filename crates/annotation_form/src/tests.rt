@@ -8,7 +8,7 @@ use lin_rows::Rows;
 use predicate_sets::Sets;
 use std::alloc::{AllocError, Global};
 use std::test::Fail;
-use thr_base::{EdgeNo, Home, HomeNo, LineStop, Loc, ThreadNo};
+use thr_base::{HomeNo, LineStop, Loc, ThreadNo};
 use transition_formula::{Column, Edge, Program, ThreadGraph};
 
 fn counter(alloc: Global, thread: ThreadNo, text: &[u8]) -> Result<Column, AllocError>
@@ -26,8 +26,8 @@ fn columns(alloc: Global) -> Result<Vec<Column>, AllocError>
     ensures { IfOk result (λ made. map column_of made.items ≡ worked_columns) }
 {
     let mut columns = Vec::new(alloc);
-    columns.push(counter(alloc, ThreadNo(1), b"t1")?)?;
-    columns.push(counter(alloc, ThreadNo(2), b"t2")?)?;
+    columns.push(counter(alloc, ThreadNo(1), b"t1.$pc")?)?;
+    columns.push(counter(alloc, ThreadNo(2), b"t2.$pc")?)?;
     Ok(columns)
 }
 
@@ -125,10 +125,10 @@ fn count(sets: &Sets, home: u32) -> Option<usize>
 fn predicates_of_homes_in_the_order_of_lines(rt: HostRuntime) -> Result<(), Fail> {
     let alloc = rt.alloc();
     let program = worked(alloc)?;
-    let text = b"e 1 2 : t1 - t2' <= 0
-s 2 0 : t1 <= 3
-s 1 1 : -t2 <= 4
-s 2 0 : t1 + 2*t2 <= -1
+    let text = b"e 1 2 : t1.$pc - t2.$pc' <= 0
+s 2 0 : t1.$pc <= 3
+s 1 1 : -t2.$pc <= 4
+s 2 0 : t1.$pc + 2*t2.$pc <= -1
 end
 ";
     let sets = read(alloc, &program, text)?;
@@ -158,7 +158,7 @@ fn bad_line(alloc: Global, program: &Program, text: &[u8]) -> Option<u32> {
 
 /// The line is bad behind another one.
 fn is_bad(alloc: Global, program: &Program, line: &[u8]) -> Result<bool, AllocError> {
-    let mut text = Vec::from_slice(alloc, b"s 1 1 : t1 <= 3\n")?;
+    let mut text = Vec::from_slice(alloc, b"s 1 1 : t1.$pc <= 3\n")?;
     text.extend_from_slice(line)?;
     text.extend_from_slice(b"\nend\n")?;
     Ok(bad_line(alloc, program, text.as_slice()) == Some(2))
@@ -167,34 +167,34 @@ fn is_bad(alloc: Global, program: &Program, line: &[u8]) -> Result<bool, AllocEr
 #[test]
 fn lines_that_cannot_stand(rt: HostRuntime) -> Result<(), Fail> {
     let program = worked(rt.alloc())?;
-    let lines = b"s 1 3 : t1 <= 1
-s 0 1 : t1 <= 1
-s 3 1 : t1 <= 1
-e 1 0 : t1 <= 1
-e 1 3 : t1 <= 1
-e 2 2 : t1 <= 1
-s 01 1 : t1 <= 1
-s 1 01 : t1 <= 1
-s  1 1 : t1 <= 1
-s 1  1 : t1 <= 1
-s 1 1  : t1 <= 1
-s 1 1 :  t1 <= 1
-s 1 1 : t1 <= 1\x20
-\x20s 1 1 : t1 <= 1
-s 1 1: t1 <= 1
-s 1 1 t1 <= 1
-s 1 : t1 <= 1
-s 1 1 1 : t1 <= 1
-s 1 -0 : t1 <= 1
-s +1 1 : t1 <= 1
-s 1 4294967297 : t1 <= 1
-S 1 1 : t1 <= 1
-t 1 1 : t1 <= 1
-s 1 1 : 2*t1 <= 4
-s 1 1 : t1' <= 1
-s 1 1 : t3 <= 1
-s 1 1 : t1 <= 3
-s 1 1 : t1 <= 1\r
+    let lines = b"s 1 3 : t1.$pc <= 1
+s 0 1 : t1.$pc <= 1
+s 3 1 : t1.$pc <= 1
+e 1 0 : t1.$pc <= 1
+e 1 3 : t1.$pc <= 1
+e 2 2 : t1.$pc <= 1
+s 01 1 : t1.$pc <= 1
+s 1 01 : t1.$pc <= 1
+s  1 1 : t1.$pc <= 1
+s 1  1 : t1.$pc <= 1
+s 1 1  : t1.$pc <= 1
+s 1 1 :  t1.$pc <= 1
+s 1 1 : t1.$pc <= 1\x20
+\x20s 1 1 : t1.$pc <= 1
+s 1 1: t1.$pc <= 1
+s 1 1 t1.$pc <= 1
+s 1 : t1.$pc <= 1
+s 1 1 1 : t1.$pc <= 1
+s 1 -0 : t1.$pc <= 1
+s +1 1 : t1.$pc <= 1
+s 1 4294967297 : t1.$pc <= 1
+S 1 1 : t1.$pc <= 1
+t 1 1 : t1.$pc <= 1
+s 1 1 : 2*t1.$pc <= 4
+s 1 1 : t1.$pc' <= 1
+s 1 1 : t3.$pc <= 1
+s 1 1 : t1.$pc <= 3
+s 1 1 : t1.$pc <= 1\r
 s 1 1 : \x20
 end\x20
 
@@ -202,8 +202,8 @@ s 1 1";
     for line in lines.split(|b| *b == b'\n') {
         assert!(rt; is_bad(rt.alloc(), &program, line)?);
     }
-    assert!(rt; !is_bad(rt.alloc(), &program, b"s 1 1 : t1 <= 4")?);
-    assert!(rt; !is_bad(rt.alloc(), &program, b"e 1 1 : t1' <= 3")?);
+    assert!(rt; !is_bad(rt.alloc(), &program, b"s 1 1 : t1.$pc <= 4")?);
+    assert!(rt; !is_bad(rt.alloc(), &program, b"e 1 1 : t1.$pc' <= 3")?);
     Ok(())
 }
 
@@ -216,11 +216,11 @@ fn texts_that_end_badly(rt: HostRuntime) -> Result<(), Fail> {
     assert_eq!(rt; bad_line(alloc, &program, b"\nend\n"), Some(1));
     assert_eq!(rt; bad_line(alloc, &program, b"end\n\n"), Some(2));
     assert_eq!(rt; bad_line(alloc, &program, b"end\nend\n"), Some(2));
-    assert_eq!(rt; bad_line(alloc, &program, b"s 1 1 : t1 <= 3"), Some(1));
-    assert_eq!(rt; bad_line(alloc, &program, b"s 1 1 : t1 <= 3\n"), Some(2));
-    assert_eq!(rt; bad_line(alloc, &program, b"s 1 1 : t1 <= 3\nend"), Some(2));
+    assert_eq!(rt; bad_line(alloc, &program, b"s 1 1 : t1.$pc <= 3"), Some(1));
+    assert_eq!(rt; bad_line(alloc, &program, b"s 1 1 : t1.$pc <= 3\n"), Some(2));
+    assert_eq!(rt; bad_line(alloc, &program, b"s 1 1 : t1.$pc <= 3\nend"), Some(2));
     assert_eq!(rt;
-        bad_line(alloc, &program, b"s 1 1 : t1 <= 3\nend\nx"),
+        bad_line(alloc, &program, b"s 1 1 : t1.$pc <= 3\nend\nx"),
         Some(3)
     );
     Ok(())
@@ -230,22 +230,13 @@ fn texts_that_end_badly(rt: HostRuntime) -> Result<(), Fail> {
 fn a_third_atom_at_a_home_is_bad(rt: HostRuntime) -> Result<(), Fail> {
     let alloc = rt.alloc();
     let program = worked(alloc)?;
-    let text = b"s 1 1 : t1 <= 3
-s 1 1 : t1 <= 4
-s 1 2 : t1 <= 5
-s 1 1 : t1 <= 5
+    let text = b"s 1 1 : t1.$pc <= 3
+s 1 1 : t1.$pc <= 4
+s 1 2 : t1.$pc <= 5
+s 1 1 : t1.$pc <= 5
 end
 ";
     assert_eq!(rt; bad_line(alloc, &program, text), Some(4));
-    Ok(())
-}
-
-#[test]
-fn texts_of_homes(rt: HostRuntime) -> Result<(), Fail> {
-    let mut out = Vec::new(rt.alloc());
-    push_home(&mut out, Home::State(ThreadNo(2), Loc(0)))?;
-    push_home(&mut out, Home::Env(ThreadNo(1), EdgeNo(12)))?;
-    assert!(rt; out.as_slice() == b"s 2 0e 1 12".as_slice());
     Ok(())
 }
 

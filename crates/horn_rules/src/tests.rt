@@ -186,6 +186,15 @@ fn a_start_has_a_row_a_column_and_a_step_four_rows(rt: HostRuntime) -> Result<()
 }
 
 #[test]
+fn texts_of_homes(rt: HostRuntime) -> Result<(), Fail> {
+    let mut out = Vec::new(rt.alloc());
+    push_home(&mut out, Home::State(ThreadNo(2), Loc(0)))?;
+    push_home(&mut out, Home::Env(ThreadNo(1), EdgeNo(12)))?;
+    assert!(rt; out.as_slice() == b"s 2 0e 1 12".as_slice());
+    Ok(())
+}
+
+#[test]
 fn laws_are_called() {
     held_atoms_hold();
     posts_are_unique();
