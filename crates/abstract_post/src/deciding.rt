@@ -12,6 +12,7 @@ use rational_entail::{Entailed, decide, entails};
 use std::alloc::{AllocError, Global};
 
 /// What a solver finds of an instance's rows and the predicates of its target.
+#[derive(Clone, Copy, Debug, PartialEq, Eq)]
 pub enum Found {
     Refuted,
     /// The rows have a point, and these predicates follow from them.

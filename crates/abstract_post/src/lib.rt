@@ -7,3 +7,8 @@ mod placing;
 mod posting;
 
 pub use posting::post;
+
+#[cfg(test)]
+mod tests;
+#[cfg(test)]
+mod worked;
