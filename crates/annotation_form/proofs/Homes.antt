@@ -1,9 +1,8 @@
 -- Which homes a program has.
-use Rattle.std.proofs.Common.{◌≡◌, ℕ, zero, suc, ◌+◌, ◌-◌, ◌<◌, ◌≤◌, ◌^◌, List, [], ◌∷◌, ◌++◌, length, map, take, Option, Some, None, refl, sym, ap, subst, ◌∙◌, arith, inl, inr}
+use Rattle.std.proofs.Common.{◌≡◌, ℕ, zero, suc, ◌+◌, ◌<◌, ◌≤◌, ◌^◌, List, length, map, take, Option, Some, None, refl, sym, ap, subst, ◌∙◌, arith}
 use Rattle.std.specs.Prelude.{option_map}
 use Rattle.std.specs.Option.{IsSome}
 use Rattle.std.specs.List.{slice_get, Contains, range_with_len}
-use Rattle.std.proofs.lemmas.Bool.Decides.{leb_tells}
 use Rattle.std.proofs.lemmas.Option.{slice_get_within, slice_get-map, get_or_from_slice_get}
 use Rattle.std.proofs.lemmas.List.{length-map}
 use Rattle.std.proofs.lemmas.List.FromFn.{length-map-range_with_len}
@@ -11,7 +10,7 @@ use Rattle.transition_formula.specs.Program.{Program, Thread, IsThreadOf, IsProg
 use Rattle.transition_formula.specs.Stored.{edge_of}
 use Rattle.transition_formula.specs.declared.graph.Edge.{Edge as StoredEdge}
 use Rattle.horn_rules.specs.Home.{Home, State, Env, by_thread, state_homes, env_homes, homes, IsHomeOf}
-use Rattle.horn_rules.proofs.Places.{slice_get-append_left, slice_get-append_right, range-at, by_thread-at, by_thread-found}
+use Rattle.horn_rules.proofs.Places.{slice_get-append_left, slice_get-append_right, range-at, by_thread-at}
 use Rattle.horn_rules.proofs.Numbers.{state_home-place, env_home-place}
 use Rattle.annotation_form.specs.Reading.{IsSmall}
 

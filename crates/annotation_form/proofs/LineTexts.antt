@@ -7,9 +7,10 @@ use Rattle.thr_base.specs.Number.{Fits, number_text}
 use Rattle.thr_base.proofs.Numbers.{IsTextOf-number_text}
 use Rattle.lin_rows.specs.Row.{Row}
 use Rattle.lin_rows.proofs.Lists.{AllByRecursion-append, AllByRecursion-map}
-use Rattle.transition_formula.specs.Program.{Program, Column, IsProgram, IsColumnText, is_text_byte}
+use Rattle.transition_formula.specs.Program.{Program, Column, IsProgram, IsTextOf, is_text_byte}
 use Rattle.transition_formula.specs.AtomText.{column_texts, atom_text, terms_text, term_text, joint, factor, IsAtomText}
 use Rattle.horn_rules.specs.Home.{Home, State, Env, home_width}
+use Rattle.horn_rules.specs.HomeText.{home_text}
 use Rattle.annotation_form.specs.Lines.{IsLine}
 use Rattle.annotation_form.specs.Predicates.{Predicate, IsPredicateOf, predicate_text, predicate_texts}
 use Rattle.annotation_form.specs.Reading.{IsSmall, IsHead, IsLineOf, is_env}
@@ -112,8 +113,8 @@ bytes-line (x ∷ xs) all = (text_byte-line x (left (is_text_byte x) (list_all i
 columns-lines : (program : Program) → IsProgram program → AllByRecursion IsLine (column_texts program.columns)
 columns-lines program is =
     AllByRecursion-append IsLine (map (λ (column : Column). column.text) program.columns) (map (λ (column : Column). column.text ++ codes "'") program.columns)
-    (AllByRecursion-map (λ (column : Column). IsColumnText column.text) IsLine (λ (column : Column). column.text) (λ column word. bytes-line column.text word.bytes) program.columns is.texts_are)
-    (AllByRecursion-map (λ (column : Column). IsColumnText column.text) IsLine (λ (column : Column). column.text ++ codes "'") (λ column word. line-append column.text (codes "'") (bytes-line column.text word.bytes) (λ e. omega arith, tt)) program.columns is.texts_are)
+    (AllByRecursion-map (λ (column : Column). IsTextOf column.owner column.text) IsLine (λ (column : Column). column.text) (λ column word. bytes-line column.text word.is_text.bytes) program.columns is.texts_are)
+    (AllByRecursion-map (λ (column : Column). IsTextOf column.owner column.text) IsLine (λ (column : Column). column.text ++ codes "'") (λ column word. line-append column.text (codes "'") (bytes-line column.text word.is_text.bytes) (λ e. omega arith, tt)) program.columns is.texts_are)
 
 small-fits : (n : ℕ) → n < 2 ^ 32 → Fits (pos n)
 small-fits n h = omega arith

@@ -11,6 +11,7 @@ use Rattle.lin_rows.proofs.Lists.{AllByRecursion-append, AllByRecursion-at}
 use Rattle.transition_formula.specs.Program.{Program, numbered}
 use Rattle.horn_rules.specs.Home.{Home, State, Env, homes}
 use Rattle.horn_rules.specs.Fact.{IsAtomOf, IsSetOf}
+use Rattle.horn_rules.specs.Stored.{same_home}
 use Rattle.horn_rules.proofs.StoredSets.{one-number}
 use Rattle.predicate_sets.specs.HomeSet.{Lacks}
 use Rattle.predicate_sets.specs.Sets.{set_at, with_set}

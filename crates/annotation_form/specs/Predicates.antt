@@ -1,11 +1,10 @@
 -- The text of predicates: a line for each, and a last line `end`.
-use Rattle.std.specs.Prelude.{◌≡◌, ◌≤◌, ℕ, ◌==◌, Bool, false, ◌&&◌, pos, if◌then◌else◌, List, [], ◌∷◌, ◌++◌, length, map, codes}
+use Rattle.std.specs.Prelude.{◌≡◌, ◌≤◌, ℕ, if◌then◌else◌, List, [], ◌∷◌, ◌++◌, length, map, codes}
 use Rattle.std.specs.List.{AllByRecursion}
-use Rattle.thr_base.specs.Number.{number_text}
 use Rattle.lin_rows.specs.Row.{Row}
 use Rattle.transition_formula.specs.Program.{Program}
 use Rattle.transition_formula.specs.AtomText.{atom_text}
-use Rattle.horn_rules.specs.Home.{Home, State, Env, homes, IsHomeOf}
+use Rattle.horn_rules.specs.Home.{Home, homes, IsHomeOf}
 use Rattle.horn_rules.specs.HomeText.{home_text}
 use Rattle.horn_rules.specs.Fact.{IsAtomOf, IsSetOf}
 use Rattle.horn_rules.specs.Stored.{same_home}

@@ -6,6 +6,7 @@ use Rattle.lin_rows.specs.Row.{Row}
 use Rattle.predicate_sets.specs.HomeSet.{Lacks}
 use Rattle.transition_formula.specs.Program.{Program}
 use Rattle.horn_rules.specs.Home.{Home, State, Env}
+use Rattle.horn_rules.specs.HomeText.{home_text}
 use Rattle.annotation_form.specs.declared.predicates.Lines.{Lines}
 use Rattle.annotation_form.specs.declared.predicates.Lines.TheVariants.{Sets, Bad}
 use Rattle.annotation_form.specs.Lines.{lines_text}
