@@ -12,8 +12,8 @@ mod premise;
 pub use homes::{home_count, named, number};
 pub use job::{Job, Premise, instance_rows};
 pub use laws::{
-    held_atoms_hold, interfering_steps_are_described, own_steps_are_described, own_steps_are_told,
-    jobs_are_cases, posts_are_unique, starts_are_described, told_steps_are_described,
+    held_atoms_hold, interfering_steps_are_described, jobs_are_cases, own_steps_are_described,
+    own_steps_are_told, posts_are_unique, starts_are_described, told_steps_are_described,
 };
 pub use posted::{PostAnswer, Posted};
 
