@@ -9,3 +9,5 @@ pub mod WorkedProgram
 pub mod Posts
 pub mod Premises
 pub mod Jobs
+pub mod StoredSets
+pub mod Positions
