@@ -2,6 +2,13 @@
 //! layers above learn that it is exactly this, and with which kind the elimination left where a job is left undecided.
 #![tactic(auto)]
 
+mod deciding;
+mod placing;
 mod posting;
 
 pub use posting::post;
+
+#[cfg(test)]
+mod tests;
+#[cfg(test)]
+mod worked;

@@ -2,7 +2,9 @@ ghost use Rattle.std.specs.Prelude.{◌≡◌, IfOk};
 ghost use Rattle.horn_rules.specs.Job.{IsJob};
 ghost use Rattle.abstract_post.specs.Left.{IsPostAnswer};
 
-use horn_rules::{Job, PostAnswer};
+use crate::deciding::{Found, solve};
+use crate::placing::in_front;
+use horn_rules::{Job, PostAnswer, Posted, instance_rows};
 use std::alloc::{AllocError, Global};
 use transition_formula::Program;
 
@@ -17,5 +19,12 @@ pub fn post<'p>(
     requires fits { IsJob program.now job }
     ensures { IfOk result (IsPostAnswer program.now job.entry) }
 {
-    Err(AllocError)
+    let rows = instance_rows(alloc, program, &job)?;
+    let before = in_front(program.columns(), job.instance);
+    let found = solve(alloc, &rows.view(), before, job.target.atoms())?;
+    match found {
+        Found::Refuted => Ok(PostAnswer::Posted(Posted::new(job, None))),
+        Found::Held(held) => Ok(PostAnswer::Posted(Posted::new(job, Some(held)))),
+        Found::Left(kind) => Ok(PostAnswer::Left(job, kind)),
+    }
 }

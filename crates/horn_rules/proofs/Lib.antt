@@ -11,3 +11,4 @@ pub mod Premises
 pub mod Jobs
 pub mod StoredSets
 pub mod Positions
+pub mod DistinctSets

@@ -9,10 +9,10 @@ use Rattle.std.proofs.lemmas.Option.{slice_get_within, get_or_from_slice_get}
 use Rattle.thr_base.specs.Number.{Fits}
 use Rattle.transition_formula.specs.Program.{Column, Thread, Program, IsThreadOf, IsCounter, IsThread, IsEdge, IsProgram, numbered}
 use Rattle.transition_formula.proofs.OwnTexts.{first-own, second-own}
-use Rattle.horn_rules.specs.Home.{Home, homes, IsHomeOf}
+use Rattle.horn_rules.specs.Home.{Home, State, Env, homes, IsHomeOf}
 use Rattle.horn_rules.specs.Worked.{counter_column, bare_edge, first_thread, second_thread, worked_program}
 use Rattle.horn_rules.specs.declared.job.Premise.{Premise}
-use Rattle.horn_rules.specs.Job.{IsAtSource}
+use Rattle.horn_rules.specs.Job.{IsPremiseAt, IsAtSource, IsAtLocation, IsAtEdge}
 
 first-counts : (column : Column) → Some (counter_column 1 (116 ∷ 49 ∷ 46 ∷ 36 ∷ 112 ∷ 99 ∷ [])) ≡ Some column → IsCounter 1 column
 first-counts column at = let same : counter_column 1 (116 ∷ 49 ∷ 46 ∷ 36 ∷ 112 ∷ 99 ∷ []) ≡ column = cc in subst (λ found. IsCounter 1 found) same (record { owned = refl; starts = refl })
@@ -97,12 +97,48 @@ pub home-numbered : (program : Program) (n : ℕ) (home : Home) → numbered (ho
 home-numbered program zero home e = cc
 home-numbered program (suc k) home e = (k, slice_get_within (homes program) k home e, get_or_from_slice_get (homes program) k home home e)
 
--- a premise without predicates at the source of the first edge
-pub worked-source : (program : Program) (premise : Premise) → program ≡ worked_program → premise.fact.home.0 ≡ 2 → premise.set.value ≡ [] → IsAtSource program premise 1
-worked-source program premise worked home empty = record {
+-- a premise without predicates, at a home
+at-home : (program : Program) (premise : Premise) (home : Home) (n : ℕ) → program ≡ worked_program → premise.fact.home.0 ≡ n → numbered (homes worked_program) n ≡ Some home
+    → premise.set.value ≡ [] → IsPremiseAt program premise home
+at-home program premise home n worked at there empty =
+    record { home_is = rw (worked, at) there; set_is = rw empty (record { are_atoms = tt; none_twice = λ i j d below within e. absurd (omega arith) }) }
+
+-- at the start of the first thread, the source of its first edge
+pub first-source : (program : Program) (premise : Premise) → program ≡ worked_program → premise.fact.home.0 ≡ 2 → premise.set.value ≡ [] → IsAtSource program premise 1
+first-source program premise worked home empty = record {
   i = 1;
   thread = first_thread;
   edge = bare_edge 1 2;
   edge_is = rw worked (record { thread_is = refl; edge_is = refl });
-  premise_is = record { home_is = rw (worked, home) refl; set_is = rw empty (record { are_atoms = tt; none_twice = λ i j d below within e. absurd (omega arith) }) };
+  premise_is = at-home program premise (State 1 1) 2 worked home refl empty;
+}
+
+pub first-location : (program : Program) (premise : Premise) → program ≡ worked_program → premise.fact.home.0 ≡ 2 → premise.set.value ≡ [] → IsAtLocation program premise
+first-location program premise worked home empty = record {
+  i = 1;
+  l = 1;
+  thread = first_thread;
+  thread_is = rw worked refl;
+  premise_is = at-home program premise (State 1 1) 2 worked home refl empty;
+}
+
+-- at the start of the second thread, the source of its edge
+pub second-source : (program : Program) (premise : Premise) → program ≡ worked_program → premise.fact.home.0 ≡ 5 → premise.set.value ≡ [] → IsAtSource program premise 1
+second-source program premise worked home empty = record {
+  i = 2;
+  thread = second_thread;
+  edge = bare_edge 1 3;
+  edge_is = rw worked (record { thread_is = refl; edge_is = refl });
+  premise_is = at-home program premise (State 2 1) 5 worked home refl empty;
+}
+
+-- at that edge
+pub second-edge : (program : Program) (premise : Premise) → program ≡ worked_program → premise.fact.home.0 ≡ 10 → premise.set.value ≡ [] → IsAtEdge program premise
+second-edge program premise worked home empty = record {
+  i = 2;
+  e = 1;
+  thread = second_thread;
+  edge = bare_edge 1 3;
+  edge_is = rw worked (record { thread_is = refl; edge_is = refl });
+  premise_is = at-home program premise (Env 2 1) 10 worked home refl empty;
 }

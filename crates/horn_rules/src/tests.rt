@@ -1,4 +1,4 @@
-ghost use Rattle.std.specs.Prelude.{◌≡◌, ◌≤◌, ◌∷◌, [], map, None, IfOk};
+ghost use Rattle.std.specs.Prelude.{◌≡◌, ◌≤◌, ◌∷◌, [], map, IfOk};
 ghost use Rattle.horn_rules.specs.Job.{AreItsPremises};
 ghost use Rattle.transition_formula.specs.Stored.{column_of, edge_of, thread_of};
 ghost use Rattle.horn_rules.specs.Worked.{bare_edge, counter_column, first_thread, second_thread, worked_columns, worked_program};
@@ -140,14 +140,15 @@ fn premise(alloc: Global, home: u32) -> Result<Premise, AllocError>
     })
 }
 
-/// How many rows an instance has.
-fn count(
+/// The rows of an instance.
+fn rows_of(
     alloc: Global,
     program: &Program,
     instance: Instance,
     first: Option<Premise>,
-) -> Result<u32, AllocError>
-    requires { AreItsPremises program.now instance first None }
+    second: Option<Premise>,
+) -> Result<Rows, AllocError>
+    requires { AreItsPremises program.now instance first second }
 {
     let target = Sets::new(alloc, 1)?.at(HomeNo(1))?;
     let job = Job {
@@ -157,31 +158,96 @@ fn count(
         home: HomeNo(1),
         epoch: Epoch(0),
         first,
-        second: None,
+        second,
         target,
     };
-    Ok(instance_rows(alloc, program, &job)?.view().count())
+    instance_rows(alloc, program, &job)
 }
 
-/// How many rows the first step of the first thread has.
-fn own_count(alloc: Global) -> Result<u32, AllocError> {
-    let program = worked(alloc)?;
-    let premise = premise(alloc, 2)?;
-    count(
-        alloc,
-        &program,
-        Instance::Own(FactId(1), EdgeNo(1)),
-        Some(premise),
-    )
+/// Those of the first step of the first thread.
+fn own(alloc: Global, program: &Program) -> Result<Rows, AllocError>
+    requires { program.now ≡ worked_program }
+{
+    let starts = premise(alloc, 2)?;
+    let instance = Instance::Own(FactId(1), EdgeNo(1));
+    rows_of(alloc, program, instance, Some(starts), None)
+}
+
+/// Those of what the other thread is told of it.
+fn guar(alloc: Global, program: &Program) -> Result<Rows, AllocError>
+    requires { program.now ≡ worked_program }
+{
+    let starts = premise(alloc, 2)?;
+    let instance = Instance::Guar(FactId(1), EdgeNo(1));
+    rows_of(alloc, program, instance, Some(starts), None)
+}
+
+/// Those of the first thread, which stays at its start in a step of the second that it is told of.
+fn env(alloc: Global, program: &Program) -> Result<Rows, AllocError>
+    requires { program.now ≡ worked_program }
+{
+    let stays = premise(alloc, 2)?;
+    let told = premise(alloc, 10)?;
+    let instance = Instance::Env(FactId(1), FactId(2));
+    rows_of(alloc, program, instance, Some(stays), Some(told))
+}
+
+/// Those of the first thread, which stays at its start in a step of the second from its start.
+fn inter(alloc: Global, program: &Program) -> Result<Rows, AllocError>
+    requires { program.now ≡ worked_program }
+{
+    let stays = premise(alloc, 2)?;
+    let starts = premise(alloc, 5)?;
+    let instance = Instance::Inter(FactId(1), FactId(2), EdgeNo(1));
+    rows_of(alloc, program, instance, Some(stays), Some(starts))
+}
+
+/// The row at a place says that this sum of the columns is the bound.
+fn is_row(rows: &Rows, place: u32, coefficients: &[i128], bound: i128) -> bool {
+    let view = rows.view();
+    if place < view.count() {
+        let row = view.row(place);
+        row.equal && row.coefficients == coefficients && row.bound == bound
+    } else {
+        false
+    }
 }
 
 #[test]
-fn a_start_has_a_row_a_column_and_a_step_four_rows(rt: HostRuntime) -> Result<(), Fail> {
+fn a_start_and_a_step_of_a_thread(rt: HostRuntime) -> Result<(), Fail> {
     let alloc = rt.alloc();
     let program = worked(alloc)?;
-    let start = count(alloc, &program, Instance::Init(ThreadNo(1)), None)?;
-    assert_eq!(rt; start, 2);
-    assert_eq!(rt; own_count(alloc)?, 4);
+    let start = rows_of(alloc, &program, Instance::Init(ThreadNo(1)), None, None)?;
+    assert_eq!(rt; start.view().count(), 2);
+    assert!(rt; is_row(&start, 0, &[1, 0], 1));
+    assert!(rt; is_row(&start, 1, &[0, 1], 1));
+    assert_eq!(rt; own(alloc, &program)?.view().count(), 4);
+    let step = guar(alloc, &program)?;
+    assert_eq!(rt; step.view().count(), 4);
+    assert!(rt; is_row(&step, 0, &[1, 0, 0, 0], 1));
+    assert!(rt; is_row(&step, 1, &[1, 0, 0, 0], 1));
+    assert!(rt; is_row(&step, 2, &[0, 0, 1, 0], 2));
+    assert!(rt; is_row(&step, 3, &[0, -1, 0, 1], 0));
+    Ok(())
+}
+
+#[test]
+fn a_thread_that_stays_in_a_step_of_another(rt: HostRuntime) -> Result<(), Fail> {
+    let alloc = rt.alloc();
+    let program = worked(alloc)?;
+    let told = env(alloc, &program)?;
+    assert_eq!(rt; told.view().count(), 4);
+    assert!(rt; is_row(&told, 0, &[1, 0, 0, 0], 1));
+    assert!(rt; is_row(&told, 1, &[0, 1, 0, 0], 1));
+    assert!(rt; is_row(&told, 2, &[0, 0, 0, 1], 3));
+    assert!(rt; is_row(&told, 3, &[-1, 0, 1, 0], 0));
+    let meets = inter(alloc, &program)?;
+    assert_eq!(rt; meets.view().count(), 5);
+    assert!(rt; is_row(&meets, 0, &[1, 0, 0, 0], 1));
+    assert!(rt; is_row(&meets, 1, &[0, 1, 0, 0], 1));
+    assert!(rt; is_row(&meets, 2, &[0, 1, 0, 0], 1));
+    assert!(rt; is_row(&meets, 3, &[0, 0, 0, 1], 3));
+    assert!(rt; is_row(&meets, 4, &[-1, 0, 1, 0], 0));
     Ok(())
 }
 

@@ -1,0 +1,4 @@
+pub mod PlacedAtoms
+pub mod Decided
+pub mod Solved
+pub mod WorkedJobs
