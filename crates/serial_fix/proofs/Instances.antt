@@ -1,0 +1,298 @@
+-- The instances of a run, kind by kind.
+use Rattle.std.proofs.Common.{◌≡◌, ◌≢◌, ◌⊎◌, ℕ, zero, suc, ◌+◌, ◌-◌, ◌^◌, ◌<◌, ◌≤◌, ◌==◌, Bool, true, false, not, List, [], ◌∷◌, ◌++◌, length, map, get_or, unwrap_or, option_map, Option, Some, None, Result, Ok, Err, IsSome, IfOk, refl, sym, ap, subst, ◌∙◌, arith, inl, inr}
+use Rattle.std.specs.List.{AllByRecursion, Contains, range_with_len, slice_get}
+use Rattle.std.proofs.lemmas.Bool.{eqb-true}
+use Rattle.std.proofs.lemmas.Bool.Decides.{eqb_tells}
+use Rattle.std.proofs.lemmas.List.Elements.{Contains-append_left, Contains-append_right}
+use Rattle.std.proofs.lemmas.List.FromFn.{length-map-range_with_len}
+use Rattle.std.proofs.lemmas.Option.{slice_get_within, slice_get-map}
+use Rattle.thr_base.specs.declared.names.RuleName.TheVariants.{Rg}
+use Rattle.thr_base.specs.declared.names.Instance.{Instance}
+use Rattle.thr_base.specs.declared.names.Instance.TheVariants.{Init, Own, Guar, Env as Environment}
+use Rattle.thr_base.specs.declared.names.ThreadNo.{ThreadNo}
+use Rattle.thr_base.specs.declared.names.EdgeNo.{EdgeNo}
+use Rattle.thr_base.specs.declared.names.FactId.{FactId}
+use Rattle.thr_base.specs.declared.names.HomeNo.{HomeNo}
+use Rattle.thr_base.specs.declared.names.Fact.{Fact as StoredFact}
+use Rattle.lin_rows.specs.Row.{Row}
+use Rattle.predicate_sets.specs.Sets.{HasHome, set_at}
+use Rattle.transition_formula.specs.Program.{Program, Thread, Edge, numbered, IsProgram, IsEdge, IsThreadOf, IsEdgeOf}
+use Rattle.transition_formula.specs.Stored.{edge_of}
+use Rattle.transition_formula.specs.declared.graph.Edge.{Edge as StoredEdge}
+use Rattle.transition_formula.proofs.Lookups.{numbered-mapped, AllByRecursion-numbered}
+use Rattle.transition_formula.proofs.Lookups as lookups
+use Rattle.horn_rules.specs.declared.job.Premise.{Premise}
+use Rattle.horn_rules.specs.Home.{Home, State, Env, by_thread, state_homes, env_homes, homes, IsHomeOf}
+use Rattle.horn_rules.specs.Fact.{Fact, IsSetOf}
+use Rattle.horn_rules.specs.Instance.{Case, init_case, own_case, guar_case, env_case}
+use Rattle.horn_rules.specs.Job.{positions, Says, IsPremise, IsCaseOf, init, own, guar, env}
+use Rattle.horn_rules.specs.Stored.{sets_of}
+use Rattle.horn_rules.proofs.Numbers.{state_home-place, env_home-place}
+use Rattle.horn_rules.proofs.Places.{slice_get-there, range-at}
+use Rattle.horn_rules.proofs.WorkedProgram.{home-numbered}
+use Rattle.std.proofs.lemmas.List.{length-map}
+use Rattle.serial_fix.specs.Stored.{HasItsHome}
+use Rattle.serial_fix.specs.Found.{FoundFacts}
+use Rattle.serial_fix.specs.Run.{fact_of, facts_of, IsStored, IsRun, Extends, IsSettled, IsInstance, InstanceIsSettled, StartIsSettled, HasEdge, IsFrom, OwnIsSettled, GuarIsSettled, tells_another, PairIsSettled, IsStep}
+use Rattle.serial_fix.specs.declared.step.Step.{Step}
+use Rattle.serial_fix.specs.declared.step.Step.TheVariants.{Done, Left}
+use Rattle.serial_fix.proofs.Members.{Contains-map, Contains-slice_get}
+use Rattle.serial_fix.proofs.Steps.{all-at, target-set}
+
+-- ---- homes that are there
+
+pub some-is : {A : Type 0} (o : Option A) → IsSome o → (x : A) × (o ≡ Some x)
+some-is None h = cc
+some-is (Some x) h = (x, refl)
+
+by_thread-has : (give : ℕ → Thread → List Home) (i k j : ℕ) (threads : List Thread) (thread : Thread) (home : Home)
+    → slice_get threads k ≡ Some thread → j ≡ i + k → Contains (give j thread) home → Contains (by_thread give i threads) home
+by_thread-has give i k j [] thread home at e c = cc
+by_thread-has give i zero j (t ∷ threads) thread home at e c =
+    let same : thread ≡ t = cc in
+    let number : j ≡ i = omega arith in
+    Contains-append_left (give i t) (by_thread give (suc i) threads) home
+    (subst (λ t'. Contains (give i t') home) same (subst (λ j'. Contains (give j' thread) home) number c))
+by_thread-has give i (suc k) j (t ∷ threads) thread home at e c =
+    Contains-append_right (give i t) (by_thread give (suc i) threads) home (by_thread-has give (suc i) k j threads thread home at (omega arith) c)
+
+pub state-home : (program : Program) (i l : ℕ) (thread : Thread) → IsThreadOf program i thread → l < thread.locations → IsHomeOf program (State i l)
+state-home program zero l thread at below = cc
+state-home program (suc k) l thread at below =
+    Contains-append_left (by_thread state_homes 1 program.threads) (by_thread env_homes 1 program.threads) (State (suc k) l)
+    (by_thread-has state_homes 1 k (suc k) program.threads thread (State (suc k) l) at (omega arith)
+    (Contains-slice_get (state_homes (suc k) thread) l (State (suc k) l) (slice_get-map (State (suc k)) (range_with_len 0 thread.locations) l ∙ ap (option_map (State (suc k))) (range-at 0 thread.locations l l below (omega arith)))))
+
+pub env-home : (program : Program) (i e : ℕ) (thread : Thread) (edge : Edge) → IsEdgeOf program i e thread edge → IsHomeOf program (Env i e)
+env-home program zero e thread edge is = let at = is.thread_is in cc
+env-home program (suc k) zero thread edge is = let at = is.edge_is in cc
+env-home program (suc k) (suc p) thread edge is =
+    Contains-append_right (by_thread state_homes 1 program.threads) (by_thread env_homes 1 program.threads) (Env (suc k) (suc p))
+    (by_thread-has env_homes 1 k (suc k) program.threads thread (Env (suc k) (suc p)) is.thread_is (omega arith)
+    (Contains-slice_get (env_homes (suc k) thread) p (Env (suc k) (suc p)) (slice_get-map (Env (suc k)) (range_with_len 1 (length thread.edges)) p ∙ ap (option_map (Env (suc k))) (range-at 1 (length thread.edges) p (suc p) (slice_get_within thread.edges p edge is.edge_is) (omega arith)))))
+
+pub target-home : (program : Program) (i e : ℕ) (thread : Thread) (edge : Edge) → IsProgram program → IsEdgeOf program i e thread edge → IsHomeOf program (State i edge.to)
+target-home program i e thread edge is at =
+    let fits : IsEdge program thread edge = AllByRecursion-numbered (IsEdge program thread) thread.edges e edge (is.threads_are i thread at.thread_is).edges_are at.edge_is in
+    state-home program i edge.to thread at.thread_is fits.to_location
+
+pub start-home : (program : Program) (i : ℕ) → IsProgram program → IsSome (numbered program.threads i) → IsHomeOf program (State i 1)
+start-home program i is some =
+    let (thread, at) = some-is (numbered program.threads i) some in
+    state-home program i 1 thread at (is.threads_are i thread at).has_start
+
+-- ---- edges in the code
+
+edges-are : (program : Program) (i e : ℕ) (edges : List StoredEdge) (thread : Thread) (edge : Edge) → option_map (λ (t : Thread). t.edges) (numbered program.threads i) ≡ Some (map edge_of edges)
+    → IsEdgeOf program i e thread edge → numbered (map edge_of edges) e ≡ Some edge
+edges-are program i e edges thread edge got is =
+    let here : Some thread.edges ≡ Some (map edge_of edges) = sym (ap (option_map (λ (t : Thread). t.edges)) is.thread_is) ∙ got in
+    let same : thread.edges ≡ map edge_of edges = cc in
+    ap (λ l. numbered l e) (sym same) ∙ is.edge_is
+
+pub edge-within : (program : Program) (i e : ℕ) (edges : List StoredEdge) → HasEdge program i e → option_map (λ (t : Thread). t.edges) (numbered program.threads i) ≡ Some (map edge_of edges) → e - 1 < length edges
+edge-within program i e edges (thread, edge, is) got =
+    let within = lookups.numbered-within (map edge_of edges) e edge (edges-are program i e edges thread edge got is) in
+    omega (arith, within.0, within.1, length-map edges edge_of)
+
+pub edge-is : (program : Program) (i e : ℕ) (edges : List StoredEdge) (x : StoredEdge) → option_map (λ (t : Thread). t.edges) (numbered program.threads i) ≡ Some (map edge_of edges)
+    → x ≡ get_or edges (e - 1) x → (thread : Thread) (edge : Edge) → IsEdgeOf program i e thread edge → edge_of x ≡ edge
+edge-is program i e edges x got at thread edge is =
+    let one = edges-are program i e edges thread edge got is in
+    let other = numbered-mapped edge_of edges e x (subst (λ o. IsSome o) (sym one) refl) at in
+    let both : Some (edge_of x) ≡ Some edge = sym other ∙ one in
+    cc
+
+-- ---- a fact that was found, as a premise
+
+known-home : (program : Program) (stored : StoredFact) → HasItsHome program stored → numbered (homes program) stored.home.0 ≡ Some (fact_of program stored).home
+known-home program stored has = of-option (numbered (homes program) stored.home.0) has
+  where
+    of-option : (o : Option Home) → IsSome o → o ≡ Some (unwrap_or o (State 0 0))
+    of-option None h = cc
+    of-option (Some x) h = refl
+
+pub found-stored : (program : Program) (lists : List (List Row)) (found : FoundFacts) (stored : StoredFact) → IsRun program lists found → Contains found.facts stored → IsStored program lists stored
+found-stored program lists found stored run there = all-at (IsStored program lists) found.facts stored run.facts_are there
+
+pub found-number : (program : Program) (lists : List (List Row)) (found : FoundFacts) (stored : StoredFact) → IsRun program lists found → Contains found.facts stored
+    → numbered (homes program) stored.home.0 ≡ Some (fact_of program stored).home
+found-number program lists found stored run there = known-home program stored (found-stored program lists found stored run there).has_home
+
+pub found-home : (program : Program) (lists : List (List Row)) (found : FoundFacts) (stored : StoredFact) → IsRun program lists found → Contains found.facts stored → HasHome lists stored.home.0
+found-home program lists found stored run there =
+    let within = lookups.numbered-within (homes program) stored.home.0 (fact_of program stored).home (found-number program lists found stored run there) in
+    (within.0, omega (arith, within.1, run.lists_are.one_each))
+
+-- the premise is made of the fact
+pub record IsPremiseOf (lists : List (List Row)) (stored : StoredFact) (premise : Premise) : Type 0 where
+  pub fact_is : premise.fact ≡ stored
+  pub set_is : premise.set.value ≡ set_at lists stored.home.0
+
+says : (program : Program) (lists : List (List Row)) (found : FoundFacts) (stored : StoredFact) (premise : Premise) → IsRun program lists found → Contains found.facts stored
+    → IsPremiseOf lists stored premise → Says program (sets_of program lists) premise (fact_of program stored)
+says program lists found stored premise run there is =
+    let at = found-number program lists found stored run there in
+    record {
+      home_is = ap (λ (f : StoredFact). numbered (homes program) f.home.0) is.fact_is ∙ at;
+      set_is = target-set program lists stored.home.0 (fact_of program stored).home run.lists_are at ∙ sym is.set_is;
+      held_is = ap (λ (f : StoredFact). positions f.held) (sym is.fact_is);
+    }
+
+is-premise : (program : Program) (lists : List (List Row)) (found : FoundFacts) (stored : StoredFact) (premise : Premise) → IsRun program lists found → Contains found.facts stored
+    → IsPremiseOf lists stored premise → IsPremise program premise
+is-premise program lists found stored premise run there is =
+    let at = found-number program lists found stored run there in
+    record {
+      home = (fact_of program stored).home;
+      premise_is = record {
+        home_is = ap (λ (f : StoredFact). numbered (homes program) f.home.0) is.fact_is ∙ at;
+        set_is = subst (IsSetOf program (fact_of program stored).home) (sym is.set_is) (run.lists_are.sets_are stored.home.0 (fact_of program stored).home at);
+      };
+      held_within = subst (λ (f : StoredFact). f.held < 2 ^ length premise.set.value) (sym is.fact_is)
+          (subst (λ l. stored.held < 2 ^ length l) (sym is.set_is) (found-stored program lists found stored run there).within);
+    }
+
+-- ---- the instances
+
+pub start-instance : (program : Program) (lists : List (List Row)) (found : List StoredFact) (i : ThreadNo) (home : ℕ) → IsSome (numbered program.threads i.0)
+    → numbered (homes program) home ≡ Some (State i.0 1) → IsInstance program lists found (Init i) None None home
+start-instance program lists found i home some at =
+    let (thread, is) = some-is (numbered program.threads i.0) some in
+    record { premises = []; given = init_case program i.0; is_case = init i thread is; has_kind = tt; home_is = at; stand = tt; first_is = tt; second_is = tt }
+
+pub own-instance : (program : Program) (lists : List (List Row)) (found : FoundFacts) (stored : StoredFact) (id : FactId) (i : ℕ) (e : EdgeNo) (premise : Premise) (home to : ℕ)
+    → IsRun program lists found → Contains found.facts stored → IsPremiseOf lists stored premise → IsFrom program i e.0 (fact_of program stored)
+    → ((thread : Thread) (edge : Edge) → IsEdgeOf program i e.0 thread edge → to ≡ edge.to)
+    → numbered (homes program) home ≡ Some (State i to) → IsInstance program lists found.facts (Own id e) (Some premise) None home
+own-instance program lists found stored id i e premise home to run there is from ends at = record {
+  premises = fact_of program stored ∷ [];
+  given = own_case program (sets_of program lists) i from.thread from.edge (fact_of program stored);
+  is_case = own id e premise i from.thread from.edge (fact_of program stored) (says program lists found stored premise run there is) from.edge_is from.at;
+  has_kind = tt;
+  home_is = at ∙ ap (λ l. Some (State i l)) (ends from.thread from.edge from.edge_is);
+  stand = (Contains-map (fact_of program) found.facts stored there, tt);
+  first_is = is-premise program lists found stored premise run there is;
+  second_is = tt;
+}
+
+pub guar-instance : (program : Program) (lists : List (List Row)) (found : FoundFacts) (stored : StoredFact) (id : FactId) (i : ℕ) (e : EdgeNo) (premise : Premise) (home : ℕ)
+    → IsRun program lists found → Contains found.facts stored → IsPremiseOf lists stored premise → IsFrom program i e.0 (fact_of program stored)
+    → numbered (homes program) home ≡ Some (Env i e.0) → IsInstance program lists found.facts (Guar id e) (Some premise) None home
+guar-instance program lists found stored id i e premise home run there is from at = record {
+  premises = fact_of program stored ∷ [];
+  given = guar_case program (sets_of program lists) i e.0 from.thread from.edge (fact_of program stored);
+  is_case = guar id e premise i from.thread from.edge (fact_of program stored) (says program lists found stored premise run there is) from.edge_is from.at;
+  has_kind = tt;
+  home_is = at;
+  stand = (Contains-map (fact_of program) found.facts stored there, tt);
+  first_is = is-premise program lists found stored premise run there is;
+  second_is = tt;
+}
+
+-- ---- what is settled
+
+pub if-step : {E : Type 0} (program : Program) (lists : List (List Row)) (old new : FoundFacts) (P Q : List StoredFact → Type 0) (made : Result Step E)
+    → IfOk made (IsStep program lists old new P) → (P new.facts → Q new.facts) → IfOk made (IsStep program lists old new Q)
+if-step program lists old new P Q (Ok Done) is then = (is.0, is.1, then is.2)
+if-step program lists old new P Q (Ok Left) is then = is
+if-step program lists old new P Q (Err e) is then = tt
+
+pub start-settled : (program : Program) (lists : List (List Row)) (found : List StoredFact) (i : ThreadNo) (home : ℕ) → IsSome (numbered program.threads i.0)
+    → numbered (homes program) home ≡ Some (State i.0 1) → InstanceIsSettled program lists (Init i) None None home found → StartIsSettled program lists i.0 found
+start-settled program lists found i home some at settled =
+    let (thread, is) = some-is (numbered program.threads i.0) some in
+    settled [] (init_case program i.0) (init i thread is) at
+
+pub own-settled : (program : Program) (lists : List (List Row)) (old new : FoundFacts) (stored : StoredFact) (id : FactId) (i : ℕ) (e : EdgeNo) (premise : Premise) (home to : ℕ)
+    → IsRun program lists old → Contains old.facts stored → IsPremiseOf lists stored premise
+    → ((thread : Thread) (edge : Edge) → IsEdgeOf program i e.0 thread edge → to ≡ edge.to)
+    → numbered (homes program) home ≡ Some (State i to) → InstanceIsSettled program lists (Own id e) (Some premise) None home new.facts → OwnIsSettled program lists i e.0 (fact_of program stored) new.facts
+own-settled program lists old new stored id i e premise home to run there is ends at settled thread edge edge_is from =
+    settled (fact_of program stored ∷ []) (own_case program (sets_of program lists) i thread edge (fact_of program stored))
+    (own id e premise i thread edge (fact_of program stored) (says program lists old stored premise run there is) edge_is from)
+    (at ∙ ap (λ l. Some (State i l)) (ends thread edge edge_is))
+
+pub guar-settled : (program : Program) (lists : List (List Row)) (old new : FoundFacts) (stored : StoredFact) (id : FactId) (i : ℕ) (e : EdgeNo) (premise : Premise) (home : ℕ)
+    → IsRun program lists old → Contains old.facts stored → IsPremiseOf lists stored premise
+    → numbered (homes program) home ≡ Some (Env i e.0) → InstanceIsSettled program lists (Guar id e) (Some premise) None home new.facts → GuarIsSettled program lists i e.0 (fact_of program stored) new.facts
+guar-settled program lists old new stored id i e premise home run there is at settled thread edge edge_is from =
+    settled (fact_of program stored ∷ []) (guar_case program (sets_of program lists) i e.0 thread edge (fact_of program stored))
+    (guar id e premise i thread edge (fact_of program stored) (says program lists old stored premise run there is) edge_is from) at
+
+-- ---- pairs
+
+-- what two homes are at, where the second tells of another thread
+pub data AreApart : Home → Home → Type 0 where
+  apart : (k l i e : ℕ) → k ≢ i → AreApart (State k l) (Env i e)
+
+pub are-apart : (one told : Home) → tells_another one told ≡ true → AreApart one told
+are-apart (State k l) (Env i e) test = elim (eqb_tells k i) [
+  | inl (same, is) ↦ let no : not (k == i) ≡ false = ap not same in cc
+  | inr (differ, are) ↦ apart k l i e are
+]
+are-apart (State k l) (State i m) test = cc
+are-apart (Env k e) (State i l) test = cc
+are-apart (Env k e) (Env i g) test = cc
+
+pub pair-vacuous : (program : Program) (lists : List (List Row)) (found : List StoredFact) (f t : Fact) → tells_another f.home t.home ≡ false → PairIsSettled program lists f t found
+pair-vacuous program lists found f t test k l i e other thread edge differ there at home_f home_t =
+    let both : tells_another (State k l) (Env i e) ≡ false = sym (ap (λ h. tells_another h t.home) home_f ∙ ap (tells_another (State k l)) home_t) ∙ test in
+    elim (eqb_tells k i) [
+      | inl (same, is) ↦ absurd (differ is)
+      | inr (apart_, are) ↦ let yes_ : not (k == i) ≡ true = ap not apart_ in cc
+    ]
+
+env-of : (program : Program) (lists : List (List Row)) (found : FoundFacts) (one told : StoredFact) (id other_id : FactId) (first second : Premise) (home_f home_t : Home)
+    → IsRun program lists found → Contains found.facts one → Contains found.facts told → IsPremiseOf lists one first → IsPremiseOf lists told second
+    → (fact_of program one).home ≡ home_f → (fact_of program told).home ≡ home_t → IsHomeOf program home_f → IsHomeOf program home_t → AreApart home_f home_t
+    → IsInstance program lists found.facts (Environment id other_id) (Some first) (Some second) one.home.0
+env-of program lists found one told id other_id first second home_f home_t run there_f there_t is_f is_t at_f at_t has_f has_t (apart k l i e differ) =
+    let place = state_home-place program k l has_f in
+    let (from_1, edge_place) = env_home-place program i e has_t in
+    let inside : e - 1 < length edge_place.thread.edges = omega (arith, edge_place.within, length-map-range_with_len (Env i) 1 (length edge_place.thread.edges)) in
+    let (edge, here) = slice_get-there edge_place.thread.edges (e - 1) inside in
+    let number : e ≡ suc (e - 1) = omega arith in
+    let edge_is : IsEdgeOf program i e edge_place.thread edge = record { thread_is = edge_place.thread_is; edge_is = ap (numbered edge_place.thread.edges) number ∙ here } in
+    record {
+      premises = fact_of program one ∷ fact_of program told ∷ [];
+      given = env_case program (sets_of program lists) k l place.thread edge_place.thread edge (fact_of program one) (fact_of program told);
+      is_case = env id other_id first second k l i e place.thread edge_place.thread edge (fact_of program one) (fact_of program told)
+          (says program lists found one first run there_f is_f) (says program lists found told second run there_t is_t) differ place.thread_is edge_is at_f at_t;
+      has_kind = tt;
+      home_is = found-number program lists found one run there_f ∙ ap Some at_f;
+      stand = (Contains-map (fact_of program) found.facts one there_f, (Contains-map (fact_of program) found.facts told there_t, tt));
+      first_is = is-premise program lists found one first run there_f is_f;
+      second_is = is-premise program lists found told second run there_t is_t;
+    }
+
+pub env-instance : (program : Program) (lists : List (List Row)) (found : FoundFacts) (one told : StoredFact) (id other_id : FactId) (first second : Premise)
+    → IsRun program lists found → Contains found.facts one → Contains found.facts told → IsPremiseOf lists one first → IsPremiseOf lists told second
+    → tells_another (fact_of program one).home (fact_of program told).home ≡ true
+    → IsInstance program lists found.facts (Environment id other_id) (Some first) (Some second) one.home.0
+env-instance program lists found one told id other_id first second run there_f there_t is_f is_t test =
+    env-of program lists found one told id other_id first second (fact_of program one).home (fact_of program told).home run there_f there_t is_f is_t refl refl
+    (home-numbered program one.home.0 (fact_of program one).home (found-number program lists found one run there_f))
+    (home-numbered program told.home.0 (fact_of program told).home (found-number program lists found told run there_t))
+    (are-apart (fact_of program one).home (fact_of program told).home test)
+
+pub pair-settled : (program : Program) (lists : List (List Row)) (old new : FoundFacts) (one told : StoredFact) (id other_id : FactId) (first second : Premise)
+    → IsRun program lists old → Contains old.facts one → Contains old.facts told → IsPremiseOf lists one first → IsPremiseOf lists told second
+    → InstanceIsSettled program lists (Environment id other_id) (Some first) (Some second) one.home.0 new.facts → PairIsSettled program lists (fact_of program one) (fact_of program told) new.facts
+pair-settled program lists old new one told id other_id first second run there_f there_t is_f is_t settled k l i e other thread edge differ there at home_f home_t =
+    settled (fact_of program one ∷ fact_of program told ∷ []) (env_case program (sets_of program lists) k l other thread edge (fact_of program one) (fact_of program told))
+    (env id other_id first second k l i e other thread edge (fact_of program one) (fact_of program told)
+    (says program lists old one first run there_f is_f) (says program lists old told second run there_t is_t) differ there at home_f home_t)
+    (found-number program lists old one run there_f ∙ ap Some home_f)
+
+-- the homes that the code names are those of the facts
+pub same-test : (program : Program) (lists : List (List Row)) (found : FoundFacts) (one told : StoredFact) (home_one home_told : Home) (r : Bool)
+    → IsRun program lists found → Contains found.facts one → Contains found.facts told
+    → numbered (homes program) one.home.0 ≡ Some home_one → numbered (homes program) told.home.0 ≡ Some home_told
+    → r ≡ tells_another home_one home_told → r ≡ tells_another (fact_of program one).home (fact_of program told).home
+same-test program lists found one told home_one home_told r run there_one there_told at_one at_told is =
+    let first : Some home_one ≡ Some (fact_of program one).home = sym at_one ∙ found-number program lists found one run there_one in
+    let second : Some home_told ≡ Some (fact_of program told).home = sym at_told ∙ found-number program lists found told run there_told in
+    let same : home_one ≡ (fact_of program one).home = cc in
+    let alike : home_told ≡ (fact_of program told).home = cc in
+    is ∙ ap (λ h. tells_another h home_told) same ∙ ap (tells_another (fact_of program one).home) alike

@@ -1,0 +1,238 @@
+-- One step of a run: an instance that is posted, and what it leaves.
+use Rattle.std.proofs.Common.{◌≡◌, ◌≢◌, ◌⊎◌, ℕ, zero, suc, ◌+◌, ◌^◌, ◌<◌, ◌≤◌, ◌==◌, Bool, true, List, [], ◌∷◌, ◌++◌, length, map, reverse, get_or, unwrap_or, Option, Some, None, refl, sym, ap, subst, ◌∙◌, arith, inl, inr, AllPairs, IsSome}
+use Rattle.std.specs.List.{AllByRecursion, Contains, Any}
+use Rattle.std.specs.Option.{ForSome}
+use Rattle.std.proofs.lemmas.List.{map-append, reverse-append, append-nil}
+use Rattle.std.proofs.lemmas.List.Elements.{Contains-append_left, Contains-push, Contains-get_or}
+use Rattle.std.proofs.lemmas.Bool.{eqb-true}
+use Rattle.std.proofs.lemmas.Option.{slice_get_within}
+use Rattle.std.proofs.lemmas.List.Quantifiers.{all_pairs_push}
+use Rattle.thr_base.specs.declared.names.RuleName.TheVariants.{Rg}
+use Rattle.thr_base.specs.declared.names.Instance.{Instance}
+use Rattle.thr_base.specs.declared.names.HomeNo.{HomeNo}
+use Rattle.thr_base.specs.declared.names.Fact.{Fact as StoredFact}
+use Rattle.lin_rows.specs.Row.{Row}
+use Rattle.farkas_cert.specs.declared.answers.LeaveKind.{LeaveKind}
+use Rattle.farkas_cert.specs.Cert.{IsRefuted}
+use Rattle.predicate_sets.specs.Sets.{set_at}
+use Rattle.transition_formula.specs.Program.{Program, numbered}
+use Rattle.horn_rules.specs.declared.job.Premise.{Premise}
+use Rattle.horn_rules.specs.Home.{Home, State, homes}
+use Rattle.horn_rules.specs.Fact.{Sets, Fact}
+use Rattle.horn_rules.specs.Instance.{Case, IsCase}
+use Rattle.horn_rules.specs.Job.{positions, IsCaseOf}
+use Rattle.horn_rules.specs.Posted.{posted}
+use Rattle.horn_rules.specs.Least.{IsFactOf, IsPost, Comes, IsDerivation, Least}
+use Rattle.horn_rules.specs.Stored.{sets_of, AreStoredSetsOf}
+use Rattle.horn_rules.proofs.Posts.{posts-unique}
+use Rattle.horn_rules.proofs.Jobs.{jobs-are-cases}
+use Rattle.horn_rules.proofs.StoredSets.{sets_of-numbered}
+use Rattle.abstract_post.specs.Left.{IsLeft}
+use Rattle.serial_fix.specs.Stored.{HasItsHome}
+use Rattle.serial_fix.specs.Least.{Leaves}
+use Rattle.serial_fix.specs.Found.{FoundFacts, IsInserted}
+use Rattle.serial_fix.specs.Run.{fact_of, facts_of, IsStored, IsRun, Extends, IsSettled, IsInstance, InstanceIsSettled}
+use Rattle.serial_fix.proofs.Members.{first, later, first-or-later, nothing, Contains-map}
+use Rattle.serial_fix.proofs.Positions.{held-within}
+
+-- ---- lists
+
+all-push : {A : Type 0} (P : A → Type 0) (xs : List A) (x : A) → AllByRecursion P xs → P x → AllByRecursion P (xs ++ x ∷ [])
+all-push P [] x all one = (one, tt)
+all-push P (y ∷ ys) x all one = (all.0, all-push P ys x all.1 one)
+
+pub all-weaker : {A : Type 0} (P Q : A → Type 0) → ((x : A) → P x → Q x) → (xs : List A) → AllByRecursion P xs → AllByRecursion Q xs
+all-weaker P Q then [] all = tt
+all-weaker P Q then (x ∷ xs) all = (then x all.0, all-weaker P Q then xs all.1)
+
+pub all-at : {A : Type 0} (P : A → Type 0) (xs : List A) (x : A) → AllByRecursion P xs → Contains xs x → P x
+all-at P [] x all c = absurd (nothing x c)
+all-at P (y ∷ ys) x all (zero, h, e) = subst P e all.0
+all-at P (y ∷ ys) x all (suc k, h, e) = all-at P ys x all.1 (k, omega arith, e)
+
+reverse-push : {A : Type 0} (xs : List A) (x : A) → reverse (xs ++ x ∷ []) ≡ x ∷ reverse xs
+reverse-push xs x = reverse-append xs (x ∷ [])
+
+pub Contains-reverse : {A : Type 0} (xs : List A) (x : A) → Contains xs x → Contains (reverse xs) x
+Contains-reverse [] x c = absurd (nothing x c)
+Contains-reverse (y ∷ ys) x c = subst (λ l. Contains l x) (sym (reverse-append (y ∷ []) ys)) (elim (first-or-later y x ys c) [
+  | inl is ↦ subst (Contains (reverse ys ++ y ∷ [])) is (Contains-push (reverse ys) y)
+  | inr there ↦ Contains-append_left (reverse ys) (y ∷ []) x (Contains-reverse ys x there)
+])
+
+none-is-it : {A : Type 0} (xs : List A) (x : A) → (¬ Contains xs x) → (k : ℕ) (d : A) → k < length xs → get_or xs k d ≢ x
+none-is-it xs x lacks k d within is = lacks (subst (Contains xs) is (Contains-get_or xs k d within))
+
+-- a list in which nothing stands is empty
+empty : (xs : List ℕ) → ((k : ℕ) → Contains xs k → ⊥) → xs ≡ []
+empty [] none = refl
+empty (k ∷ ks) none = absurd (none k (first k ks))
+
+-- ---- stored facts
+
+pub fact-is : (program : Program) (home : HomeNo) (held : ℕ) (target : Home) → numbered (homes program) home.0 ≡ Some target
+    → fact_of program (record { home = home; held = held }) ≡ record { home = target; held = positions held }
+fact-is program home held target at =
+    let made : Option Home → Fact = λ o. record { home = unwrap_or o (State 0 0); held = positions held } in
+    ap made at
+
+pub target-set : (program : Program) (lists : List (List Row)) (n : ℕ) (home : Home) → AreStoredSetsOf program lists → numbered (homes program) n ≡ Some home → sets_of program lists home ≡ set_at lists n
+target-set program lists n home are at = sets_of-numbered program lists n home are.one_each at
+
+pub numbered-within : {A : Type 0} (xs : List A) (n : ℕ) (x : A) → numbered xs n ≡ Some x → n ≤ length xs
+numbered-within xs zero x e = cc
+numbered-within xs (suc k) x e = slice_get_within xs k x e
+
+pub length-zero : {A : Type 0} (xs : List A) (r : Bool) → r ≡ true → r ≡ (length xs == 0) → xs ≡ []
+length-zero [] r passes is = refl
+length-zero (x ∷ xs) r passes is = absurd (omega (arith, eqb-true (length (x ∷ xs)) 0 (sym is ∙ passes)))
+
+-- what is found stays found
+pub Extends-same : (found : List StoredFact) → Extends found found
+Extends-same found = record { more = []; is = sym (append-nil found) }
+
+pub Extends-Contains : (program : Program) (earlier later : List StoredFact) (fact : Fact) → Extends earlier later → Contains (facts_of program earlier) fact → Contains (facts_of program later) fact
+Extends-Contains program earlier later fact on c =
+    let whole : facts_of program later ≡ facts_of program earlier ++ facts_of program on.more = ap (facts_of program) on.is ∙ map-append (fact_of program) earlier on.more in
+    subst (λ l. Contains l fact) (sym whole) (Contains-append_left (facts_of program earlier) (facts_of program on.more) fact c)
+
+-- ---- an instance that is not posted
+
+-- a fact without predicates at a home without predicates
+no-positions : positions 0 ≡ []
+no-positions = refl
+
+nothing-held : (sets : Sets) (given : Case) (fact : Fact) → IsFactOf sets given fact → sets given.target ≡ [] → fact.held ≡ []
+nothing-held sets given fact is none = empty fact.held (λ k there.
+    let (atom, at, entails) = (is.entailed k).0 there in
+    no-number k atom (ap (λ l. numbered l k) (sym none) ∙ at))
+  where
+    no-number : (k : ℕ) (atom : Row) → numbered [] k ≡ Some atom → ⊥
+    no-number zero atom e = cc
+    no-number (suc k) atom e = cc
+
+stood-alone : (program : Program) (lists : List (List Row)) (home : HomeNo) (target : Home) (stored : StoredFact) → numbered (homes program) home.0 ≡ Some target
+    → set_at lists home.0 ≡ [] → stored.home.0 ≡ home.0 → stored.held < 2 ^ length (set_at lists stored.home.0) → fact_of program stored ≡ record { home = target; held = [] }
+stood-alone program lists home target stored at none same within =
+    let bare : length (set_at lists stored.home.0) ≡ 0 = ap (λ n. length (set_at lists n)) same ∙ ap length none in
+    let below : stored.held < 2 ^ 0 = subst (λ n. stored.held < 2 ^ n) bare within in
+    let zero_held : stored.held ≡ 0 = omega arith in
+    fact-is program stored.home stored.held target (ap (numbered (homes program)) same ∙ at)
+    ∙ ap (λ held. record { home = target; held = positions held }) zero_held
+    ∙ ap (λ (held : List ℕ). record { home = target; held = held }) no-positions
+
+pub skipped : (program : Program) (lists : List (List Row)) (found : FoundFacts) (home : HomeNo) (given : Case) → IsRun program lists found
+    → numbered (homes program) home.0 ≡ Some given.target → set_at lists home.0 ≡ [] → Any (λ (f : StoredFact). f.home.0 ≡ home.0) found.facts → IsSettled program lists found.facts given
+skipped program lists found home given run at none (k, stored, within, is, same) fact of =
+    let there : Contains found.facts stored = (k, within, is) in
+    let kept : IsStored program lists stored = all-at (IsStored program lists) found.facts stored run.facts_are there in
+    let held : fact.held ≡ [] = nothing-held (sets_of program lists) given fact of (target-set program lists home.0 given.target run.lists_are at ∙ none) in
+    let one : fact_of program stored ≡ record { home = given.target; held = [] } = stood-alone program lists home given.target stored at none same kept.within in
+    let other : fact ≡ record { home = given.target; held = [] } =
+        ap (λ (target : Home). record { home = target; held = fact.held }) of.at_target ∙ ap (λ (l : List ℕ). record { home = given.target; held = l }) held in
+    subst (Contains (facts_of program found.facts)) (one ∙ sym other) (Contains-map (fact_of program) found.facts stored there)
+
+-- ---- an instance that is posted
+
+-- what the post is of the given case, where its home has the given number
+abbrev Outcome : Program → List (List Row) → Instance → Option Premise → Option Premise → ℕ → Option ℕ → Type 0
+Outcome program lists instance first second home held =
+    (premises : List Fact) (given : Case) → IsCaseOf program (sets_of program lists) instance first second premises given
+    → sets_of program lists given.target ≡ set_at lists home → IsPost (sets_of program lists) given (posted given.target held)
+
+settled-nothing : (program : Program) (lists : List (List Row)) (found : List StoredFact) (given : Case) → IsRefuted given.system → IsSettled program lists found given
+settled-nothing program lists found given refuted fact of = absurd (of.open_system refuted)
+
+settled-fact : (program : Program) (lists : List (List Row)) (found : List StoredFact) (given : Case) (one : Fact) → IsFactOf (sets_of program lists) given one
+    → Contains (facts_of program found) one → IsSettled program lists found given
+settled-fact program lists found given one is there fact of =
+    let both : Some one ≡ Some fact = posts-unique (sets_of program lists) given (Some one) (Some fact) is of in
+    let same : one ≡ fact = cc in
+    subst (Contains (facts_of program found)) same there
+
+-- the facts with one more
+module _ (program : Program) (lists : List (List Row)) (old : FoundFacts) (instance : Instance) (one two : Option Premise) (home : HomeNo) (held : ℕ)
+    (run : IsRun program lists old) (is : IsInstance program lists old.facts instance one two home.0) (small : held < 2 ^ 128)
+    (outcome : Outcome program lists instance one two home.0 (Some held)) where
+  new-fact : StoredFact
+  new-fact = record { home = home; held = held }
+
+  of-case : IsFactOf (sets_of program lists) is.given (record { home = is.given.target; held = positions held })
+  of-case = outcome is.premises is.given is.is_case (target-set program lists home.0 is.given.target run.lists_are is.home_is)
+
+  new-is : fact_of program (record { home = home; held = held }) ≡ record { home = is.given.target; held = positions held }
+  new-is = fact-is program home held is.given.target is.home_is
+
+  new-stored : IsStored program lists (record { home = home; held = held })
+  new-stored = record {
+    has_home = subst (λ o. IsSome o) (sym is.home_is) refl;
+    within = held-within (set_at lists home.0) held small (λ k there.
+        let (atom, at, entails) = (of-case.entailed k).0 there in
+        (atom, ap (λ l. numbered l k) (sym (target-set program lists home.0 is.given.target run.lists_are is.home_is)) ∙ at));
+  }
+
+  new-comes : Comes program Rg (sets_of program lists) (reverse (facts_of program old.facts)) (fact_of program (record { home = home; held = held }))
+  new-comes = record {
+    premises = is.premises;
+    given = is.given;
+    is_case = jobs-are-cases program (sets_of program lists) Rg instance one two is.premises is.given is.has_kind is.is_case;
+    stand_earlier = all-weaker (Contains (facts_of program old.facts)) (Contains (reverse (facts_of program old.facts))) (Contains-reverse (facts_of program old.facts)) is.premises is.stand;
+    is_post = subst (λ (f : Fact). IsPost (sets_of program lists) is.given (Some f)) (sym new-is) of-case;
+  }
+
+  new-run : (¬ Contains old.facts (record { home = home; held = held })) → IsRun program lists (record old { facts = old.facts ++ record { home = home; held = held } ∷ [] })
+  new-run lacks = record {
+    program_is = run.program_is;
+    lists_are = run.lists_are;
+    homes_are = run.homes_are;
+    facts_are = all-push (IsStored program lists) old.facts (record { home = home; held = held }) run.facts_are new-stored;
+    none_twice = all_pairs_push (λ a b. a ≢ b) old.facts (record { home = home; held = held }) run.none_twice (none-is-it old.facts (record { home = home; held = held }) lacks);
+    derived = subst (IsDerivation program Rg (sets_of program lists))
+        (sym (ap reverse (map-append (fact_of program) old.facts (record { home = home; held = held } ∷ [])) ∙ reverse-push (facts_of program old.facts) (fact_of program (record { home = home; held = held }))))
+        (new-comes, run.derived);
+  }
+
+pub added : (program : Program) (lists : List (List Row)) (old new : FoundFacts) (instance : Instance) (one two : Option Premise) (home : HomeNo) (held : Option ℕ)
+    → IsRun program lists old → IsInstance program lists old.facts instance one two home.0 → ForSome held (λ h. h < 2 ^ 128)
+    → Outcome program lists instance one two home.0 held → IsInserted old home held new
+    → IsRun program lists new × Extends old.facts new.facts × InstanceIsSettled program lists instance one two home.0 new.facts
+added program lists old new instance one two home None run is small outcome same = (
+  subst (IsRun program lists) (sym same) run,
+  subst (λ (f : FoundFacts). Extends old.facts f.facts) (sym same) (Extends-same old.facts),
+  λ premises given of at. settled-nothing program lists new.facts given (outcome premises given of (target-set program lists home.0 given.target run.lists_are at)),
+)
+added program lists old new instance one two home (Some held) run is small outcome (inl (there, same)) = (
+  subst (IsRun program lists) (sym same) run,
+  subst (λ (f : FoundFacts). Extends old.facts f.facts) (sym same) (Extends-same old.facts),
+  λ premises given of at.
+      settled-fact program lists new.facts given (record { home = given.target; held = positions held }) (outcome premises given of (target-set program lists home.0 given.target run.lists_are at))
+      (subst (λ (f : FoundFacts). Contains (facts_of program f.facts) (record { home = given.target; held = positions held })) (sym same)
+      (subst (Contains (facts_of program old.facts)) (fact-is program home held given.target at) (Contains-map (fact_of program) old.facts (record { home = home; held = held }) there))),
+)
+added program lists old new instance one two home (Some held) run is small outcome (inr (lacks, more)) = (
+  subst (IsRun program lists) (sym more) (new-run program lists old instance one two home held run is (small held refl) outcome lacks),
+  record { more = record { home = home; held = held } ∷ []; is = ap (λ (f : FoundFacts). f.facts) more },
+  λ premises given of at.
+      settled-fact program lists new.facts given (record { home = given.target; held = positions held }) (outcome premises given of (target-set program lists home.0 given.target run.lists_are at))
+      (subst (λ (f : FoundFacts). Contains (facts_of program f.facts) (record { home = given.target; held = positions held })) (sym more)
+      (subst (Contains (facts_of program (old.facts ++ record { home = home; held = held } ∷ []))) (fact-is program home held given.target at)
+      (Contains-map (fact_of program) (old.facts ++ record { home = home; held = held } ∷ []) (record { home = home; held = held }) (Contains-push old.facts (record { home = home; held = held }))))),
+)
+
+-- ---- an instance on which the elimination leaves
+
+pub found-least : (program : Program) (lists : List (List Row)) (found : FoundFacts) (fact : Fact) → IsRun program lists found → Contains (facts_of program found.facts) fact → Least program Rg (sets_of program lists) fact
+found-least program lists found fact run there = (reverse (facts_of program found.facts), run.derived, Contains-reverse (facts_of program found.facts) fact there)
+
+pub leaves : (program : Program) (lists : List (List Row)) (found : FoundFacts) (instance : Instance) (one two : Option Premise) (home : ℕ) (atoms : List Row) (kind : LeaveKind)
+    → IsRun program lists found → IsInstance program lists found.facts instance one two home → atoms ≡ set_at lists home
+    → ((sets : Sets) (premises : List Fact) (given : Case) → IsCaseOf program sets instance one two premises given → IsLeft given atoms kind)
+    → Leaves program lists
+leaves program lists found instance one two home atoms kind run is are left = record {
+  premises = is.premises;
+  given = is.given;
+  kind = kind;
+  is_case = jobs-are-cases program (sets_of program lists) Rg instance one two is.premises is.given is.has_kind is.is_case;
+  are_least = all-weaker (Contains (facts_of program found.facts)) (Least program Rg (sets_of program lists)) (λ fact there. found-least program lists found fact run there) is.premises is.stand;
+  is_left = subst (λ l. IsLeft is.given l kind) (are ∙ sym (target-set program lists home is.given.target run.lists_are is.home_is)) (left (sets_of program lists) is.premises is.given is.is_case);
+}

@@ -1,0 +1,13 @@
+use Rattle.serial_fix.specs.Run.{PairIsSettled, BothAreSettled, fact_of}
+use Rattle.serial_fix.proofs.Rounds.{if-both, pair-lasts}
+use Rattle.serial_fix.proofs.fixpoint.both_ways.Goals as goal
+
+pub returns-in-Done : goal.returns-in-Done
+returns-in-Done c =
+    let f = fact_of c.args.program.now c.args.one.fact in
+    let g = fact_of c.args.program.now c.args.other.fact in
+    let done = rw c.in-Done.is at c.in_ok-step.ensures in
+    if-both c.args.program.now c.args.sets.now c.args.found.now c.environment_step.new.found c.environment_step-in-Done.new.found
+    (PairIsSettled c.args.program.now c.args.sets.now f g) (PairIsSettled c.args.program.now c.args.sets.now g f)
+    (BothAreSettled c.args.program.now c.args.sets.now f g) c.environment_step-in-Done.result done c.environment_step-in-Done.ensures
+    (λ on one two. (pair-lasts c.args.program.now c.args.sets.now f g c.environment_step.new.found.facts c.environment_step-in-Done.new.found.facts on one, two))

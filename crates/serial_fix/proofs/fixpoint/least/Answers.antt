@@ -1,0 +1,10 @@
+use Rattle.std.proofs.Common.{subst, sym, length, arith}
+use Rattle.serial_fix.specs.Least.{AreLeast}
+use Rattle.serial_fix.proofs.Rounds.{are-least}
+use Rattle.serial_fix.proofs.fixpoint.least.Goals as goal
+
+pub returns-in-Done-finished : goal.returns-in-Done-finished
+returns-in-Done-finished c =
+    let done = rw c.in-Done-finished.is at c.in_ok-finished.ensures in
+    subst (AreLeast c.args.program.now c.args.sets.now) (sym c.into_facts.ensures)
+    (are-least c.args.program.now c.args.sets.now c.rounds.new.found (length c.rounds.new.found.facts) done.0 (omega arith) done.2)

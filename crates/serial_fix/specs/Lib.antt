@@ -1,0 +1,6 @@
+pub mod Stored
+pub mod Table
+pub mod Least
+pub mod Lines
+pub mod Found
+pub mod Run

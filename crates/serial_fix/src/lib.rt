@@ -1,0 +1,12 @@
+//! The least set of facts under posts, found on one thread, and its text. The layers above learn that the facts that come out
+//! are exactly those that can be derived from nothing, or with which instance the elimination leaves.
+#![tactic(auto)]
+
+mod fixpoint;
+mod found;
+mod lines;
+mod run;
+mod step;
+
+pub use fixpoint::{LeastAnswer, least};
+pub use lines::table;

@@ -1,0 +1,231 @@
+ghost use Rattle.std.specs.Prelude.{◌≡◌, ◌<◌, Some, Contains, length, slice_get, IsSome, IfOk};
+ghost use Rattle.predicate_sets.specs.Sets.{HasHome, set_at};
+ghost use Rattle.transition_formula.specs.Program.{Thread, IsEdgeOf, numbered};
+ghost use Rattle.transition_formula.specs.Program as specs;
+ghost use Rattle.transition_formula.specs.Stored.{edge_of};
+ghost use Rattle.horn_rules.specs.Stored.{home_of};
+ghost use Rattle.horn_rules.specs.Home.{State};
+ghost use Rattle.serial_fix.specs.Run.{EdgeIsSettled, GuarIsSettled, HasEdge, IsFrom, IsRun, IsStep, OwnAreSettled, OwnIsSettled, PairIsSettled, StartIsSettled, fact_of, tells_another};
+
+use crate::found::Found;
+use crate::step::{Step, add};
+use horn_rules::{Premise, named, number};
+use predicate_sets::Sets;
+use std::alloc::{AllocError, Global};
+use thr_base::{EdgeNo, Fact, FactId, Home, Instance, Loc, ThreadNo};
+use transition_formula::{Edge, Program};
+
+/// A fact that was found, with its number.
+#[derive(Clone, Copy)]
+pub(crate) struct Known {
+    id: FactId,
+    fact: Fact,
+}
+
+/// The n-th fact, from 0.
+pub(crate) fn nth(found: &Found, n: u32) -> Known
+    requires { n < length found.now.facts }
+    ensures { slice_get found.now.facts n ≡ Some result.fact }
+{
+    let facts = found.facts();
+    Known {
+        id: FactId(n + 1),
+        fact: facts[n as usize],
+    }
+}
+
+/// A fact as a premise.
+fn as_premise(sets: &Sets, known: Known) -> Result<Premise, AllocError>
+    requires { HasHome sets.now known.fact.home.0 }
+    ensures fact { IfOk result (λ premise. premise.fact ≡ known.fact) }
+    ensures set { IfOk result (λ premise. premise.set.value ≡ set_at sets.now known.fact.home.0) }
+{
+    Ok(Premise {
+        id: known.id,
+        fact: known.fact,
+        set: sets.at(known.fact.home)?,
+    })
+}
+
+/// A thread's edge.
+fn edge_at(program: &Program, i: ThreadNo, e: EdgeNo) -> &Edge
+    requires { HasEdge program.now i.0 e.0 }
+    ensures { (thread : Thread) (edge : specs.Edge) → IsEdgeOf program.now i.0 e.0 thread edge → edge_of result.now ≡ edge }
+{
+    &program.edges(i)[e.0 as usize - 1]
+}
+
+/// The start of a thread.
+pub(crate) fn start(
+    alloc: Global,
+    program: &Program,
+    sets: &Sets,
+    found: &mut Found,
+    i: ThreadNo,
+) -> Result<Step, AllocError>
+    requires run { IsRun program.now sets.now found.old }
+    requires thread { IsSome (numbered program.now.threads i.0) }
+    ensures { IfOk result (IsStep program.now sets.now found.old found.new (StartIsSettled program.now sets.now i.0)) }
+{
+    let home = number(program, Home::State(i, Loc(1)));
+    add(
+        alloc,
+        program,
+        sets,
+        found,
+        home,
+        Instance::Init(i),
+        (None, None),
+    )
+}
+
+/// A fact's own step by an edge that leaves its location.
+fn own_step(
+    alloc: Global,
+    program: &Program,
+    sets: &Sets,
+    found: &mut Found,
+    known: Known,
+    i: ThreadNo,
+    e: EdgeNo,
+) -> Result<Step, AllocError>
+    requires run { IsRun program.now sets.now found.old }
+    requires there { Contains found.old.facts known.fact }
+    requires from { IsFrom program.now i.0 e.0 (fact_of program.now known.fact) }
+    ensures { IfOk result (IsStep program.now sets.now found.old found.new (OwnIsSettled program.now sets.now i.0 e.0 (fact_of program.now known.fact))) }
+{
+    let to = edge_at(program, i, e).to;
+    let home = number(program, Home::State(i, to));
+    let first = as_premise(sets, known)?;
+    let instance = Instance::Own(known.id, e);
+    add(alloc, program, sets, found, home, instance, (Some(first), None))
+}
+
+/// That step as the other threads see it.
+fn guarantee(
+    alloc: Global,
+    program: &Program,
+    sets: &Sets,
+    found: &mut Found,
+    known: Known,
+    i: ThreadNo,
+    e: EdgeNo,
+) -> Result<Step, AllocError>
+    requires run { IsRun program.now sets.now found.old }
+    requires there { Contains found.old.facts known.fact }
+    requires from { IsFrom program.now i.0 e.0 (fact_of program.now known.fact) }
+    ensures { IfOk result (IsStep program.now sets.now found.old found.new (GuarIsSettled program.now sets.now i.0 e.0 (fact_of program.now known.fact))) }
+{
+    let home = number(program, Home::Env(i, e));
+    let first = as_premise(sets, known)?;
+    let instance = Instance::Guar(known.id, e);
+    add(alloc, program, sets, found, home, instance, (Some(first), None))
+}
+
+/// The steps of a fact at a location by an edge of its thread, where that leaves the location.
+fn edge_steps(
+    alloc: Global,
+    program: &Program,
+    sets: &Sets,
+    found: &mut Found,
+    known: Known,
+    at: (ThreadNo, Loc),
+    e: EdgeNo,
+) -> Result<Step, AllocError>
+    requires run { IsRun program.now sets.now found.old }
+    requires there { Contains found.old.facts known.fact }
+    requires at { (fact_of program.now known.fact).home ≡ State at.0.0 at.1.0 }
+    requires edge { HasEdge program.now at.0.0 e.0 }
+    ensures { IfOk result (IsStep program.now sets.now found.old found.new (EdgeIsSettled program.now sets.now at.0.0 e.0 (fact_of program.now known.fact))) }
+{
+    let (i, l) = at;
+    if edge_at(program, i, e).from != l {
+        return Ok(Step::Done);
+    }
+    let own = own_step(alloc, program, sets, found, known, i, e)?;
+    match own {
+        Step::Left => Ok(Step::Left),
+        Step::Done => guarantee(alloc, program, sets, found, known, i, e),
+    }
+}
+
+/// The steps of a fact at a location by all edges that leave it.
+fn steps_from(
+    alloc: Global,
+    program: &Program,
+    sets: &Sets,
+    found: &mut Found,
+    known: Known,
+    at: (ThreadNo, Loc),
+) -> Result<Step, AllocError>
+    requires run { IsRun program.now sets.now found.old }
+    requires there { Contains found.old.facts known.fact }
+    requires at { (fact_of program.now known.fact).home ≡ State at.0.0 at.1.0 }
+    requires thread { IsSome (numbered program.now.threads at.0.0) }
+    ensures { IfOk result (IsStep program.now sets.now found.old found.new (OwnAreSettled program.now sets.now (fact_of program.now known.fact))) }
+{
+    let edges = program.edges(at.0).len() as u32;
+    for e in 0..edges {
+        let step = edge_steps(alloc, program, sets, found, known, at, EdgeNo(e + 1))?;
+        match step {
+            Step::Left => return Ok(Step::Left),
+            Step::Done => {}
+        }
+    }
+    Ok(Step::Done)
+}
+
+/// All steps of a fact's own thread from it.
+pub(crate) fn own_steps(
+    alloc: Global,
+    program: &Program,
+    sets: &Sets,
+    found: &mut Found,
+    known: Known,
+) -> Result<Step, AllocError>
+    requires run { IsRun program.now sets.now found.old }
+    requires there { Contains found.old.facts known.fact }
+    ensures { IfOk result (IsStep program.now sets.now found.old found.new (OwnAreSettled program.now sets.now (fact_of program.now known.fact))) }
+{
+    match named(program, known.fact.home) {
+        Home::State(i, l) => steps_from(alloc, program, sets, found, known, (i, l)),
+        Home::Env(..) => Ok(Step::Done),
+    }
+}
+
+/// The step of another thread of which the second fact tells, where the first is at a location and the second tells of one.
+pub(crate) fn environment_step(
+    alloc: Global,
+    program: &Program,
+    sets: &Sets,
+    found: &mut Found,
+    one: Known,
+    told: Known,
+) -> Result<Step, AllocError>
+    requires run { IsRun program.now sets.now found.old }
+    requires one { Contains found.old.facts one.fact }
+    requires told { Contains found.old.facts told.fact }
+    ensures { IfOk result (IsStep program.now sets.now found.old found.new (PairIsSettled program.now sets.now (fact_of program.now one.fact) (fact_of program.now told.fact))) }
+{
+    if !tells_another(
+        named(program, one.fact.home),
+        named(program, told.fact.home),
+    ) {
+        return Ok(Step::Done);
+    }
+    let first = as_premise(sets, one)?;
+    let second = as_premise(sets, told)?;
+    let instance = Instance::Env(one.id, told.id);
+    let premises = (Some(first), Some(second));
+    add(alloc, program, sets, found, one.fact.home, instance, premises)
+}
+
+/// Whether one home is at a location of a thread, and the other tells of another thread's steps.
+fn tells_another(one: Home, told: Home) -> bool
+    ensures { result ≡ tells_another (home_of one) (home_of told) }
+{
+    match (one, told) {
+        (Home::State(k, _), Home::Env(i, _)) => k != i,
+        _ => false,
+    }
+}
