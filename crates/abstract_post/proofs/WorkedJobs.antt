@@ -1,6 +1,5 @@
 -- The jobs of the tests fit.
-use Rattle.std.proofs.Common.{◌≡◌, ◌≢◌, ℕ, ◌+◌, ◌^◌, ◌<◌, List, [], ◌∷◌, length, Option, Some, None, refl, sym, ap, subst, ◌∙◌, arith}
-use Rattle.std.specs.List.{AllByRecursion}
+use Rattle.std.proofs.Common.{◌≡◌, ℕ, ◌+◌, ◌^◌, ◌<◌, List, [], ◌∷◌, length, Some, None, refl, sym, subst, ◌∙◌, arith}
 use Rattle.std.proofs.Math.Pow.{pow-lt}
 use Rattle.thr_base.specs.declared.names.ThreadNo.{ThreadNo}
 use Rattle.thr_base.specs.declared.names.EdgeNo.{EdgeNo}
@@ -16,7 +15,7 @@ use Rattle.horn_rules.specs.declared.job.Job.{Job}
 use Rattle.horn_rules.specs.Home.{Home, State, Env, homes, home_width}
 use Rattle.horn_rules.specs.Fact.{Sets, Fact, IsAtomOf, IsSetOf}
 use Rattle.horn_rules.specs.Instance.{init_case, own_case, guar_case, env_case}
-use Rattle.horn_rules.specs.Job.{positions, Says, IsPremise, IsCaseOf, init, own, guar, env, IsJob}
+use Rattle.horn_rules.specs.Job.{positions, Says, IsPremise, init, own, guar, env, IsJob}
 use Rattle.horn_rules.proofs.DistinctSets.{set-of}
 use Rattle.abstract_post.specs.Worked.{IsAtomSetOver}
 

@@ -1,5 +1,5 @@
 -- A list of distinct atoms of a home is a set of it.
-use Rattle.std.proofs.Common.{◌≡◌, ◌≢◌, ℕ, zero, suc, ◌<◌, List, [], ◌∷◌, length, get_or, sym, arith}
+use Rattle.std.proofs.Common.{◌≢◌, zero, suc, List, [], ◌∷◌, sym, arith}
 use Rattle.std.specs.List.{AllByRecursion, AllPairs}
 use Rattle.lin_rows.specs.Row.{Row}
 use Rattle.lin_rows.proofs.Lists.{AllByRecursion-at}

@@ -1,17 +1,16 @@
 -- Jobs, as what their instances come to.
-use Rattle.std.proofs.Common.{◌≡◌, ℕ, List, Option, Some, None, Result, Ok, Err, IfOk, sym, ◌∙◌, subst}
+use Rattle.std.proofs.Common.{◌≡◌, List, Option, Some, Result, Ok, Err, IfOk, sym, ◌∙◌, subst}
 use Rattle.thr_base.specs.declared.names.RuleName.{RuleName}
 use Rattle.thr_base.specs.declared.names.RuleName.TheVariants.{Rg, Og}
 use Rattle.thr_base.specs.declared.names.Instance.{Instance}
 use Rattle.lin_rows.specs.System.{System}
-use Rattle.transition_formula.specs.Program.{Program, numbered}
+use Rattle.transition_formula.specs.Program.{Program}
 use Rattle.horn_rules.specs.declared.job.Premise.{Premise}
-use Rattle.horn_rules.specs.declared.job.Job.{Job}
-use Rattle.horn_rules.specs.Home.{Home, homes}
+use Rattle.horn_rules.specs.Home.{Home}
 use Rattle.horn_rules.specs.Fact.{Sets, Fact}
 use Rattle.horn_rules.specs.Instance.{Case, IsCase}
 use Rattle.horn_rules.specs.Instance as rules
-use Rattle.horn_rules.specs.Job.{Says, IsPremiseAt, IsPremise, ArePremises, AreItsPremises, IsCaseOf, init, own, guar, env, inter, HasKind, AreRowsOfKind, AreInstanceRows, IsJob}
+use Rattle.horn_rules.specs.Job.{Says, IsPremiseAt, IsPremise, ArePremises, AreItsPremises, IsCaseOf, init, own, guar, env, inter, HasKind, AreRowsOfKind, AreInstanceRows}
 use Rattle.horn_rules.specs.Laws.{JobsAreCases}
 
 -- rows that are right for each kind are those of the instance

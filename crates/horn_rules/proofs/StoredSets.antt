@@ -1,5 +1,5 @@
 -- Homes have one number each, so the predicates that are stored by number are found by home.
-use Rattle.std.proofs.Common.{◌≡◌, ◌≢◌, ℕ, zero, suc, ◌+◌, ◌-◌, ◌<◌, ◌≤◌, Bool, true, false, List, [], ◌∷◌, ◌++◌, length, map, get_or, Option, Some, None, refl, sym, ap, subst, ◌∙◌, arith, inl, inr, ◌⊎◌}
+use Rattle.std.proofs.Common.{◌≡◌, ◌≢◌, ℕ, zero, suc, ◌+◌, ◌-◌, Bool, true, false, List, [], ◌∷◌, length, map, get_or, Option, Some, None, refl, sym, ap, subst, ◌∙◌, arith, inl, inr, ◌⊎◌}
 use Rattle.std.specs.List.{slice_get, range_with_len}
 use Rattle.std.specs.Prelude.{option_map, ◌==◌, ◌&&◌}
 use Rattle.std.proofs.lemmas.Bool.Decides.{leb_tells, eqb_tells}
@@ -8,7 +8,7 @@ use Rattle.lin_rows.specs.Row.{Row}
 use Rattle.predicate_sets.specs.Sets.{set_at}
 use Rattle.transition_formula.specs.Program.{Program, Thread, numbered}
 use Rattle.horn_rules.specs.Home.{Home, State, Env, by_thread, state_homes, env_homes, homes}
-use Rattle.horn_rules.specs.Fact.{Sets, IsSetOf, AreSetsOf}
+use Rattle.horn_rules.specs.Fact.{IsSetOf, AreSetsOf}
 use Rattle.horn_rules.specs.Stored.{same_home, list_at, sets_of, AreStoredSetsOf}
 use Rattle.horn_rules.proofs.Places.{slice_get-append_left, slice_get-append_right, range-within, by_thread-found}
 
