@@ -5,15 +5,15 @@ use Rattle.std.proofs.lemmas.Bool.Decides.{leb_tells}
 use Rattle.transition_formula.specs.Program.{Program}
 use Rattle.annotation_form.specs.Lines.{IsLine, lines_text}
 use Rattle.annotation_form.specs.Predicates.{Predicate, IsPredicatesText}
-use Rattle.annotation_form.specs.BadLine.{Begin, IsRefused, Bad, Open, IsBadLine}
+use Rattle.annotation_form.specs.BadLine.{Begin, IsRefused, Ended, NotEnded, IsBadLine}
 use Rattle.annotation_form.proofs.Cuts.{cut-at_mark, no_mark, AllByRecursion-right, lines_text-append, lines_text-more, cut-lines}
 
 not-refused : (program : Program) (lines : List (List ℕ)) (rest : List ℕ) (predicates : List Predicate) → IsPredicatesText program predicates (lines_text lines ++ rest)
     → IsRefused program lines rest → ⊥
-not-refused program lines rest predicates is (Bad line more is_line rest_is none) =
+not-refused program lines rest predicates is (Ended line more is_line rest_is none) =
     let whole : lines_text lines ++ rest ≡ lines_text (lines ++ line ∷ []) ++ more = ap (λ (t : List ℕ). lines_text lines ++ t) rest_is ∙ sym (lines_text-more lines line more) in
     none (record { predicates = predicates; rest = more; is_text = subst (IsPredicatesText program predicates) whole is })
-not-refused program lines rest predicates is (Open is_line none) = none predicates is
+not-refused program lines rest predicates is (NotEnded is_line none) = none predicates is
 
 pub text_has_no_bad_line : (program : Program) (predicates : List Predicate) (text : List ℕ) (n : ℕ) → IsPredicatesText program predicates text → ¬ IsBadLine program text n
 text_has_no_bad_line program predicates text n is bad = not-refused program bad.before bad.rest predicates (subst (IsPredicatesText program predicates) bad.text_is is) bad.refused
@@ -22,9 +22,9 @@ text_has_no_bad_line program predicates text n is bad = not-refused program bad.
 not-among : (program : Program) (xs ys : List (List ℕ)) (r s : List ℕ) (more : List (List ℕ)) → ys ≡ xs ++ more → r ≡ lines_text more ++ s → length xs < length ys
     → AllByRecursion IsLine ys → Begin program ys → IsRefused program xs r → ⊥
 not-among program xs ys r s [] lines_are rest_is shorter are begin refused = omega (arith, ap length lines_are, length-append xs [])
-not-among program xs ys r s (z ∷ more) lines_are rest_is shorter are begin (Open is_line none) =
+not-among program xs ys r s (z ∷ more) lines_are rest_is shorter are begin (NotEnded is_line none) =
     no_mark 10 r z (lines_text more ++ s) is_line (rest_is ∙ append_assoc z (10 ∷ lines_text more) s)
-not-among program xs ys r s (z ∷ more) lines_are rest_is shorter are begin (Bad line after is_line r_is none) =
+not-among program xs ys r s (z ∷ more) lines_are rest_is shorter are begin (Ended line after is_line r_is none) =
     let z_line = AllByRecursion-right IsLine xs (z ∷ more) (subst (AllByRecursion IsLine) lines_are are) in
     let here : z ++ (10 ∷ (lines_text more ++ s)) ≡ line ++ (10 ∷ after) = sym (append_assoc z (10 ∷ lines_text more) s) ∙ sym rest_is ∙ r_is in
     let one = cut-at_mark 10 z (lines_text more ++ s) line after z_line.0 is_line here in

@@ -11,7 +11,8 @@ use Rattle.annotation_form.proofs.Cuts.{cut-at_mark, no_mark}
 abbrev pub HasNoBlank : List ℕ → Type 0
 HasNoBlank text = AllByRecursion (λ b. b ≢ 32) text
 
-small-fits : (n : ℕ) → n < 2 ^ 32 → Fits (pos n)
+-- a number of the code fits
+pub small-fits : (n : ℕ) → n < 2 ^ 32 → Fits (pos n)
 small-fits n h = omega arith
 
 number-no_blank : (n : ℕ) → n < 2 ^ 32 → HasNoBlank (number_text (pos n))

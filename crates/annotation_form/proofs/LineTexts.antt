@@ -14,7 +14,7 @@ use Rattle.horn_rules.specs.HomeText.{home_text}
 use Rattle.annotation_form.specs.Lines.{IsLine}
 use Rattle.annotation_form.specs.Predicates.{Predicate, IsPredicateOf, predicate_text, predicate_texts}
 use Rattle.annotation_form.specs.Reading.{IsSmall, IsHead, IsLineOf, is_env}
-use Rattle.annotation_form.proofs.HomeTexts.{head-same}
+use Rattle.annotation_form.proofs.HomeTexts.{head-same, small-fits}
 use Rattle.annotation_form.proofs.Homes.{home-small}
 
 -- ---- what is read of a line
@@ -115,9 +115,6 @@ columns-lines program is =
     AllByRecursion-append IsLine (map (λ (column : Column). column.text) program.columns) (map (λ (column : Column). column.text ++ codes "'") program.columns)
     (AllByRecursion-map (λ (column : Column). IsTextOf column.owner column.text) IsLine (λ (column : Column). column.text) (λ column word. bytes-line column.text word.is_text.bytes) program.columns is.texts_are)
     (AllByRecursion-map (λ (column : Column). IsTextOf column.owner column.text) IsLine (λ (column : Column). column.text ++ codes "'") (λ column word. line-append column.text (codes "'") (bytes-line column.text word.is_text.bytes) (λ e. omega arith, tt)) program.columns is.texts_are)
-
-small-fits : (n : ℕ) → n < 2 ^ 32 → Fits (pos n)
-small-fits n h = omega arith
 
 words-line : (k : ℕ) (i l : ℕ) → k ≢ 10 → i < 2 ^ 32 → l < 2 ^ 32 → IsLine (k ∷ 32 ∷ (number_text (pos i) ++ (32 ∷ number_text (pos l))))
 words-line k i l other h j = (

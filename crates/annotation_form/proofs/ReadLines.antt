@@ -9,7 +9,7 @@ use Rattle.transition_formula.specs.Program.{Program, IsProgram}
 use Rattle.horn_rules.specs.Home.{homes}
 use Rattle.annotation_form.specs.Lines.{IsLine, lines_text}
 use Rattle.annotation_form.specs.Predicates.{Predicate, IsPredicateOf, AreAllowed, IsPredicatesText, predicate_text, predicate_texts, lists_of}
-use Rattle.annotation_form.specs.BadLine.{Begin, IsRefused, Bad, Open, IsBadLine, IsReadAs}
+use Rattle.annotation_form.specs.BadLine.{Begin, IsRefused, Ended, NotEnded, IsBadLine, IsReadAs}
 use Rattle.annotation_form.specs.Reading.{HasRoom, IsLineOf, IsTaken, IsReadSoFar}
 use Rattle.annotation_form.proofs.Cuts.{AllByRecursion-left, AllByRecursion-right, lines_text-more, length-lines_text, Longer, cut-lines, cut-open}
 use Rattle.annotation_form.proofs.Marks.{marked_or_not, Marked}
@@ -255,7 +255,7 @@ so_far-bad program text sets number left line rest is s left_is is_line other no
   text_is = s.text_is;
   number = s.number_is ∙ ap (λ (k : ℕ). k + 1) (sym (length-map s.before (predicate_text program)));
   begin = begins program s.before s.allowed;
-  refused = Bad line rest is_line left_is (not-begin program s.before line is s.allowed.of_program s.only is_line other none);
+  refused = Ended line rest is_line left_is (not-begin program s.before line is s.allowed.of_program s.only is_line other none);
 }
 
 -- no line feed comes any more
@@ -282,7 +282,7 @@ so_far-open program text sets number left is s is_line = record {
   text_is = s.text_is;
   number = s.number_is ∙ ap (λ (k : ℕ). k + 1) (sym (length-map s.before (predicate_text program)));
   begin = begins program s.before s.allowed;
-  refused = Open is_line (λ ps is_text. no-whole program s.before ps left is s.allowed.of_program is_text.allowed.of_program is_line is_text.text_is);
+  refused = NotEnded is_line (λ ps is_text. no-whole program s.before ps left is s.allowed.of_program is_text.allowed.of_program is_line is_text.text_is);
 }
 
 -- something stands behind the last line
@@ -309,8 +309,8 @@ no-longer program before ps rest is of of' some is_line e =
 
 refused-behind : (program : Program) (before : List Predicate) (rest : List ℕ) → IsProgram program → AllByRecursion (IsPredicateOf program) before → 0 < length rest → IsLine rest ⊎ Marked 10 rest
     → IsRefused program (all_lines program before) rest
-refused-behind program before rest is of some (inl is_line) = Open is_line (λ ps is_text. no-longer program before ps rest is of is_text.allowed.of_program some is_line is_text.text_is)
-refused-behind program before rest is of some (inr marked) = Bad marked.front marked.behind marked.split.plain marked.split.text_is (not-longer program before marked.front is of marked.split.plain)
+refused-behind program before rest is of some (inl is_line) = NotEnded is_line (λ ps is_text. no-longer program before ps rest is of is_text.allowed.of_program some is_line is_text.text_is)
+refused-behind program before rest is of some (inr marked) = Ended marked.front marked.behind marked.split.plain marked.split.text_is (not-longer program before marked.front is of marked.split.plain)
 
 pub so_far-behind : (program : Program) (text : List ℕ) (sets : List (List Row)) (number : ℕ) (left rest : List ℕ) → IsProgram program → (s : IsReadSoFar program text sets number left)
     → left ≡ codes "end" ++ (10 ∷ rest) → 0 < length rest → IsBadLine program text (number + 1)

@@ -16,10 +16,10 @@ pub record Begin (program : Program) (lines : List (List ℕ)) : Type 0 where
 
 -- What stands behind these lines goes on with a line that cannot stand there.
 pub data IsRefused (program : Program) (lines : List (List ℕ)) (rest : List ℕ) : Type 0 where
-  -- with that line, no text of predicates begins so
-  Bad : (line more : List ℕ) → IsLine line → rest ≡ line ++ (10 ∷ more) → ¬ Begin program (lines ++ line ∷ []) → IsRefused program lines rest
-  -- that line has no line feed, and the whole is no text of predicates
-  Open : IsLine rest → ((predicates : List Predicate) → ¬ IsPredicatesText program predicates (lines_text lines ++ rest)) → IsRefused program lines rest
+  -- it has its line feed, and no text of predicates begins so
+  Ended : (line more : List ℕ) → IsLine line → rest ≡ line ++ (10 ∷ more) → ¬ Begin program (lines ++ line ∷ []) → IsRefused program lines rest
+  -- it has no line feed, and the whole is no text of predicates
+  NotEnded : IsLine rest → ((predicates : List Predicate) → ¬ IsPredicatesText program predicates (lines_text lines ++ rest)) → IsRefused program lines rest
 
 -- Line n, from 1, is the first that cannot stand in the text: a text of predicates begins with the lines before it, and none
 -- goes on with it. Where the text ends too early, the missing line is the one behind the last.
