@@ -217,8 +217,14 @@ fn texts_that_end_badly(rt: HostRuntime) -> Result<(), Fail> {
     assert_eq!(rt; bad_line(alloc, &program, b"end\n\n"), Some(2));
     assert_eq!(rt; bad_line(alloc, &program, b"end\nend\n"), Some(2));
     assert_eq!(rt; bad_line(alloc, &program, b"s 1 1 : t1.$pc <= 3"), Some(1));
-    assert_eq!(rt; bad_line(alloc, &program, b"s 1 1 : t1.$pc <= 3\n"), Some(2));
-    assert_eq!(rt; bad_line(alloc, &program, b"s 1 1 : t1.$pc <= 3\nend"), Some(2));
+    assert_eq!(rt;
+        bad_line(alloc, &program, b"s 1 1 : t1.$pc <= 3\n"),
+        Some(2)
+    );
+    assert_eq!(rt;
+        bad_line(alloc, &program, b"s 1 1 : t1.$pc <= 3\nend"),
+        Some(2)
+    );
     assert_eq!(rt;
         bad_line(alloc, &program, b"s 1 1 : t1.$pc <= 3\nend\nx"),
         Some(3)
