@@ -1,5 +1,5 @@
 -- The words of each home beside the facts in order.
-use Rattle.std.proofs.Common.{◌≡◌, ◌≢◌, ◌↔◌, ◌⊎◌, ℕ, zero, suc, ◌+◌, ◌-◌, ◌^◌, ◌<◌, ◌≤◌, ◌==◌, Bool, true, false, cond, List, [], ◌∷◌, ◌++◌, map, filter, length, set, get_or, take, IsTrue, not, append-nil, Result, Ok, Err, Option, Some, None, refl, sym, ap, subst, ◌∙◌, arith, inl, inr}
+use Rattle.std.proofs.Common.{◌≡◌, ◌≢◌, ◌↔◌, ◌⊎◌, ℕ, zero, suc, ◌+◌, ◌-◌, ◌^◌, ◌<◌, ◌≤◌, ◌==◌, Bool, true, false, cond, List, [], ◌∷◌, ◌++◌, map, filter, length, set, get_or, take, IsTrue, not, append-nil, Result, Ok, Err, Some, refl, sym, ap, subst, ◌∙◌, arith, inl, inr}
 use Rattle.std.specs.Bool.{if◌then◌else◌}
 use Rattle.std.specs.Result.{is_ok, is_err}
 use Rattle.std.specs.List.{Contains, slice_get, Any}
@@ -79,7 +79,7 @@ words-at f xs facts n x is from to at =
     let within : n - 1 < length (map f xs) = omega (arith, length-map xs f) in
     let inside : n - 1 < length xs = omega arith in
     let got : slice_get (map f xs) (n - 1) ≡ Some (f x) =
-        slice_get-get_or (map f xs) (n - 1) [] within ∙ ap Some (get_or-map f xs (n - 1) x [] inside) ∙ ap (λ y. Some (f y)) (sym at) in
+    slice_get-get_or (map f xs) (n - 1) [] within ∙ ap Some (get_or-map f xs (n - 1) x [] inside) ∙ ap (λ y. Some (f y)) (sym at) in
     let same : suc (n - 1) ≡ n = omega arith in
     is.at_home (n - 1) (f x) got ∙ ap (λ m. held_at m facts) same
 
@@ -135,9 +135,9 @@ pub index-same : {X : Type 0} (f : X → List ℕ) (xs : List X) (facts all : Li
     → IsIndex (map f xs) facts → all ≡ facts → place < length xs → f new ≡ f old → old ≡ get_or xs place old → IsIndex (map f (set xs place new)) all
 index-same f xs facts all new old place is same within alike at =
     let unchanged : map f (set xs place new) ≡ map f xs =
-        map-set f xs place new
-        ∙ ap (set (map f xs) place) (alike ∙ ap f at ∙ sym (get_or-map f xs place old [] within))
-        ∙ set-get_or (map f xs) place [] in
+    map-set f xs place new
+    ∙ ap (set (map f xs) place) (alike ∙ ap f at ∙ sym (get_or-map f xs place old [] within))
+    ∙ set-get_or (map f xs) place [] in
     subst (λ ws. IsIndex ws all) (sym unchanged) (subst (IsIndex (map f xs)) (sym same) is)
 
 pub popped : (facts pushed left : List StoredFact) (fact : StoredFact) (n : ℕ) → pushed ≡ facts ++ fact ∷ [] → left ≡ take (n - 1) pushed → n ≡ length facts + 1 → left ≡ facts

@@ -1,18 +1,14 @@
 -- The instances of a run, kind by kind.
-use Rattle.std.proofs.Common.{◌≡◌, ◌≢◌, ◌⊎◌, ℕ, zero, suc, ◌+◌, ◌-◌, ◌^◌, ◌<◌, ◌≤◌, ◌==◌, Bool, true, false, not, List, [], ◌∷◌, ◌++◌, length, map, get_or, unwrap_or, option_map, Option, Some, None, Result, Ok, Err, IsSome, IfOk, refl, sym, ap, subst, ◌∙◌, arith, inl, inr}
-use Rattle.std.specs.List.{AllByRecursion, Contains, range_with_len, slice_get}
-use Rattle.std.proofs.lemmas.Bool.{eqb-true}
+use Rattle.std.proofs.Common.{◌≡◌, ◌≢◌, ℕ, zero, suc, ◌+◌, ◌-◌, ◌^◌, ◌<◌, ◌==◌, Bool, true, false, not, List, [], ◌∷◌, length, map, get_or, unwrap_or, option_map, Option, Some, None, Result, Ok, Err, IsSome, IfOk, refl, sym, ap, subst, ◌∙◌, arith, inl, inr}
+use Rattle.std.specs.List.{Contains, range_with_len, slice_get}
 use Rattle.std.proofs.lemmas.Bool.Decides.{eqb_tells}
 use Rattle.std.proofs.lemmas.List.Elements.{Contains-append_left, Contains-append_right}
 use Rattle.std.proofs.lemmas.List.FromFn.{length-map-range_with_len}
 use Rattle.std.proofs.lemmas.Option.{slice_get_within, slice_get-map}
-use Rattle.thr_base.specs.declared.names.RuleName.TheVariants.{Rg}
-use Rattle.thr_base.specs.declared.names.Instance.{Instance}
 use Rattle.thr_base.specs.declared.names.Instance.TheVariants.{Init, Own, Guar, Env as Environment}
 use Rattle.thr_base.specs.declared.names.ThreadNo.{ThreadNo}
 use Rattle.thr_base.specs.declared.names.EdgeNo.{EdgeNo}
 use Rattle.thr_base.specs.declared.names.FactId.{FactId}
-use Rattle.thr_base.specs.declared.names.HomeNo.{HomeNo}
 use Rattle.thr_base.specs.declared.names.Fact.{Fact as StoredFact}
 use Rattle.lin_rows.specs.Row.{Row}
 use Rattle.predicate_sets.specs.Sets.{HasHome, set_at}
@@ -24,8 +20,8 @@ use Rattle.transition_formula.proofs.Lookups as lookups
 use Rattle.horn_rules.specs.declared.job.Premise.{Premise}
 use Rattle.horn_rules.specs.Home.{Home, State, Env, by_thread, state_homes, env_homes, homes, IsHomeOf}
 use Rattle.horn_rules.specs.Fact.{Fact, IsSetOf}
-use Rattle.horn_rules.specs.Instance.{Case, init_case, own_case, guar_case, env_case}
-use Rattle.horn_rules.specs.Job.{positions, Says, IsPremise, IsCaseOf, init, own, guar, env}
+use Rattle.horn_rules.specs.Instance.{init_case, own_case, guar_case, env_case}
+use Rattle.horn_rules.specs.Job.{positions, Says, IsPremise, init, own, guar, env}
 use Rattle.horn_rules.specs.Stored.{sets_of}
 use Rattle.horn_rules.proofs.Numbers.{state_home-place, env_home-place}
 use Rattle.horn_rules.proofs.Places.{slice_get-there, range-at}
@@ -33,7 +29,7 @@ use Rattle.horn_rules.proofs.WorkedProgram.{home-numbered}
 use Rattle.std.proofs.lemmas.List.{length-map}
 use Rattle.serial_fix.specs.Stored.{HasItsHome}
 use Rattle.serial_fix.specs.Found.{FoundFacts}
-use Rattle.serial_fix.specs.Run.{fact_of, facts_of, IsStored, IsRun, Extends, IsSettled, IsInstance, InstanceIsSettled, StartIsSettled, HasEdge, IsFrom, OwnIsSettled, GuarIsSettled, tells_another, PairIsSettled, IsStep}
+use Rattle.serial_fix.specs.Run.{fact_of, IsStored, IsRun, IsInstance, InstanceIsSettled, StartIsSettled, HasEdge, IsFrom, OwnIsSettled, GuarIsSettled, tells_another, PairIsSettled, IsStep}
 use Rattle.serial_fix.specs.declared.step.Step.{Step}
 use Rattle.serial_fix.specs.declared.step.Step.TheVariants.{Done, Left}
 use Rattle.serial_fix.proofs.Members.{Contains-map, Contains-slice_get}

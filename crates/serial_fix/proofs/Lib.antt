@@ -4,3 +4,6 @@ pub mod Index
 pub mod Steps
 pub mod Instances
 pub mod Rounds
+pub mod Order
+pub mod Tables
+pub mod Bare

@@ -1,5 +1,5 @@
 -- What stands in a list, by recursion.
-use Rattle.std.proofs.Common.{◌≡◌, ◌⊎◌, ℕ, zero, suc, List, [], ◌∷◌, ◌++◌, map, length, Some, refl, ap, inl, inr, arith}
+use Rattle.std.proofs.Common.{◌≡◌, ◌⊎◌, ℕ, zero, suc, List, [], ◌∷◌, map, Some, refl, ap, inl, inr, arith}
 use Rattle.std.specs.List.{Contains, slice_get, Any}
 
 pub first : {A : Type 0} (x : A) (xs : List A) → Contains (x ∷ xs) x

@@ -1,5 +1,5 @@
 -- Positions and the words that hold them.
-use Rattle.std.proofs.Common.{◌≡◌, ◌⊎◌, ℕ, zero, suc, ◌+◌, ◌-◌, ◌*◌, ◌/◌, ◌^◌, ◌<◌, ◌≤◌, ◌==◌, Bool, true, false, cond, List, [], ◌∷◌, ◌++◌, length, filter, Some, refl, sym, ap, ◌∙◌, arith, inl, inr, append_assoc}
+use Rattle.std.proofs.Common.{◌≡◌, ℕ, zero, suc, ◌+◌, ◌-◌, ◌*◌, ◌/◌, ◌^◌, ◌<◌, ◌≤◌, Bool, true, false, cond, List, [], ◌∷◌, ◌++◌, length, filter, Some, sym, ap, ◌∙◌, arith, inl, inr, append_assoc}
 use Rattle.std.specs.List.{range_with_len, Contains}
 use Rattle.std.specs.Int.{bit_at}
 use Rattle.std.proofs.lemmas.Bool.{eq-eqb, cases_lt}
@@ -12,7 +12,7 @@ use Rattle.lin_rows.specs.Row.{Row}
 use Rattle.transition_formula.specs.Program.{numbered}
 use Rattle.horn_rules.specs.Job.{holds, positions}
 use Rattle.horn_rules.proofs.Places.{range-at}
-use Rattle.serial_fix.proofs.Members.{first, later, nothing, Contains-slice_get}
+use Rattle.serial_fix.proofs.Members.{later, nothing, Contains-slice_get}
 
 -- a loop over positions has come one further
 pub positions-next : (p : ℕ → Bool) (done more total : List ℕ) (k : ℕ) → k < 129 → more ≡ done ++ filter p (k ∷ [])
@@ -65,5 +65,6 @@ held-within atoms held small each = bits-below (length atoms) held no-bit
           absurd (omega (arith, slice_get_within atoms i atom at))
       | inr (test, unset) ↦ omega (arith, bit_at-lt held i)
     ]
+
     no-bit : (i : ℕ) → length atoms ≤ i → bit_at held i ≡ 0
     no-bit i past = elim (cases_lt i 128) [ inl below ↦ inside i below past | inr above ↦ bit_at_above held 128 i small above ]

@@ -1,9 +1,9 @@
 -- What is settled when steps follow each other.
-use Rattle.std.proofs.Common.{◌≡◌, ◌≢◌, ◌⊎◌, ℕ, zero, suc, ◌+◌, ◌-◌, ◌^◌, ◌<◌, ◌≤◌, ◌==◌, Bool, true, false, not, List, [], ◌∷◌, ◌++◌, length, map, take, get_or, unwrap_or, option_map, Option, Some, None, Result, Ok, Err, IsSome, IfOk, refl, sym, ap, subst, ◌∙◌, arith, inl, inr, append_assoc}
-use Rattle.std.specs.List.{AllByRecursion, Contains, slice_get, Any}
+use Rattle.std.proofs.Common.{◌≡◌, ◌⊎◌, ℕ, zero, suc, ◌+◌, ◌^◌, ◌<◌, ◌≤◌, ◌==◌, Bool, true, false, not, List, [], ◌∷◌, ◌++◌, length, map, take, unwrap_or, option_map, Option, Some, None, Result, Ok, Err, IsSome, IfOk, refl, sym, ap, subst, ◌∙◌, arith, inl, inr, append_assoc}
+use Rattle.std.specs.List.{AllByRecursion, Contains, slice_get}
 use Rattle.std.proofs.lemmas.Bool.{eqb-true, eq-eqb, cases_lt}
 use Rattle.std.proofs.lemmas.List.{length-map, length-append, take_all}
-use Rattle.std.proofs.lemmas.Option.{slice_get_within, slice_get-map}
+use Rattle.std.proofs.lemmas.Option.{slice_get_within}
 use Rattle.std.proofs.lemmas.List.Elements.{Contains-append_left}
 use Rattle.horn_rules.proofs.Places.{slice_get-append_left}
 use Rattle.thr_base.specs.declared.names.RuleName.{RuleName}
@@ -17,19 +17,19 @@ use Rattle.transition_formula.proofs.Lookups.{numbered-within}
 use Rattle.horn_rules.specs.Home.{Home, State, Env, homes}
 use Rattle.horn_rules.specs.Fact.{Fact}
 use Rattle.horn_rules.specs.Instance.{Case, IsCase, init_case, own_case, guar_case, env_case, init, own, guar, env, inter}
-use Rattle.horn_rules.specs.Least.{IsFactOf, IsPost, Comes, IsDerivation, Least}
+use Rattle.horn_rules.specs.Least.{IsDerivation}
 use Rattle.horn_rules.specs.Stored.{sets_of}
 use Rattle.horn_rules.proofs.Numbers.{state_home-place}
 use Rattle.horn_rules.proofs.WorkedProgram.{home-numbered}
-use Rattle.serial_fix.specs.Stored.{HasItsHome, StandsFor, stood_for}
+use Rattle.serial_fix.specs.Stored.{HasItsHome, stood_for}
 use Rattle.horn_rules.specs.Job.{positions}
 use Rattle.serial_fix.specs.Least.{AreLeast}
 use Rattle.serial_fix.specs.Found.{FoundFacts}
 use Rattle.serial_fix.specs.Run.{fact_of, facts_of, IsStored, IsRun, Extends, IsSettled, StartIsSettled, HasEdge, IsFrom, OwnIsSettled, GuarIsSettled, EdgeIsSettled, OwnAreSettled, PairIsSettled, PairsAreSettled, IsLookedAt, StartsAreSettled, AllAreSettled, IsStep}
 use Rattle.serial_fix.specs.declared.step.Step.{Step}
 use Rattle.serial_fix.specs.declared.step.Step.TheVariants.{Done, Left}
-use Rattle.serial_fix.proofs.Members.{first, later, first-or-later, nothing, Contains-map, Contains-unmap, Contains-slice_get, slice_get-Contains}
-use Rattle.serial_fix.proofs.Steps.{all-at, all-weaker, found-least, Extends-same, Extends-Contains}
+use Rattle.serial_fix.proofs.Members.{later, first-or-later, nothing, Contains-map, Contains-unmap}
+use Rattle.serial_fix.proofs.Steps.{all-at, all-weaker, found-least, Extends-Contains}
 use Rattle.serial_fix.proofs.Instances.{found-number, some-is}
 
 -- ---- what is found stays found, and what is settled stays settled
@@ -342,7 +342,7 @@ derived-there program lists found n whole done (fact ∷ earlier) is =
     let comes = is.0 in
     let all : take n (facts_of program found) ≡ facts_of program found = take_all n (facts_of program found) (omega (arith, length-map found (fact_of program))) in
     let stand = all-weaker (Contains earlier) (Contains (take n (facts_of program found)))
-        (λ f there. subst (λ l. Contains l f) (sym all) (all-at (Contains (facts_of program found)) earlier f rest there)) comes.premises comes.stand_earlier in
+    (λ f there. subst (λ l. Contains l f) (sym all) (all-at (Contains (facts_of program found)) earlier f rest there)) comes.premises comes.stand_earlier in
     (done comes.premises comes.given comes.is_case stand fact comes.is_post, rest)
 
 stood-is : (program : Program) (stored : StoredFact) → HasItsHome program stored → stood_for program stored ≡ Some (fact_of program stored)

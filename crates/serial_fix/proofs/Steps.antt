@@ -1,5 +1,5 @@
 -- One step of a run: an instance that is posted, and what it leaves.
-use Rattle.std.proofs.Common.{◌≡◌, ◌≢◌, ◌⊎◌, ℕ, zero, suc, ◌+◌, ◌^◌, ◌<◌, ◌≤◌, ◌==◌, Bool, true, List, [], ◌∷◌, ◌++◌, length, map, reverse, get_or, unwrap_or, Option, Some, None, refl, sym, ap, subst, ◌∙◌, arith, inl, inr, AllPairs, IsSome}
+use Rattle.std.proofs.Common.{◌≡◌, ◌≢◌, ℕ, zero, suc, ◌^◌, ◌<◌, ◌≤◌, ◌==◌, Bool, true, List, [], ◌∷◌, ◌++◌, length, reverse, get_or, unwrap_or, Option, Some, None, refl, sym, ap, subst, ◌∙◌, arith, inl, inr, IsSome}
 use Rattle.std.specs.List.{AllByRecursion, Contains, Any}
 use Rattle.std.specs.Option.{ForSome}
 use Rattle.std.proofs.lemmas.List.{map-append, reverse-append, append-nil}
@@ -19,7 +19,7 @@ use Rattle.transition_formula.specs.Program.{Program, numbered}
 use Rattle.horn_rules.specs.declared.job.Premise.{Premise}
 use Rattle.horn_rules.specs.Home.{Home, State, homes}
 use Rattle.horn_rules.specs.Fact.{Sets, Fact}
-use Rattle.horn_rules.specs.Instance.{Case, IsCase}
+use Rattle.horn_rules.specs.Instance.{Case}
 use Rattle.horn_rules.specs.Job.{positions, IsCaseOf}
 use Rattle.horn_rules.specs.Posted.{posted}
 use Rattle.horn_rules.specs.Least.{IsFactOf, IsPost, Comes, IsDerivation, Least}
@@ -28,7 +28,6 @@ use Rattle.horn_rules.proofs.Posts.{posts-unique}
 use Rattle.horn_rules.proofs.Jobs.{jobs-are-cases}
 use Rattle.horn_rules.proofs.StoredSets.{sets_of-numbered}
 use Rattle.abstract_post.specs.Left.{IsLeft}
-use Rattle.serial_fix.specs.Stored.{HasItsHome}
 use Rattle.serial_fix.specs.Least.{Leaves}
 use Rattle.serial_fix.specs.Found.{FoundFacts, IsInserted}
 use Rattle.serial_fix.specs.Run.{fact_of, facts_of, IsStored, IsRun, Extends, IsSettled, IsInstance, InstanceIsSettled}
@@ -129,7 +128,7 @@ skipped program lists found home given run at none (k, stored, within, is, same)
     let held : fact.held ≡ [] = nothing-held (sets_of program lists) given fact of (target-set program lists home.0 given.target run.lists_are at ∙ none) in
     let one : fact_of program stored ≡ record { home = given.target; held = [] } = stood-alone program lists home given.target stored at none same kept.within in
     let other : fact ≡ record { home = given.target; held = [] } =
-        ap (λ (target : Home). record { home = target; held = fact.held }) of.at_target ∙ ap (λ (l : List ℕ). record { home = given.target; held = l }) held in
+    ap (λ (target : Home). record { home = target; held = fact.held }) of.at_target ∙ ap (λ (l : List ℕ). record { home = given.target; held = l }) held in
     subst (Contains (facts_of program found.facts)) (one ∙ sym other) (Contains-map (fact_of program) found.facts stored there)
 
 -- ---- an instance that is posted

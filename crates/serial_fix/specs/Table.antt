@@ -4,10 +4,12 @@ use Rattle.std.specs.Ordering.{nat_cmp, ordering_then}
 use Rattle.std.specs.Cmp.Lexicographic.{slice_cmp}
 use Rattle.std.specs.declared.cmp.Ordering.{Ordering}
 use Rattle.std.specs.declared.cmp.Ordering.TheVariants.{Less, Greater}
-
 use Rattle.horn_rules.specs.Home.{Home, State, Env}
 use Rattle.horn_rules.specs.HomeText.{home_text}
-use Rattle.horn_rules.specs.Fact.{Fact}
+use Rattle.horn_rules.specs.Fact.{Sets, Fact}
+use Rattle.horn_rules.specs.Least.{Least}
+use Rattle.thr_base.specs.declared.names.RuleName.TheVariants.{Rg}
+use Rattle.transition_formula.specs.Program.{Program}
 
 -- homes at locations by thread and location, then those at edges by thread and edge
 abbrev pub home_order : Home → Home → Ordering
@@ -38,3 +40,7 @@ pub record IsTableOf (Stands : Fact → Type 0) (text : List ℕ) : Type 0 where
   pub rising : AllPairs Precedes facts
   pub exact : (fact : Fact) → Contains facts fact ↔ Stands fact
   pub written : text ≡ flat_map fact_line facts ++ codes "end\n"
+
+-- The text is that of the least set, where homes have these predicates.
+abbrev pub IsTable : Program → Sets → List ℕ → Type 0
+IsTable program sets text = IsTableOf (Least program Rg sets) text

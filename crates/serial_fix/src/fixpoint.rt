@@ -1,5 +1,4 @@
 ghost use Rattle.std.specs.Prelude.{◌≡◌, ◌≤◌, ◌<◌, Contains, length, IfOk};
-
 ghost use Rattle.horn_rules.specs.Stored.{AreStoredSetsOf};
 ghost use Rattle.serial_fix.specs.Least.{IsLeastAnswer};
 ghost use Rattle.serial_fix.specs.Run.{AreAllSettled, BothAreSettled, IsLookedAt, IsRun, IsStep, PairsAreSettled, StartsAreSettled, fact_of};

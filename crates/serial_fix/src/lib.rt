@@ -4,9 +4,11 @@
 
 mod fixpoint;
 mod found;
+mod laws;
 mod lines;
 mod run;
 mod step;
 
 pub use fixpoint::{LeastAnswer, least};
+pub use laws::{tables_are_unique, without_predicates_each_instance_gives_its_home};
 pub use lines::table;

@@ -1,10 +1,13 @@
-ghost use Rattle.std.specs.Prelude.{◌≡◌, ◌<◌, ◌≤◌, ◌∷◌, [], ◌++◌, filter, Some, map, decimal, codes, Any, IfOk, OnOk};
+ghost use Rattle.std.specs.Prelude.{◌≡◌, ◌↔◌, ◌<◌, ◌≤◌, ◌∷◌, [], ◌++◌, filter, Some, map, decimal, codes, List, AllPairs, Any, Contains, IfOk, OnOk};
 ghost use Rattle.std.specs.List.{AllByRecursion, flat_map};
-ghost use Rattle.horn_rules.specs.Stored.{home_of};
+ghost use Rattle.horn_rules.specs.Stored.{home_of, sets_of};
+ghost use Rattle.horn_rules.specs.Fact as rules;
 ghost use Rattle.horn_rules.specs.Job.{holds, positions};
+ghost use Rattle.lin_rows.specs.Row.{Row};
+ghost use Rattle.serial_fix.specs.Least.{AreLeast};
 ghost use Rattle.serial_fix.specs.Lines.{fact_of_line};
 ghost use Rattle.serial_fix.specs.Stored.{HasItsHome, StandsFor, stood_for};
-ghost use Rattle.serial_fix.specs.Table.{IsTableOf, fact_line, positions_text};
+ghost use Rattle.serial_fix.specs.Table.{IsTable, IsTableOf, Precedes, fact_line, positions_text};
 
 use horn_rules::{named, push_home};
 use itoa::Buffer;
@@ -22,11 +25,11 @@ struct Line {
 /// The text of facts: a line for each, by thread and location, then by thread and edge, then by positions; then `end`.
 pub fn table(alloc: Global, program: &Program, facts: &[Fact]) -> Result<Vec<u8>, AllocError>
     requires { AllByRecursion (HasItsHome program.now) facts.now }
-    ensures { IfOk result (λ text. IsTableOf (λ fact. Any (λ stored. StandsFor program.now stored fact) facts.now) text.items) }
+    ensures text { IfOk result (λ text. IsTableOf (λ fact. Any (λ stored. StandsFor program.now stored fact) facts.now) text.items) }
+    ensures least { IfOk result (λ text. (lists : List (List Row)) → AreLeast program.now lists facts.now → IsTable program.now (sets_of program.now lists) text.items) }
 {
-    let mut lines = lines_of(alloc, program, facts)?;
-    lines.sort()?;
-    lines.dedup();
+    let lines = lines_of(alloc, program, facts)?;
+    let lines = in_order(lines)?;
     let mut text = Vec::new(alloc);
     push_lines(&mut text, &lines)?;
     text.extend_from_slice(b"end\n")?;
@@ -42,6 +45,16 @@ fn lines_of(alloc: Global, program: &Program, facts: &[Fact]) -> Result<Vec<Line
     for fact in facts {
         lines.push(line_of(alloc, program, fact)?)?;
     }
+    Ok(lines)
+}
+
+/// The lines in the order of tables, each once.
+fn in_order(mut lines: Vec<Line>) -> Result<Vec<Line>, AllocError>
+    ensures rising { IfOk result (λ ordered. AllPairs Precedes (map fact_of_line ordered.items)) }
+    ensures same { IfOk result (λ ordered. (fact : rules.Fact) → Contains (map fact_of_line ordered.items) fact ↔ Contains (map fact_of_line lines.items) fact) }
+{
+    lines.sort()?;
+    lines.dedup();
     Ok(lines)
 }
 

@@ -98,7 +98,15 @@ fn own_step(
     let home = number(program, Home::State(i, to));
     let first = as_premise(sets, known)?;
     let instance = Instance::Own(known.id, e);
-    add(alloc, program, sets, found, home, instance, (Some(first), None))
+    add(
+        alloc,
+        program,
+        sets,
+        found,
+        home,
+        instance,
+        (Some(first), None),
+    )
 }
 
 /// That step as the other threads see it.
@@ -119,7 +127,15 @@ fn guarantee(
     let home = number(program, Home::Env(i, e));
     let first = as_premise(sets, known)?;
     let instance = Instance::Guar(known.id, e);
-    add(alloc, program, sets, found, home, instance, (Some(first), None))
+    add(
+        alloc,
+        program,
+        sets,
+        found,
+        home,
+        instance,
+        (Some(first), None),
+    )
 }
 
 /// The steps of a fact at a location by an edge of its thread, where that leaves the location.
@@ -217,7 +233,15 @@ pub(crate) fn environment_step(
     let second = as_premise(sets, told)?;
     let instance = Instance::Env(one.id, told.id);
     let premises = (Some(first), Some(second));
-    add(alloc, program, sets, found, one.fact.home, instance, premises)
+    add(
+        alloc,
+        program,
+        sets,
+        found,
+        one.fact.home,
+        instance,
+        premises,
+    )
 }
 
 /// Whether one home is at a location of a thread, and the other tells of another thread's steps.

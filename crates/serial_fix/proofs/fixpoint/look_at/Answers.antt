@@ -1,7 +1,7 @@
-use Rattle.std.proofs.Common.{◌<◌, length, ap, arith}
+use Rattle.std.proofs.Common.{arith}
 use Rattle.serial_fix.specs.Run.{OwnAreSettled, PairsAreSettled, IsLookedAt, fact_of}
 use Rattle.serial_fix.proofs.Members.{Contains-slice_get}
-use Rattle.serial_fix.proofs.Rounds.{if-both, looked-at, Extends-there, Extends-length, pairs-of}
+use Rattle.serial_fix.proofs.Rounds.{if-both, looked-at, Extends-there, Extends-length}
 use Rattle.serial_fix.proofs.fixpoint.look_at.Goals as goal
 
 pub own_steps-requires-clause-there : goal.own_steps-requires-clause-there

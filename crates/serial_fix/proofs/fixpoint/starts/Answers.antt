@@ -1,4 +1,3 @@
-use Rattle.std.proofs.Common.{arith}
 use Rattle.serial_fix.proofs.Steps.{Extends-same}
 use Rattle.serial_fix.proofs.Rounds.{Extends-trans, starts-none, starts-more, starts-all, thread-here}
 use Rattle.serial_fix.proofs.fixpoint.starts.Goals as goal

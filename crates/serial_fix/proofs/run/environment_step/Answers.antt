@@ -1,9 +1,9 @@
-use Rattle.std.proofs.Common.{◌≡◌, Bool, true, false, Some, None, sym, ap, ◌∙◌}
+use Rattle.std.proofs.Common.{Some, sym, ◌∙◌}
 use Rattle.thr_base.specs.declared.names.Instance.TheVariants.{Env}
 use Rattle.horn_rules.specs.Stored.{home_of}
-use Rattle.serial_fix.specs.Run.{InstanceIsSettled, PairIsSettled, fact_of, tells_another}
+use Rattle.serial_fix.specs.Run.{InstanceIsSettled, PairIsSettled, fact_of}
 use Rattle.serial_fix.proofs.Steps.{Extends-same}
-use Rattle.serial_fix.proofs.Instances.{found-home, found-number, env-instance, pair-settled, pair-vacuous, same-test, if-step, IsPremiseOf}
+use Rattle.serial_fix.proofs.Instances.{found-home, env-instance, pair-settled, pair-vacuous, same-test, if-step}
 use Rattle.serial_fix.proofs.run.environment_step.Goals as goal
 
 pub returns-then-not-tells_another : goal.returns-then-not-tells_another
@@ -12,7 +12,7 @@ returns-then-not-tells_another c = (
   Extends-same c.args.found.now.facts,
   pair-vacuous c.args.program.now c.args.sets.now c.args.found.now.facts (fact_of c.args.program.now c.args.one.fact) (fact_of c.args.program.now c.args.told.fact)
       (sym (same-test c.args.program.now c.args.sets.now c.args.found.now c.args.one.fact c.args.told.fact (home_of c.named.result) (home_of c.named-2.result) c.tells_another.result
-    c.requires.run c.requires.one c.requires.told c.named.ensures c.named-2.ensures c.tells_another.ensures) ∙ c.if-not-tells_another.true),
+      c.requires.run c.requires.one c.requires.told c.named.ensures c.named-2.ensures c.tells_another.ensures) ∙ c.if-not-tells_another.true),
 )
 
 pub as_premise-requires : goal.as_premise-requires

@@ -1,7 +1,7 @@
 use Rattle.std.proofs.Common.{Some, None}
 use Rattle.thr_base.specs.declared.names.Instance.TheVariants.{Guar}
 use Rattle.serial_fix.specs.Run.{InstanceIsSettled, GuarIsSettled, fact_of}
-use Rattle.serial_fix.proofs.Instances.{env-home, found-home, guar-instance, guar-settled, if-step, IsPremiseOf}
+use Rattle.serial_fix.proofs.Instances.{env-home, found-home, guar-instance, guar-settled, if-step}
 use Rattle.serial_fix.proofs.run.guarantee.Goals as goal
 
 pub number-home-requires : goal.number-home-requires

@@ -1,10 +1,10 @@
-use Rattle.std.proofs.Common.{◌≡◌, Some, None, sym, ap, subst}
+use Rattle.std.proofs.Common.{Some, None, sym, ap, subst}
 use Rattle.thr_base.specs.declared.names.Instance.TheVariants.{Own}
 use Rattle.transition_formula.specs.Program.{Thread, Edge, IsEdgeOf}
 use Rattle.transition_formula.specs.Program as specs
 use Rattle.horn_rules.specs.Home.{IsHomeOf, State}
 use Rattle.serial_fix.specs.Run.{InstanceIsSettled, OwnIsSettled, fact_of}
-use Rattle.serial_fix.proofs.Instances.{target-home, found-home, own-instance, own-settled, if-step, IsPremiseOf}
+use Rattle.serial_fix.proofs.Instances.{target-home, found-home, own-instance, own-settled, if-step}
 use Rattle.serial_fix.proofs.run.own_step.Goals as goal
 
 pub number-home-requires : goal.number-home-requires

@@ -1,6 +1,4 @@
-use Rattle.std.proofs.Common.{ap, ◌∙◌}
 use Rattle.horn_rules.specs.Home.{State, Env}
-use Rattle.horn_rules.specs.Stored.{home_of}
 use Rattle.serial_fix.specs.Run.{fact_of}
 use Rattle.serial_fix.proofs.Steps.{Extends-same}
 use Rattle.serial_fix.proofs.Rounds.{own-vacuous, thread-there, home-is}

@@ -1,4 +1,4 @@
-use Rattle.std.proofs.Common.{◌≡◌, ◌^◌, ◌<◌, [], rules, sym, ap, subst, ◌∙◌, arith}
+use Rattle.std.proofs.Common.{◌≡◌, ◌^◌, ◌<◌, [], rules, sym, subst, ◌∙◌, arith}
 use Rattle.std.specs.Option.{ForSome}
 use Rattle.predicate_sets.specs.Sets.{set_at}
 use Rattle.horn_rules.specs.Home.{homes}
@@ -11,7 +11,7 @@ use Rattle.serial_fix.proofs.step.add.Goals as goal
 pub returns-then-stands_at : goal.returns-then-stands_at
 returns-then-stands_at c =
     let none : set_at c.args.sets.now c.args.home.0 ≡ [] =
-        sym c.in_ok-target.ensures ∙ sym c.deref.ensures ∙ sym c.atoms.ensures.atoms ∙ length-zero c.atoms.result.now c.is_empty.result c.if-is_empty.true c.is_empty.ensures in (
+    sym c.in_ok-target.ensures ∙ sym c.deref.ensures ∙ sym c.atoms.ensures.atoms ∙ length-zero c.atoms.result.now c.is_empty.result c.if-is_empty.true c.is_empty.ensures in (
       c.requires.run,
       Extends-same c.args.found.now.facts,
       λ premises given of at. skipped c.args.program.now c.args.sets.now c.args.found.now c.args.home given c.requires.run at none (c.stands_at.ensures.0 c.if-stands_at.true),

@@ -1,4 +1,4 @@
-use Rattle.std.proofs.Common.{◌≡◌, ◌+◌, ◌-◌, ◌∷◌, [], ◌++◌, ◌<◌, ◌≤◌, ◌^◌, length, ap, sym, ◌∙◌, arith}
+use Rattle.std.proofs.Common.{◌≡◌, ◌+◌, ◌-◌, ◌∷◌, [], ◌++◌, ◌<◌, ◌≤◌, ◌^◌, length, ap, ◌∙◌, arith}
 use Rattle.serial_fix.specs.Found.{FoundFacts, held_at}
 use Rattle.serial_fix.proofs.Index.{index-push, index-same, popped, words-at, kept-on-err, made-on-ok}
 use Rattle.serial_fix.proofs.found.Found.push.Goals as goal
@@ -16,7 +16,7 @@ invariant_of-self-else-is_err c =
     let facts = c.self.inside.facts.items in
     let within : c.args.fact.home.0 ≤ length c.self.inside.at_home.items = omega (arith, ap (λ (f : FoundFacts). f.homes) c.self.view_is) in
     let held : c.index_mut.result.now.items ≡ held_at c.args.fact.home.0 facts =
-        words-at (λ words. words.items) c.self.inside.at_home.items facts c.args.fact.home.0 c.index_mut.result.now c.self.invariant c.requires.from_1 within c.index_mut.ensures.value in
+    words-at (λ words. words.items) c.self.inside.at_home.items facts c.args.fact.home.0 c.index_mut.result.now c.self.invariant c.requires.from_1 within c.index_mut.ensures.value in
     let room : length facts + 1 < 2 ^ 32 = omega (arith, c.if-len.false, c.len.ensures, c.self.inside.facts.ok) in
     index-push (λ words. words.items) c.self.inside.at_home.items facts c.push.new.self.items c.args.fact c.push-2.new.self (c.args.fact.home.0 - 1)
     c.self.invariant c.in_ok-push.ensures.items (omega arith) room
