@@ -5,7 +5,7 @@ use Rattle.std.proofs.Math.ListN.{get_or-append}
 use Rattle.std.proofs.lemmas.Bool.Decides.{leb_tells}
 use Rattle.std.proofs.lemmas.List.{length-map, get_or-map, get_or-append_right, append_cancel_right}
 use Rattle.lin_rows.proofs.Lists.{AllByRecursion-append, AllByRecursion-map, AllByRecursion-at}
-use Rattle.transition_formula.specs.Program.{Column, IsColumnText, IsProgram, is_text_byte, Program}
+use Rattle.transition_formula.specs.Program.{Column, IsColumnText, IsTextOf, IsProgram, is_text_byte, Program}
 use Rattle.transition_formula.specs.AtomText.{column_texts}
 use Rattle.transition_formula.specs.AtomReading.{IsPlain, IsWord}
 
@@ -56,7 +56,7 @@ column_texts-are columns = ap (λ rest. texts_of columns ++ rest) (afters-are co
 pub column_texts-words : (program : Program) → IsProgram program → AllByRecursion IsWord (column_texts program.columns)
 column_texts-words program is =
     let texts = texts_of program.columns in
-    let words : AllByRecursion IsWord texts = AllByRecursion-map (λ (column : Column). IsColumnText column.text) IsWord (λ (column : Column). column.text) (λ column word. IsWord-column column.text word) program.columns is.texts_are in
+    let words : AllByRecursion IsWord texts = AllByRecursion-map (λ (column : Column). IsTextOf column.owner column.text) IsWord (λ (column : Column). column.text) (λ column is_its. IsWord-column column.text is_its.is_text) program.columns is.texts_are in
     rw (column_texts-are program.columns) (AllByRecursion-append IsWord texts (afters_of texts) words
     (AllByRecursion-map IsWord IsWord (λ (text : List ℕ). text ++ (39 ∷ [])) IsWord-after texts words))
 
@@ -96,6 +96,6 @@ pub column_texts-apart : (program : Program) → IsProgram program → (i j : �
     → get_or (column_texts program.columns) j [] ≢ get_or (column_texts program.columns) i []
 column_texts-apart program is i j below within =
     let texts = texts_of program.columns in
-    let plain : AllByRecursion (λ text. AllByRecursion (λ b. b ≢ 39) text) texts = AllByRecursion-map (λ (column : Column). IsColumnText column.text) (λ text. AllByRecursion (λ b. b ≢ 39) text) (λ (column : Column). column.text) (λ column word. no_quotes column.text word) program.columns is.texts_are in
+    let plain : AllByRecursion (λ text. AllByRecursion (λ b. b ≢ 39) text) texts = AllByRecursion-map (λ (column : Column). IsTextOf column.owner column.text) (λ text. AllByRecursion (λ b. b ≢ 39) text) (λ (column : Column). column.text) (λ column is_its. no_quotes column.text is_its.is_text) program.columns is.texts_are in
     let length_is : length texts ≡ length program.columns = length-map program.columns (λ (column : Column). column.text) in
     rw (column_texts-are program.columns) (texts-apart texts is.texts_differ plain i j below (omega arith))

@@ -6,6 +6,7 @@ pub mod ProductLemmas
 pub mod InitialRows
 pub mod NextValues
 pub mod StepRows
+pub mod OwnTexts
 pub mod WorkedProgram
 pub mod AtomTexts
 pub mod Words

@@ -7,6 +7,7 @@ use Rattle.std.proofs.lemmas.Map.Made.{AllPairs-from_IsDistinct}
 use Rattle.thr_base.specs.Number.{Fits}
 use Rattle.transition_formula.specs.Program.{Column, Thread, IsThreadOf, IsCounter, IsThread, IsEdge, IsProgram}
 use Rattle.transition_formula.specs.Worked.{first_counter_column, second_counter_column, first_edge, second_edge, worked_thread, worked_program}
+use Rattle.transition_formula.proofs.OwnTexts.{first-own, second-own}
 
 first_counts : (column : Column) → Some first_counter_column ≡ Some column → IsCounter 1 column
 first_counts column at = let same : first_counter_column ≡ column = cc in subst (λ found. IsCounter 1 found) same (record { owned = refl; starts = refl })
@@ -104,7 +105,16 @@ worked-is = record {
   few_columns = omega arith;
   few_threads = omega arith;
   has_counters = omega arith;
-  texts_are = (record { some = omega arith; bytes = refl; no_number = refl }, (record { some = omega arith; bytes = refl; no_number = refl }, (record { some = omega arith; bytes = refl; no_number = refl }, (record { some = omega arith; bytes = refl; no_number = refl }, tt))));
+  texts_are = (
+    record { is_text = record { some = omega arith; bytes = refl; no_number = refl }; tells_owner = refl },
+    (
+      record { is_text = record { some = omega arith; bytes = refl; no_number = refl }; tells_owner = first-own (108 ∷ []) (omega arith) },
+      (
+        record { is_text = record { some = omega arith; bytes = refl; no_number = refl }; tells_owner = first-own (36 ∷ 112 ∷ 99 ∷ []) (omega arith) },
+        (record { is_text = record { some = omega arith; bytes = refl; no_number = refl }; tells_owner = second-own (36 ∷ 112 ∷ 99 ∷ []) (omega arith) }, tt),
+      ),
+    ),
+  );
   texts_differ = AllPairs-from_IsDistinct bytes_eq-Decides _ texts-differ;
   starts_fit = (small 0 (omega arith), (tt, (small 1 (omega arith), (small 1 (omega arith), tt))));
   owners_exist = (tt, ((omega arith, omega arith), ((omega arith, omega arith), ((omega arith, omega arith), tt))));

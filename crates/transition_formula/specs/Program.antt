@@ -1,9 +1,9 @@
 -- Programs: the columns of a state, and each thread as a graph of locations and edges. Threads and edges are numbered from 1,
 -- columns and locations from 0, where location 0 is the failing one.
-use Rattle.std.specs.Prelude.{Bool, true, false, ◌==◌, ◌||◌, codes, slice_index, ◌≡◌, ◌≢◌, ◌↔◌, ◌+◌, ◌-◌, ◌^◌, ◌<◌, ◌≤◌, ℕ, zero, suc, ℤ, pos, List, length, map, take, nat_eq, Option, Some, None, IsSome, IsNone, slice_get, AllPairs}
+use Rattle.std.specs.Prelude.{Bool, true, false, ◌==◌, ◌||◌, codes, slice_index, ◌++◌, ◌≡◌, ◌≢◌, ◌↔◌, ◌+◌, ◌-◌, ◌^◌, ◌<◌, ◌≤◌, ℕ, zero, suc, ℤ, pos, List, length, map, take, nat_eq, Option, Some, None, IsSome, IsNone, slice_get, AllPairs}
 use Rattle.std.specs.List.{AllByRecursion, IsDistinct, list_all, list_any}
 use Rattle.std.specs.Char.{is_ascii_alphanumeric, is_ascii_digit}
-use Rattle.thr_base.specs.Number.{Fits}
+use Rattle.thr_base.specs.Number.{Fits, number_text}
 use Rattle.lin_rows.specs.Row.{Row}
 use Rattle.lin_rows.specs.System.{IsRowOver}
 
@@ -68,6 +68,21 @@ pub record IsColumnText (text : List ℕ) : Type 0 where
   pub bytes : list_all is_text_byte text ≡ true
   pub no_number : is_ascii_digit (slice_index text 0) ≡ false
 
+-- a letter, a digit, or _
+abbrev pub is_name_byte : ℕ → Bool
+is_name_byte b = is_ascii_alphanumeric b || list_any (λ c. b == c) (codes "_")
+
+-- A shared column has a C name, so there is no `.` in it. A thread's own begins with `t`, the thread's number and `.`, and something
+-- stands behind.
+abbrev pub TellsOwner : Option ℕ → List ℕ → Type 0
+TellsOwner None text = list_all is_name_byte text ≡ true
+TellsOwner (Some i) text = (name : List ℕ) × (0 < length name) × (text ≡ codes "t" ++ (number_text (pos i) ++ (codes "." ++ name)))
+
+-- The text of a column with this owner.
+pub record IsTextOf (owner : Option ℕ) (text : List ℕ) : Type 0 where
+  pub is_text : IsColumnText text
+  pub tells_owner : TellsOwner owner text
+
 -- A value that a column has initially fits.
 abbrev pub StartFits : Option ℤ → Type 0
 StartFits None = Unit {0}
@@ -116,10 +131,10 @@ pub record IsThread (program : Program) (i : ℕ) (thread : Thread) : Type 0 whe
 
 -- What is asked of a program.
 pub record IsProgram (program : Program) : Type 0 where
-  pub few_columns : length program.columns ≤ 64
+  pub few_columns : length program.columns ≤ 2 ^ 12
   pub few_threads : length program.threads ≤ 8
   pub has_counters : length program.threads ≤ length program.columns
-  pub texts_are : AllByRecursion (λ column. IsColumnText column.text) program.columns
+  pub texts_are : AllByRecursion (λ column. IsTextOf column.owner column.text) program.columns
   pub texts_differ : AllPairs (λ a b. a ≢ b) (map (λ column. column.text) program.columns)
   pub starts_fit : AllByRecursion (λ column. StartFits column.start) program.columns
   pub owners_exist : AllByRecursion (λ column. IsOwner (length program.threads) column.owner) program.columns
