@@ -2,6 +2,8 @@
 #![tactic(auto)]
 
 mod cursor;
+mod expression;
 mod program;
+mod statement;
 mod tree;
 mod word;
