@@ -1,7 +1,10 @@
 pub mod BodyLemmas
 pub mod ExpressionShrinks
+pub mod ExpressionSound
 pub mod ManyLemmas
 pub mod ReadingShrinks
+pub mod ReadingSound
 pub mod ReadingSteps
 pub mod SeenLemmas
+pub mod StatementSound
 pub mod WordLemmas
