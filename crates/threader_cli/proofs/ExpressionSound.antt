@@ -1,5 +1,5 @@
 -- What is read of an expression is spelled so, and is proper.
-use Rattle.std.proofs.Common.{◌≡◌, ℕ, zero, suc, Bool, true, false, cond, ◌&&◌, List, [], ◌∷◌, ◌++◌, drop, codes, flat_map, Option, Some, None, bytes_eq, append_assoc, refl, sym, ap, ap₂, ◌∙◌, subst, arith}
+use Rattle.std.proofs.Common.{◌≡◌, ℕ, zero, suc, Bool, true, false, cond, ◌&&◌, List, [], ◌∷◌, ◌++◌, drop, codes, flat_map, Some, bytes_eq, append_assoc, refl, sym, ap, ap₂, ◌∙◌, subst, arith}
 use Rattle.std.specs.List.{list_all}
 use Rattle.std.proofs.lemmas.Option.{cond_some, option_and_then_some, same_Some}
 use Rattle.std.proofs.lemmas.Slice.Eq.{bytes_eq-Decides}
@@ -84,11 +84,10 @@ many_pass test read good sound (suc n) ts xs rest e =
 
 pub many_sound : {A : Type 0} (test : Tokens → Bool) (read : Reading A) (spell : A → Tokens) (good : A → Bool) → Sound read spell good
     → (n : ℕ) → Sound (many test read n) (flat_map spell) (list_all good)
-many_sound test read spell good sound n ts xs rest e =
-    (
-      many_spelled test read spell (λ us x more e. (sound us x more e).0) n ts xs rest e,
-      many_pass test read good (λ us x more e. (sound us x more e).1) n ts xs rest e,
-    )
+many_sound test read spell good sound n ts xs rest e = (
+  many_spelled test read spell (λ us x more e. (sound us x more e).0) n ts xs rest e,
+  many_pass test read good (λ us x more e. (sound us x more e).1) n ts xs rest e,
+)
 
 -- ---- terms
 

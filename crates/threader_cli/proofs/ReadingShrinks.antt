@@ -5,7 +5,7 @@ use Rattle.threader_cli.proofs.ExpressionShrinks.{after_shorter, name_shrinks, n
 use Rattle.threader_cli.proofs.ManyLemmas.{Shrinks}
 use Rattle.threader_cli.proofs.ReadingSteps.{none_given, option_map_some, chosen}
 use Rattle.threader_cli.specs.Reading.{Tokens, Reading, begins, after, name_at, number_at, each, is_next, first_at, next_at, comparison_at, condition_at, claim_at, assertion_at, assignment_at, body_at, guarded_at, else_at, statement_by, statement_at, level_limit, start_at, variable_at, declared_at, declarations_at, function_at, creation_at}
-use Rattle.threader_cli.specs.Tree.{Comparison, Condition, Statement, Variable, Function, Creation}
+use Rattle.threader_cli.specs.Tree.{Condition, Statement, Variable, Function, Creation}
 use Rattle.threader_cli.specs.Word.{pieces}
 
 -- ---- statements

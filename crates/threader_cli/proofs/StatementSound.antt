@@ -7,7 +7,7 @@ use Rattle.threader_cli.proofs.ReadingSteps.{none_given, option_map_some, chosen
 use Rattle.threader_cli.specs.Proper.{takes_else, is_proper_signed, is_proper_condition, is_proper, are_proper, depth, deepest}
 use Rattle.threader_cli.specs.Reading.{Tokens, Reading, ◌>>=◌, begins, after, name_at, each, is_next, first_at, next_at, condition_at, claim_at, assertion_at, assignment_at, body_at, guarded_at, else_at, statement_by, statement_at}
 use Rattle.threader_cli.specs.Spelling.{spell_first, spell_next, spell_condition, spell_statement, spell_statements}
-use Rattle.threader_cli.specs.Tree.{Condition, Statement, Block, Empty, AssertFalse, Assert, Assume, While, Statements, listed}
+use Rattle.threader_cli.specs.Tree.{Condition, Statement, Block, Empty, Assume, While, Statements, listed}
 use Rattle.threader_cli.specs.Word.{pieces}
 
 -- ---- lists of statements
@@ -214,6 +214,7 @@ else_sound n read sound before ts c part first s rest e =
   where
     first_part : before ≡ spell_condition c ++ spell_statement part ++ ts
     first_part = first.guard ∙ ap (λ us. spell_condition c ++ us) first.part.spelled ∙ sym (append_assoc (spell_condition c) (spell_statement part) ts)
+
     closed : (takes : Bool) → (takes ≡ true → begins (codes "else") ts ≡ false) → begins (codes "else") ts ≡ true → not takes ≡ true
     closed true free next = never (sym (free refl) ∙ next)
     closed false free next = refl

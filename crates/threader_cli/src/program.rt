@@ -46,11 +46,7 @@ fn declared(alloc: Global, word: &str, cursor: &mut Cursor<'_>) -> Result<Vec<u8
 }
 
 /// The names that are declared behind this word, as many as there are.
-fn declarations(
-    alloc: Global,
-    word: &str,
-    cursor: &mut Cursor<'_>,
-) -> Result<Vec<Vec<u8>>, Stop>
+fn declarations(alloc: Global, word: &str, cursor: &mut Cursor<'_>) -> Result<Vec<Vec<u8>>, Stop>
     ensures { Gives (λ found. (map (λ name. name.items) found.items, cursor.new)) result (specs.declarations_at word.now cursor.old) }
 {
     let mut names = Vec::new(alloc);
