@@ -6,9 +6,12 @@ pub mod Form
 pub mod Graph
 pub mod Limits
 pub mod Proper
+pub mod Reading
+pub mod Refusals
 pub mod Scope
-pub mod Sums
 pub mod Seen
+pub mod Spelling
+pub mod Sums
 pub mod Tree
 pub mod Uses
 pub mod Word

@@ -2,13 +2,17 @@
 #![tactic(auto)]
 
 mod accept;
+mod cursor;
 mod data;
 mod edges;
+mod expression;
 mod form;
 mod graph;
 mod limit;
 mod names;
+mod program;
 mod scope;
+mod statement;
 mod tree;
 mod uses;
 mod word;
