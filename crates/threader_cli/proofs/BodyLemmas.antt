@@ -32,7 +32,7 @@ module _ (read : Reading Statement) (ts : Tokens) where
 
 -- what begins with no keyword is read as an assignment
 pub statement_at-assignment : (levels : ℕ) (ts rest : Tokens) (s : Statement) → begins (codes "{") ts ≡ false → begins (codes ";") ts ≡ false → begins (codes "assert") ts ≡ false
-    → begins (codes "if") ts ≡ false → begins (codes "while") ts ≡ false → assignment_at ts ≡ Some (s, rest) → statement_at (suc levels) ts ≡ Some (s, rest)
+    → begins (codes "__VERIFIER_assume") ts ≡ false → begins (codes "if") ts ≡ false → begins (codes "while") ts ≡ false → assignment_at ts ≡ Some (s, rest) → statement_at (suc levels) ts ≡ Some (s, rest)
 unfolding statement_at statement_by assignment_at
-statement_at-assignment levels [] rest s block empty assertion choice loop found = cc
-statement_at-assignment levels (t ∷ ts) rest s block empty assertion choice loop found = rw (block, empty, assertion, choice, loop) found
+statement_at-assignment levels [] rest s block empty assertion assumption choice loop found = cc
+statement_at-assignment levels (t ∷ ts) rest s block empty assertion assumption choice loop found = rw (block, empty, assertion, assumption, choice, loop) found

@@ -1,15 +1,14 @@
 -- What is spelled so, and is proper, is read.
-use Rattle.std.proofs.Common.{◌≡◌, ℕ, suc, Bool, true, false, not, ◌&&◌, List, [], ◌∷◌, ◌++◌, map, length, codes, flat_map, Option, Some, None, IsTrue, refl, ap, ap₂, ◌∙◌, arith, leb-true}
+use Rattle.std.proofs.Common.{◌≡◌, ℕ, suc, Bool, true, false, not, ◌&&◌, List, [], ◌∷◌, ◌++◌, length, codes, flat_map, bytes_eq, Option, Some, None, IsTrue, append_assoc, refl, ap, ap₂, ◌∙◌, arith, leb-true}
 use Rattle.std.specs.List.{list_all}
-use Rattle.c_lex.specs.Tokens.{Lexeme}
+use Rattle.threader_cli.proofs.ExpressionComplete.{Again, many_again, no_main}
+use Rattle.threader_cli.proofs.ReadingShrinks.{statement_shrinks, variable_shrinks, declared_shrinks, function_shrinks, creation_shrinks}
+use Rattle.threader_cli.proofs.ReadingSound.{is_shallow_function, from_creations, from_main, from_functions, spell_program-parts}
 use Rattle.threader_cli.proofs.ReadingSteps.{left_true, right_true}
-use Rattle.threader_cli.proofs.ReadingShrinks.{statement_shrinks, variable_shrinks, function_shrinks, handle_shrinks, creation_shrinks}
-use Rattle.threader_cli.proofs.ReadingSound.{is_proper_variable, is_proper_function, is_proper_creation, is_shallow_function, from_creations, from_main, from_functions, spell_program-parts}
-pub use Rattle.threader_cli.proofs.StatementComplete.{ReadsAgain, statement_complete, body_complete}
-use Rattle.threader_cli.proofs.StatementComplete.{Again, many_again, no_main}
-use Rattle.threader_cli.specs.Accepted.{IsAccepted, are_proper, is_proper_start, is_proper_program, is_shallow, deepest}
-use Rattle.threader_cli.specs.Reading.{Tokens, Reading, begins, each, statement_at, level_limit, variable_at, function_at, handle_at, creation_at, is_variable, program_at}
-use Rattle.threader_cli.specs.Spelling.{spell_variable, spell_function, spell_handle, spell_creation, spell_program}
+use Rattle.threader_cli.proofs.StatementComplete.{statement_complete, body_complete, begins_no_int}
+use Rattle.threader_cli.specs.Proper.{are_proper, is_proper_start, is_proper_variable, is_proper_function, is_proper_creation, is_proper_program, is_shallow, deepest}
+use Rattle.threader_cli.specs.Reading.{Tokens, Reading, begins, each, statement_at, level_limit, variable_at, declared_at, declarations_at, function_at, creation_at, is_variable, program_at}
+use Rattle.threader_cli.specs.Spelling.{spell_statements, spell_variable, spell_declared, spell_local, spell_function, spell_creation, spell_program}
 use Rattle.threader_cli.specs.Tree.{Variable, Function, Creation, Program}
 use Rattle.threader_cli.specs.Word.{pieces, is_name}
 
@@ -28,6 +27,28 @@ variable_complete : (v : Variable) (rest : Tokens) → is_proper_variable v ≡ 
 variable_complete v rest h =
     variable_with v.name v.start rest (left_true (is_name v.name) (is_proper_start v.start) h) (right_true (is_name v.name) (is_proper_start v.start) h)
 
+declared_complete : (word x : List ℕ) (rest : Tokens) → bytes_eq word word ≡ true → is_name x ≡ true → declared_at word (spell_declared word x ++ rest) ≡ Some (x, rest)
+unfolding declared_at
+declared_complete word x rest same h = rw (same, h) refl
+
+-- as many as there are, where there is one turn more than tokens
+each_again : {A : Type 0} (test : Tokens → Bool) (read : Reading A) (spell : A → Tokens) (good : A → Bool) → Again test read spell good always
+    → (xs : List A) (rest : Tokens) → list_all good xs ≡ true → test rest ≡ false → each test read (flat_map spell xs ++ rest) ≡ Some (xs, rest)
+each_again test read spell good turn xs rest all_good ends =
+    many_again test read spell good always turn xs rest (suc (length (flat_map spell xs ++ rest))) all_good refl ends (omega arith)
+
+declared_turn : (word : List ℕ) → bytes_eq word word ≡ true → Again (begins word) (declared_at word) (spell_declared word) is_name always
+declared_turn word same = record {
+  shrinks = declared_shrinks word;
+  reads = λ x rest good _. declared_complete word x rest same good;
+  passes = λ x rest good. same;
+  stops_before = λ x rest good. refl;
+}
+
+declarations_complete : (word : List ℕ) → bytes_eq word word ≡ true → (names : List (List ℕ)) (rest : Tokens) → list_all is_name names ≡ true → begins word rest ≡ false
+    → declarations_at word (flat_map (spell_declared word) names ++ rest) ≡ Some (names, rest)
+declarations_complete word same = each_again (begins word) (declared_at word) (spell_declared word) is_name (declared_turn word same)
+
 abbrev is_good_function : Function → Bool
 is_good_function f = is_proper_function f && is_shallow_function f
 
@@ -35,15 +56,20 @@ function_complete : (f : Function) (rest : Tokens) → is_good_function f ≡ tr
 unfolding function_at
 function_complete f rest h =
     let proper = left_true (is_proper_function f) (is_shallow_function f) h in
-    let names = left_true (is_name f.name && is_name f.parameter) (are_proper f.body) proper in
-    let body = body_complete level_limit (statement_at level_limit) (statement_shrinks level_limit) (statement_complete level_limit) f.body rest
-    (right_true (is_name f.name && is_name f.parameter) (are_proper f.body) proper)
+    let heads = is_name f.name && is_name f.parameter in
+    let front : (heads && list_all is_name f.locals) ≡ true = left_true (heads && list_all is_name f.locals) (are_proper f.body) proper in
+    let names = left_true heads (list_all is_name f.locals) front in
+    let is_body = right_true (heads && list_all is_name f.locals) (are_proper f.body) proper in
+    let behind : Tokens = spell_statements f.body ++ pieces (codes "}") ++ rest in
+    let locals = declarations_complete (codes "int") refl f.locals behind (right_true heads (list_all is_name f.locals) front) (begins_no_int f.body rest is_body) in
+    let body = body_complete level_limit (statement_at level_limit) (statement_shrinks level_limit) (statement_complete level_limit) f.body rest is_body
     (leb-true (deepest f.body) 64 (right_true (is_proper_function f) (is_shallow_function f) h)) in
-    rw (left_true (is_name f.name) (is_name f.parameter) names, right_true (is_name f.name) (is_name f.parameter) names, body) refl
-
-handle_complete : (x : List ℕ) (rest : Tokens) → is_name x ≡ true → handle_at (spell_handle x ++ rest) ≡ Some (x, rest)
-unfolding handle_at
-handle_complete x rest h = rw h refl
+    ap (λ us. function_at (pieces (codes "void *") ++ f.name ∷ pieces (codes "( void *") ++ f.parameter ∷ pieces (codes ") {") ++ us))
+    (inside_function (flat_map spell_local f.locals) (spell_statements f.body) (pieces (codes "}")) rest)
+    ∙ rw (left_true (is_name f.name) (is_name f.parameter) names, right_true (is_name f.name) (is_name f.parameter) names, locals, body) refl
+  where
+    inside_function : (a b c d : Tokens) → a ++ b ++ c ++ d ≡ a ++ (b ++ c ++ d)
+    inside_function a b c d = simp append_assoc refl
 
 creation_complete : (c : Creation) (rest : Tokens) → is_proper_creation c ≡ true → creation_at (spell_creation c ++ rest) ≡ Some (c, rest)
 unfolding creation_at
@@ -65,14 +91,6 @@ function_turn = record {
   reads = λ f rest good _. function_complete f rest good;
   passes = λ f rest good. refl;
   stops_before = λ f rest good. refl;
-}
-
-handle_turn : Again (begins (codes "pthread_t")) handle_at spell_handle is_name always
-handle_turn = record {
-  shrinks = handle_shrinks;
-  reads = λ x rest good _. handle_complete x rest good;
-  passes = λ x rest good. refl;
-  stops_before = λ x rest good. refl;
 }
 
 creation_turn : Again (begins (codes "pthread_create")) creation_at spell_creation is_proper_creation always
@@ -97,12 +115,6 @@ no_more_handles : (cs : List Creation) → begins (codes "pthread_t") (from_crea
 no_more_handles [] = refl
 no_more_handles (c ∷ cs) = refl
 
--- as many as there are, where there is one turn more than tokens
-each_again : {A : Type 0} (test : Tokens → Bool) (read : Reading A) (spell : A → Tokens) (good : A → Bool) → Again test read spell good always
-    → (xs : List A) (rest : Tokens) → list_all good xs ≡ true → test rest ≡ false → each test read (flat_map spell xs ++ rest) ≡ Some (xs, rest)
-each_again test read spell good turn xs rest all_good ends =
-    many_again test read spell good always turn xs rest (suc (length (flat_map spell xs ++ rest))) all_good refl ends (omega arith)
-
 pub program_complete : (p : Program) → IsTrue (is_proper_program p) → IsTrue (is_shallow p) → program_at (spell_program p) ≡ Some p
 unfolding program_at
 program_complete p proper shallow =
@@ -121,11 +133,7 @@ program_complete p proper shallow =
     let functions =
     each_again (begins (codes "void")) function_at spell_function is_good_function function_turn fs (from_main hs cs) (good_functions fs (right_true a b ab) shallow) refl in
     let handles =
-    each_again (begins (codes "pthread_t")) handle_at spell_handle is_name handle_turn hs (from_creations cs) (right_true (a && b) c abc) (no_more_handles cs) in
+    declarations_complete (codes "pthread_t") refl hs (from_creations cs) (right_true (a && b) c abc) (no_more_handles cs) in
     let creations =
     each_again (begins (codes "pthread_create")) creation_at spell_creation is_proper_creation creation_turn cs (pieces (codes "return 0 ; }")) (right_true (a && b && c) d proper) refl in
     ap program_at (spell_program-parts p) ∙ rw (variables, functions, handles, creations) refl
-
--- what is accepted is read from the tokens
-pub IsAccepted-read : (tokens : List Lexeme) (p : Program) → IsAccepted tokens p → program_at (map (λ token. token.bytes) tokens) ≡ Some p
-IsAccepted-read tokens p accepted = ap program_at accepted.spelled ∙ program_complete p accepted.proper accepted.shallow

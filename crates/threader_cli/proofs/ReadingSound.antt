@@ -1,12 +1,13 @@
 -- What is read is spelled so, and is proper.
-use Rattle.std.proofs.Common.{◌≡◌, ℕ, ◌≤◌, Bool, true, ◌&&◌, List, [], ◌∷◌, ◌++◌, drop, codes, flat_map, Option, Some, nat_le, IsTrue, append_assoc, refl, sym, ap, ap₂, ◌∙◌, subst, le-leb}
+use Rattle.std.proofs.Common.{◌≡◌, ℕ, suc, ◌≤◌, Bool, true, ◌&&◌, List, [], ◌∷◌, ◌++◌, length, drop, codes, flat_map, Option, Some, nat_le, IsTrue, append_assoc, refl, sym, ap, ap₂, ◌∙◌, subst, le-leb}
+use Rattle.std.specs.List.{list_all}
 use Rattle.std.proofs.lemmas.Option.{option_and_then_some, same_Some}
+use Rattle.threader_cli.proofs.ExpressionSound.{Sound, after_sound, begins_sound, name_sound, number_sound, many_spelled, many_pass, many_sound}
 use Rattle.threader_cli.proofs.ReadingSteps.{none_given, option_map_some, chosen}
-pub use Rattle.threader_cli.proofs.StatementSound.{after_sound, begins_sound, name_sound, number_sound, sign_sound, IsRead, IsBodyRead, Reads, statement_sound, body_sound}
-use Rattle.threader_cli.proofs.StatementSound.{many_spelled, many_pass}
-use Rattle.threader_cli.specs.Accepted.{are_proper, is_proper_start, is_proper_program, is_shallow, deepest}
-use Rattle.threader_cli.specs.Reading.{Tokens, begins, after, name_at, number_at, each, body_at, statement_at, level_limit, start_at, variable_at, function_at, handle_at, creation_at, is_variable, if_last, program_at}
-use Rattle.threader_cli.specs.Spelling.{spell_start, spell_variable, spell_function, spell_handle, spell_creation, spell_program}
+use Rattle.threader_cli.proofs.StatementSound.{statement_sound, body_sound}
+use Rattle.threader_cli.specs.Proper.{is_proper_start, is_proper_variable, is_proper_function, is_proper_creation, is_proper_program, is_shallow, deepest}
+use Rattle.threader_cli.specs.Reading.{Tokens, begins, after, name_at, number_at, each, body_at, statement_at, level_limit, start_at, variable_at, declared_at, declarations_at, function_at, creation_at, is_variable, if_last, program_at}
+use Rattle.threader_cli.specs.Spelling.{spell_start, spell_statements, spell_variable, spell_declared, spell_local, spell_function, spell_handle, spell_creation, spell_program}
 use Rattle.threader_cli.specs.Tree.{Variable, Function, Creation, Program}
 use Rattle.threader_cli.specs.Word.{pieces, is_name}
 
@@ -24,17 +25,8 @@ start_sound ts x rest e =
     P : Option (List ℕ) × Tokens → Type 0
     P y = (ts ≡ spell_start y.0 ++ y.1) × (is_proper_start y.0 ≡ true)
 
-abbrev pub is_proper_variable : Variable → Bool
-is_proper_variable v = is_name v.name && is_proper_start v.start
-
-abbrev pub is_proper_function : Function → Bool
-is_proper_function f = is_name f.name && is_name f.parameter && are_proper f.body
-
 abbrev pub is_shallow_function : Function → Bool
 is_shallow_function f = nat_le (deepest f.body) 64
-
-abbrev pub is_proper_creation : Creation → Bool
-is_proper_creation c = is_name c.handle && is_name c.function
 
 variable_sound : (ts : Tokens) (v : Variable) (rest : Tokens) → variable_at ts ≡ Some (v, rest)
     → (ts ≡ spell_variable v ++ rest) × (is_proper_variable v ≡ true)
@@ -54,6 +46,22 @@ variable_sound ts v rest e =
       ap₂ ◌&&◌ is_name.1 is_start.1,
     )))))
 
+declared_sound : (word : List ℕ) → Sound (declared_at word) (spell_declared word) is_name
+unfolding declared_at
+declared_sound word ts x rest e =
+    option_and_then_some _ (after (word ∷ []) ts) _ e (λ named named_is e.
+    option_and_then_some _ (name_at named) _ e (λ name name_is e.
+    option_and_then_some _ (after (pieces (codes ";")) name.1) _ e (λ behind behind_is e.
+    let is = name_sound named name.0 name.1 name_is in
+    subst (λ y. (ts ≡ spell_declared word y.0 ++ y.1) × (is_name y.0 ≡ true)) (same_Some _ _ e) (
+      after_sound (word ∷ []) ts named named_is
+          ∙ ap (λ us. word ∷ us) (is.0 ∙ ap (λ us. name.0 ∷ us) (after_sound (pieces (codes ";")) name.1 behind behind_is)),
+      is.1,
+    ))))
+
+declarations_sound : (word : List ℕ) → Sound (declarations_at word) (flat_map (spell_declared word)) (list_all is_name)
+declarations_sound word ts = many_sound (begins word) (declared_at word) (spell_declared word) is_name (declared_sound word) (suc (length ts)) ts
+
 function_sound : (ts : Tokens) (f : Function) (rest : Tokens) → function_at ts ≡ Some (f, rest)
     → (ts ≡ spell_function f ++ rest) × (is_proper_function f ≡ true) × (deepest f.body ≤ level_limit)
 unfolding function_at
@@ -63,33 +71,27 @@ function_sound ts f rest e =
     option_and_then_some _ (after (pieces (codes "( void *")) name.1) _ e (λ parameters parameters_is e.
     option_and_then_some _ (name_at parameters) _ e (λ parameter parameter_is e.
     option_and_then_some _ (after (pieces (codes ") {")) parameter.1) _ e (λ inside inside_is e.
-    option_and_then_some _ (body_at (statement_at level_limit) inside) _ e (λ found found_is e.
+    option_and_then_some _ (declarations_at (codes "int") inside) _ e (λ locals locals_is e.
+    option_and_then_some _ (body_at (statement_at level_limit) locals.1) _ e (λ found found_is e.
     let is_name = name_sound named name.0 name.1 name_is in
     let is_parameter = name_sound parameters parameter.0 parameter.1 parameter_is in
-    let body = body_sound level_limit (statement_at level_limit) (statement_sound level_limit) inside found.0 found.1 found_is in
+    let are_locals = declarations_sound (codes "int") inside locals.0 locals.1 locals_is in
+    let body = body_sound level_limit (statement_at level_limit) (statement_sound level_limit) locals.1 found.0 found.1 found_is in
     subst (λ y. (ts ≡ spell_function y.0 ++ y.1) × (is_proper_function y.0 ≡ true) × (deepest y.0.body ≤ level_limit)) (same_Some _ _ e) (
       after_sound (pieces (codes "void *")) ts named named_is
           ∙ ap (λ us. pieces (codes "void *") ++ us) (is_name.0
           ∙ ap (λ us. name.0 ∷ us) (after_sound (pieces (codes "( void *")) name.1 parameters parameters_is
           ∙ ap (λ us. pieces (codes "( void *") ++ us) (is_parameter.0
           ∙ ap (λ us. parameter.0 ∷ us) (after_sound (pieces (codes ") {")) parameter.1 inside inside_is
-          ∙ ap (λ us. pieces (codes ") {") ++ us) body.spelled)))),
-      ap₂ ◌&&◌ (ap₂ ◌&&◌ is_name.1 is_parameter.1) body.proper,
+          ∙ ap (λ us. pieces (codes ") {") ++ us) (are_locals.0
+          ∙ ap (λ us. flat_map spell_local locals.0 ++ us) body.spelled
+          ∙ inside_function (flat_map spell_local locals.0) (spell_statements found.0) (pieces (codes "}")) found.1))))),
+      ap₂ ◌&&◌ (ap₂ ◌&&◌ (ap₂ ◌&&◌ is_name.1 is_parameter.1) are_locals.1) body.proper,
       body.shallow,
-    )))))))
-
-handle_sound : (ts : Tokens) (x : List ℕ) (rest : Tokens) → handle_at ts ≡ Some (x, rest) → (ts ≡ spell_handle x ++ rest) × (is_name x ≡ true)
-unfolding handle_at
-handle_sound ts x rest e =
-    option_and_then_some _ (after (pieces (codes "pthread_t")) ts) _ e (λ named named_is e.
-    option_and_then_some _ (name_at named) _ e (λ name name_is e.
-    option_and_then_some _ (after (pieces (codes ";")) name.1) _ e (λ behind behind_is e.
-    let is = name_sound named name.0 name.1 name_is in
-    subst (λ y. (ts ≡ spell_handle y.0 ++ y.1) × (is_name y.0 ≡ true)) (same_Some _ _ e) (
-      after_sound (pieces (codes "pthread_t")) ts named named_is
-          ∙ ap (λ us. codes "pthread_t" ∷ us) (is.0 ∙ ap (λ us. name.0 ∷ us) (after_sound (pieces (codes ";")) name.1 behind behind_is)),
-      is.1,
-    ))))
+    ))))))))
+  where
+    inside_function : (a b c d : Tokens) → a ++ (b ++ c ++ d) ≡ a ++ b ++ c ++ d
+    inside_function a b c d = simp append_assoc refl
 
 creation_sound : (ts : Tokens) (c : Creation) (rest : Tokens) → creation_at ts ≡ Some (c, rest)
     → (ts ≡ spell_creation c ++ rest) × (is_proper_creation c ≡ true)
@@ -149,7 +151,7 @@ program_sound ts p e =
     option_and_then_some _ (each is_variable variable_at ts) _ e (λ variables variables_is e.
     option_and_then_some _ (each (begins (codes "void")) function_at variables.1) _ e (λ functions functions_is e.
     option_and_then_some _ (after (pieces (codes "int main ( ) {")) functions.1) _ e (λ main main_is e.
-    option_and_then_some _ (each (begins (codes "pthread_t")) handle_at main) _ e (λ handles handles_is e.
+    option_and_then_some _ (declarations_at (codes "pthread_t") main) _ e (λ handles handles_is e.
     option_and_then_some _ (each (begins (codes "pthread_create")) creation_at handles.1) _ e (λ creations creations_is e.
     option_and_then_some _ (after (pieces (codes "return 0 ; }")) creations.1) _ e (λ behind behind_is e.
     let found : Program = record { variables = variables.0; functions = functions.0; handles = handles.0; creations = creations.0 } in
@@ -160,7 +162,7 @@ program_sound ts p e =
     many_spelled _ creation_at spell_creation (λ us x rest e. (creation_sound us x rest e).0) _ handles.1 creations.0 creations.1 creations_is
     ∙ ap (λ us. flat_map spell_creation found.creations ++ us) at_end in
     let at_handles : main ≡ from_handles found.handles found.creations =
-    many_spelled _ handle_at spell_handle (λ us x rest e. (handle_sound us x rest e).0) _ main handles.0 handles.1 handles_is
+    (declarations_sound (codes "pthread_t") main handles.0 handles.1 handles_is).0
     ∙ ap (λ us. flat_map spell_handle found.handles ++ us) at_creations in
     let at_main : functions.1 ≡ from_main found.handles found.creations =
     after_sound (pieces (codes "int main ( ) {")) functions.1 main main_is ∙ ap (λ us. pieces (codes "int main ( ) {") ++ us) at_handles in
@@ -175,7 +177,7 @@ program_sound ts p e =
       ap₂ ◌&&◌ (ap₂ ◌&&◌ (ap₂ ◌&&◌
           (many_pass _ variable_at is_proper_variable (λ us x rest e. (variable_sound us x rest e).1) _ ts variables.0 variables.1 variables_is)
           (many_pass _ function_at is_proper_function (λ us x rest e. (function_sound us x rest e).1) _ variables.1 functions.0 functions.1 functions_is))
-          (many_pass _ handle_at is_name (λ us x rest e. (handle_sound us x rest e).1) _ main handles.0 handles.1 handles_is))
+          (declarations_sound (codes "pthread_t") main handles.0 handles.1 handles_is).1)
           (many_pass _ creation_at is_proper_creation (λ us x rest e. (creation_sound us x rest e).1) _ handles.1 creations.0 creations.1 creations_is),
       many_pass _ function_at is_shallow_function (λ us x rest e. le-leb (deepest x.body) 64 (function_sound us x rest e).2) _ variables.1 functions.0 functions.1 functions_is,
     )))))))

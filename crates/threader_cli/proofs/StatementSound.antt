@@ -1,82 +1,16 @@
 -- A statement that is read is spelled so, is proper, and is not too deep.
-use Rattle.std.proofs.Common.{◌≡◌, ℕ, zero, suc, ◌≤◌, Bool, true, false, cond, not, ◌&&◌, List, [], ◌∷◌, ◌++◌, length, drop, codes, flat_map, Option, Some, option_map, bytes_eq, nat_le, append_assoc, refl, sym, ap, ap₂, ◌∙◌, subst, arith, le-leb, leb-true}
+use Rattle.std.proofs.Common.{◌≡◌, ℕ, zero, suc, ◌≤◌, Bool, true, false, not, ◌&&◌, List, [], ◌∷◌, ◌++◌, length, drop, codes, flat_map, Option, Some, option_map, bytes_eq, nat_le, append_assoc, refl, sym, ap, ap₂, ◌∙◌, subst, arith, le-leb, leb-true}
 use Rattle.std.specs.List.{list_all}
-use Rattle.std.proofs.lemmas.Option.{cond_some, option_and_then_some, same_Some}
-use Rattle.std.proofs.lemmas.Slice.Eq.{bytes_eq-Decides}
+use Rattle.std.proofs.lemmas.Option.{option_and_then_some, same_Some}
+use Rattle.threader_cli.proofs.ExpressionSound.{same_word, after_sound, begins_sound, name_sound, many_spelled, many_pass, many_sound, first_sound, next_sound, condition_sound, claim_sound}
 use Rattle.threader_cli.proofs.ReadingSteps.{none_given, option_map_some, chosen}
-use Rattle.threader_cli.specs.Accepted.{takes_else, is_proper, are_proper, depth, deepest}
-use Rattle.threader_cli.specs.Reading.{Tokens, Reading, ◌>>=◌, begins, after, name_at, number_at, many, each, sign_at, assignment_at, body_at, choice_at, else_at, statement_by, statement_at}
-use Rattle.threader_cli.specs.Spelling.{choice, spell_sign, spell_statement, spell_statements}
-use Rattle.threader_cli.specs.Tree.{Statement, Block, Empty, AssertFalse, While, Statements, listed}
-use Rattle.threader_cli.specs.Word.{pieces, is_name, is_number}
+use Rattle.threader_cli.specs.Proper.{takes_else, is_proper_signed, is_proper_condition, is_proper, are_proper, depth, deepest}
+use Rattle.threader_cli.specs.Reading.{Tokens, Reading, ◌>>=◌, begins, after, name_at, each, is_next, first_at, next_at, condition_at, claim_at, assertion_at, assignment_at, body_at, guarded_at, else_at, statement_by, statement_at}
+use Rattle.threader_cli.specs.Spelling.{spell_first, spell_next, spell_condition, spell_statement, spell_statements}
+use Rattle.threader_cli.specs.Tree.{Condition, Statement, Block, Empty, Assume, While, Statements, listed}
+use Rattle.threader_cli.specs.Word.{pieces}
 
--- ---- words, names and numbers
-
-pub same_word : (t x : List ℕ) → bytes_eq t x ≡ true → t ≡ x
-same_word t x = (bytes_eq-Decides t x).0
-
-pub after_sound : (xs : List (List ℕ)) (ts rest : Tokens) → after xs ts ≡ Some rest → ts ≡ xs ++ rest
-after_sound [] ts rest e = same_Some ts rest e
-after_sound (x ∷ xs) [] rest e = none_given rest e
-after_sound (x ∷ xs) (t ∷ ts) rest e =
-    chosen (bytes_eq t x) _ _ _ e
-    (λ same e. ap₂ ◌∷◌ (same_word t x same) (after_sound xs ts rest e))
-    (λ _ e. none_given rest e)
-
-pub begins_sound : (x : List ℕ) (ts : Tokens) → begins x ts ≡ true → ts ≡ x ∷ drop 1 ts
-begins_sound x [] e = absurd (grind arith)
-begins_sound x (t ∷ ts) e = ap (λ u. u ∷ ts) (same_word t x e)
-
-pub name_sound : (ts : Tokens) (x : List ℕ) (rest : Tokens) → name_at ts ≡ Some (x, rest) → (ts ≡ x ∷ rest) × (is_name x ≡ true)
-name_sound [] x rest e = none_given _ e
-name_sound (t ∷ ts) x rest e =
-    let is = cond_some (is_name t) (t, ts) (x, rest) e in
-    (ap (λ y. y.0 ∷ y.1) is.1, ap (λ y. is_name y.0) (sym is.1) ∙ is.0)
-
-pub number_sound : (ts : Tokens) (x : List ℕ) (rest : Tokens) → number_at ts ≡ Some (x, rest) → (ts ≡ x ∷ rest) × (is_number x ≡ true)
-number_sound [] x rest e = none_given _ e
-number_sound (t ∷ ts) x rest e =
-    let is = cond_some (is_number t) (t, ts) (x, rest) e in
-    (ap (λ y. y.0 ∷ y.1) is.1, ap (λ y. is_number y.0) (sym is.1) ∙ is.0)
-
-pub sign_sound : (ts : Tokens) → ts ≡ spell_sign (sign_at ts).0 ++ (sign_at ts).1
-sign_sound ts = by_test (begins (codes "-") ts) (begins_sound (codes "-") ts)
-  where
-    by_test : (b : Bool) → (b ≡ true → ts ≡ codes "-" ∷ drop 1 ts)
-        → let found : Bool × Tokens = cond b (true, drop 1 ts) (false, ts) in ts ≡ spell_sign found.0 ++ found.1
-    by_test true minus = minus refl
-    by_test false minus = refl
-
--- ---- lists of what a reading reads
-
-pub many_spelled : {A : Type 0} (test : Tokens → Bool) (read : Reading A) (spell : A → Tokens)
-    → ((ts : Tokens) (x : A) (rest : Tokens) → read ts ≡ Some (x, rest) → ts ≡ spell x ++ rest)
-    → (n : ℕ) (ts : Tokens) (xs : List A) (rest : Tokens) → many test read n ts ≡ Some (xs, rest) → ts ≡ flat_map spell xs ++ rest
-unfolding many
-many_spelled test read spell sound zero ts xs rest e = none_given _ e
-many_spelled test read spell sound (suc n) ts xs rest e =
-    chosen (test ts) _ _ _ e
-    (λ _ e.
-    option_and_then_some _ (read ts) _ e (λ one one_is e.
-    option_map_some _ (many test read n one.1) _ e (λ more more_is e.
-    let behind = many_spelled test read spell sound n one.1 more.0 more.1 more_is in
-    subst (λ y. ts ≡ flat_map spell y.0 ++ y.1) e
-    (sound ts one.0 one.1 one_is ∙ ap (λ us. spell one.0 ++ us) behind ∙ sym (append_assoc (spell one.0) (flat_map spell more.0) more.1)))))
-    (λ _ e. subst (λ y. ts ≡ flat_map spell y.0 ++ y.1) (same_Some _ _ e) refl)
-
-pub many_pass : {A : Type 0} (test : Tokens → Bool) (read : Reading A) (good : A → Bool)
-    → ((ts : Tokens) (x : A) (rest : Tokens) → read ts ≡ Some (x, rest) → good x ≡ true)
-    → (n : ℕ) (ts : Tokens) (xs : List A) (rest : Tokens) → many test read n ts ≡ Some (xs, rest) → list_all good xs ≡ true
-unfolding many
-many_pass test read good sound zero ts xs rest e = none_given _ e
-many_pass test read good sound (suc n) ts xs rest e =
-    chosen (test ts) _ _ _ e
-    (λ _ e.
-    option_and_then_some _ (read ts) _ e (λ one one_is e.
-    option_map_some _ (many test read n one.1) _ e (λ more more_is e.
-    subst (λ y. list_all good y.0 ≡ true) e
-    (ap₂ ◌&&◌ (sound ts one.0 one.1 one_is) (many_pass test read good sound n one.1 more.0 more.1 more_is)))))
-    (λ _ e. subst (λ y. list_all good y.0 ≡ true) (same_Some _ _ e) refl)
+-- ---- lists of statements
 
 pub spell-listed : (body : List Statement) → spell_statements (listed body) ≡ flat_map spell_statement body
 spell-listed [] = refl
@@ -125,19 +59,23 @@ unfolding assignment_at
 assignment_sound n ts s rest e =
     option_and_then_some _ (name_at ts) _ e (λ name name_is e.
     option_and_then_some _ (after (pieces (codes "=")) name.1) _ e (λ value value_is e.
-    option_and_then_some _ (number_at (sign_at value).1) _ e (λ digits digits_is e.
-    option_and_then_some _ (after (pieces (codes ";")) digits.1) _ e (λ behind behind_is e.
+    option_and_then_some _ (first_at value) _ e (λ first first_is e.
+    option_and_then_some _ (each is_next next_at first.1) _ e (λ more more_is e.
+    option_and_then_some _ (after (pieces (codes ";")) more.1) _ e (λ behind behind_is e.
     let named = name_sound ts name.0 name.1 name_is in
-    let number = number_sound (sign_at value).1 digits.0 digits.1 digits_is in
-    let is_value : ts ≡ name.0 ∷ codes "=" ∷ value = named.0 ∙ ap (λ us. name.0 ∷ us) (after_sound (pieces (codes "=")) name.1 value value_is) in
-    let is_digits : value ≡ spell_sign (sign_at value).0 ++ (digits.0 ∷ codes ";" ∷ behind) =
-    sign_sound value ∙ ap (λ us. spell_sign (sign_at value).0 ++ us) (number.0 ∙ ap (λ us. digits.0 ∷ us) (after_sound (pieces (codes ";")) digits.1 behind behind_is)) in
+    let is_first = first_sound value first.0 first.1 first_is in
+    let are_more = many_sound is_next next_at spell_next is_proper_signed next_sound _ first.1 more.0 more.1 more_is in
+    let one : Tokens = spell_first first.0 in
+    let others : Tokens = flat_map spell_next more.0 in
+    let is_sum : value ≡ one ++ others ++ pieces (codes ";") ++ behind =
+    is_first.0 ∙ ap (λ us. one ++ us) (are_more.0 ∙ ap (λ us. others ++ us) (after_sound (pieces (codes ";")) more.1 behind behind_is))
+    ∙ sym (append_assoc one others (codes ";" ∷ behind)) ∙ sym (append_assoc (one ++ others) (pieces (codes ";")) behind) in
     subst (λ y. IsRead (suc n) ts y.0 y.1) (same_Some _ _ e) (record {
-      spelled = is_value ∙ ap (λ us. name.0 ∷ codes "=" ∷ us) (is_digits ∙ sym (append_assoc (spell_sign (sign_at value).0) (digits.0 ∷ pieces (codes ";")) behind));
-      proper = ap₂ ◌&&◌ named.1 number.1;
+      spelled = named.0 ∙ ap (λ us. name.0 ∷ us) (after_sound (pieces (codes "=")) name.1 value value_is ∙ ap (λ us. codes "=" ∷ us) is_sum);
+      proper = ap₂ ◌&&◌ (ap₂ ◌&&◌ named.1 is_first.1) are_more.1;
       shallow = omega arith;
       free = never;
-    })))))
+    }))))))
 
 pub body_sound : (n : ℕ) (read : Reading Statement) → Reads n read → (ts : Tokens) (body : Statements) (rest : Tokens)
     → body_at read ts ≡ Some (body, rest) → IsBodyRead n ts body rest
@@ -155,13 +93,6 @@ body_sound n read sound ts body rest e =
       proper = proper-listed found.0 ∙ proper;
       shallow = deepest-listed n found.0 shallow;
     })))
-
-choice_sound : (n : ℕ) (read : Reading Statement) → Reads n read → (ts : Tokens) (s : Statement) (rest : Tokens)
-    → choice_at read ts ≡ Some (s, rest) → (inside : Tokens) × (ts ≡ choice ++ inside) × IsRead n inside s rest
-unfolding choice_at
-choice_sound n read sound ts s rest e =
-    option_and_then_some _ (after choice ts) _ e (λ behind behind_is e.
-    (behind, after_sound choice ts behind behind_is, sound behind s rest e))
 
 block_sound : (n : ℕ) (read : Reading Statement) → Reads n read → (ts : Tokens) (s : Statement) (rest : Tokens)
     → option_map {U = Statement × Tokens} (λ body. (Block body.0, body.1)) (body_at read ts) ≡ Some (s, rest) → IsRead (suc n) (codes "{" ∷ ts) s rest
@@ -185,64 +116,114 @@ empty_sound n ts s rest e =
       free = never;
     })
 
-assertion_sound : (n : ℕ) (ts : Tokens) (s : Statement) (rest : Tokens)
-    → option_map {U = Statement × Tokens} (λ rest. (AssertFalse, rest)) (after (pieces (codes "( 0 ) ;")) ts) ≡ Some (s, rest) → IsRead (suc n) (codes "assert" ∷ ts) s rest
+assertion_sound : (n : ℕ) (ts : Tokens) (s : Statement) (rest : Tokens) → assertion_at ts ≡ Some (s, rest) → IsRead (suc n) (codes "assert" ∷ ts) s rest
+unfolding assertion_at
 assertion_sound n ts s rest e =
+    chosen (begins (codes "0") (drop 1 ts)) _ _ _ e
+    (λ _ e.
     option_map_some _ (after (pieces (codes "( 0 ) ;")) ts) _ e (λ behind behind_is e.
     subst (IsReadBy (suc n) (codes "assert") ts) e (record {
       spelled = ap (λ us. codes "assert" ∷ us) (after_sound (pieces (codes "( 0 ) ;")) ts behind behind_is);
       proper = refl;
       shallow = omega arith;
       free = never;
+    })))
+    (λ _ e.
+    option_map_some _ (claim_at ts) _ e (λ found found_is e.
+    let claim = claim_sound ts found.0 found.1 found_is in
+    subst (IsReadBy (suc n) (codes "assert") ts) e (record {
+      spelled = ap (λ us. codes "assert" ∷ us) claim.0;
+      proper = claim.1;
+      shallow = omega arith;
+      free = never;
+    })))
+
+assumption_sound : (n : ℕ) (ts : Tokens) (s : Statement) (rest : Tokens)
+    → option_map {U = Statement × Tokens} (λ c. (Assume c.0, c.1)) (claim_at ts) ≡ Some (s, rest) → IsRead (suc n) (codes "__VERIFIER_assume" ∷ ts) s rest
+assumption_sound n ts s rest e =
+    option_map_some _ (claim_at ts) _ e (λ found found_is e.
+    let claim = claim_sound ts found.0 found.1 found_is in
+    subst (IsReadBy (suc n) (codes "__VERIFIER_assume") ts) e (record {
+      spelled = ap (λ us. codes "__VERIFIER_assume" ∷ us) claim.0;
+      proper = claim.1;
+      shallow = omega arith;
+      free = never;
     }))
+
+-- a condition and a statement behind it
+record IsGuarded (n : ℕ) (ts : Tokens) (c : Condition) (s : Statement) (rest : Tokens) : Type 0 where
+  inside : Tokens
+  guard : ts ≡ spell_condition c ++ inside
+  is_guard : is_proper_condition c ≡ true
+  part : IsRead n inside s rest
+
+guarded_sound : (n : ℕ) (read : Reading Statement) → Reads n read → (ts : Tokens) (found : Condition × Statement) (rest : Tokens)
+    → guarded_at read ts ≡ Some (found, rest) → IsGuarded n ts found.0 found.1 rest
+unfolding guarded_at
+guarded_sound n read sound ts found rest e =
+    option_and_then_some _ (condition_at ts) _ e (λ condition condition_is e.
+    option_and_then_some _ (read condition.1) _ e (λ part part_is e.
+    let guard = condition_sound ts condition.0 condition.1 condition_is in
+    subst (λ y. IsGuarded n ts y.0.0 y.0.1 y.1) (same_Some _ _ e) (record {
+      inside = condition.1;
+      guard = guard.0;
+      is_guard = guard.1;
+      part = sound condition.1 part.0 part.1 part_is;
+    })))
 
 while_sound : (n : ℕ) (read : Reading Statement) → Reads n read → (ts : Tokens) (s : Statement) (rest : Tokens)
-    → option_map {U = Statement × Tokens} (λ part. (While part.0, part.1)) (choice_at read ts) ≡ Some (s, rest) → IsRead (suc n) (codes "while" ∷ ts) s rest
+    → option_map {U = Statement × Tokens} (λ part. (While part.0.0 part.0.1, part.1)) (guarded_at read ts) ≡ Some (s, rest) → IsRead (suc n) (codes "while" ∷ ts) s rest
 while_sound n read sound ts s rest e =
-    option_map_some _ (choice_at read ts) _ e (λ found found_is e.
-    let part = choice_sound n read sound ts found.0 found.1 found_is in
+    option_map_some _ (guarded_at read ts) _ e (λ found found_is e.
+    let c = found.0.0 in
+    let body = found.0.1 in
+    let is = guarded_sound n read sound ts found.0 found.1 found_is in
     subst (IsReadBy (suc n) (codes "while") ts) e (record {
-      spelled = ap (λ us. codes "while" ∷ us) (part.1 ∙ ap (λ us. choice ++ us) part.2.spelled);
-      proper = part.2.proper;
-      shallow = omega (arith, part.2.shallow);
-      free = part.2.free;
+      spelled = ap (λ us. codes "while" ∷ us) (is.guard ∙ ap (λ us. spell_condition c ++ us) is.part.spelled
+          ∙ sym (append_assoc (spell_condition c) (spell_statement body) found.1));
+      proper = ap₂ ◌&&◌ is.is_guard is.part.proper;
+      shallow = omega (arith, is.part.shallow);
+      free = is.part.free;
     }))
 
-else_sound : (n : ℕ) (read : Reading Statement) → Reads n read → (before : Tokens) (part : Statement) (ts : Tokens) → IsRead n before part ts
-    → (s : Statement) (rest : Tokens) → else_at read part ts ≡ Some (s, rest) → IsRead (suc n) (codes "if" ∷ (choice ++ before)) s rest
+else_sound : (n : ℕ) (read : Reading Statement) → Reads n read → (before ts : Tokens) (c : Condition) (part : Statement) → IsGuarded n before c part ts
+    → (s : Statement) (rest : Tokens) → else_at read c part ts ≡ Some (s, rest) → IsRead (suc n) (codes "if" ∷ before) s rest
 unfolding else_at
-else_sound n read sound before part ts first s rest e =
+else_sound n read sound before ts c part first s rest e =
     chosen (begins (codes "else") ts) _ _ _ e
     (λ next e.
     option_map_some _ (read (drop 1 ts)) _ e (λ other other_is e.
     let second = sound (drop 1 ts) other.0 other.1 other_is in
-    let is_else : ts ≡ codes "else" ∷ (spell_statement other.0 ++ other.1) = begins_sound (codes "else") ts next ∙ ap (λ us. codes "else" ∷ us) second.spelled in
-    subst (IsReadBy (suc n) (codes "if") (choice ++ before)) e (record {
-      spelled = ap (λ us. codes "if" ∷ (choice ++ us)) (first.spelled ∙ ap (λ us. spell_statement part ++ us) is_else
-          ∙ sym (append_assoc (spell_statement part) (pieces (codes "else")) (spell_statement other.0 ++ other.1))
-          ∙ sym (append_assoc (spell_statement part ++ pieces (codes "else")) (spell_statement other.0) other.1));
-      proper = ap₂ ◌&&◌ (ap₂ ◌&&◌ first.proper (closed (takes_else part) first.free next)) second.proper;
-      shallow = omega (arith, first.shallow, second.shallow);
+    let behind : Tokens = spell_statement other.0 ++ other.1 in
+    let is_else : ts ≡ codes "else" ∷ behind = begins_sound (codes "else") ts next ∙ ap (λ us. codes "else" ∷ us) second.spelled in
+    subst (IsReadBy (suc n) (codes "if") before) e (record {
+      spelled = ap (λ us. codes "if" ∷ us) (first_part ∙ ap (λ us. spell_condition c ++ spell_statement part ++ us) is_else
+          ∙ sym (append_assoc (spell_condition c ++ spell_statement part) (pieces (codes "else")) behind)
+          ∙ sym (append_assoc (spell_condition c ++ spell_statement part ++ pieces (codes "else")) (spell_statement other.0) other.1));
+      proper = ap₂ ◌&&◌ (ap₂ ◌&&◌ (ap₂ ◌&&◌ first.is_guard first.part.proper) (closed (takes_else part) first.part.free next)) second.proper;
+      shallow = omega (arith, first.part.shallow, second.shallow);
       free = second.free;
     })))
     (λ none e.
-    subst (IsReadBy (suc n) (codes "if") (choice ++ before)) (same_Some _ _ e) (record {
-      spelled = ap (λ us. codes "if" ∷ (choice ++ us)) first.spelled;
-      proper = first.proper;
-      shallow = omega (arith, first.shallow);
+    subst (IsReadBy (suc n) (codes "if") before) (same_Some _ _ e) (record {
+      spelled = ap (λ us. codes "if" ∷ us) first_part;
+      proper = ap₂ ◌&&◌ first.is_guard first.part.proper;
+      shallow = omega (arith, first.part.shallow);
       free = λ _. none;
     }))
   where
+    first_part : before ≡ spell_condition c ++ spell_statement part ++ ts
+    first_part = first.guard ∙ ap (λ us. spell_condition c ++ us) first.part.spelled ∙ sym (append_assoc (spell_condition c) (spell_statement part) ts)
+
     closed : (takes : Bool) → (takes ≡ true → begins (codes "else") ts ≡ false) → begins (codes "else") ts ≡ true → not takes ≡ true
     closed true free next = never (sym (free refl) ∙ next)
     closed false free next = refl
 
 if_sound : (n : ℕ) (read : Reading Statement) → Reads n read → (ts : Tokens) (s : Statement) (rest : Tokens)
-    → (choice_at read ts >>= λ part. else_at read part.0 part.1) ≡ Some (s, rest) → IsRead (suc n) (codes "if" ∷ ts) s rest
+    → (guarded_at read ts >>= λ part. else_at read part.0.0 part.0.1 part.1) ≡ Some (s, rest) → IsRead (suc n) (codes "if" ∷ ts) s rest
 if_sound n read sound ts s rest e =
-    option_and_then_some _ (choice_at read ts) _ e (λ found found_is e.
-    let part = choice_sound n read sound ts found.0 found.1 found_is in
-    subst (λ us. IsRead (suc n) (codes "if" ∷ us) s rest) (sym part.1) (else_sound n read sound part.0 found.0 found.1 part.2 s rest e))
+    option_and_then_some _ (guarded_at read ts) _ e (λ found found_is e.
+    else_sound n read sound ts found.1 found.0.0 found.0.1 (guarded_sound n read sound ts found.0 found.1 found_is) s rest e)
 
 -- what is read behind a fixed first token, where that is the first
 at_word : (n : ℕ) (first word : List ℕ) (ts : Tokens) (s : Statement) (rest : Tokens) → bytes_eq first word ≡ true
@@ -262,12 +243,15 @@ by_sound n read sound first ts s rest e =
     chosen (bytes_eq first (codes "assert")) _ _ _ e
     (λ is e. at_word (suc n) first (codes "assert") ts s rest is (assertion_sound n ts s rest e))
     (λ _ e.
+    chosen (bytes_eq first (codes "__VERIFIER_assume")) _ _ _ e
+    (λ is e. at_word (suc n) first (codes "__VERIFIER_assume") ts s rest is (assumption_sound n ts s rest e))
+    (λ _ e.
     chosen (bytes_eq first (codes "if")) _ _ _ e
     (λ is e. at_word (suc n) first (codes "if") ts s rest is (if_sound n read sound ts s rest e))
     (λ _ e.
     chosen (bytes_eq first (codes "while")) _ _ _ e
     (λ is e. at_word (suc n) first (codes "while") ts s rest is (while_sound n read sound ts s rest e))
-    (λ _ e. assignment_sound n (first ∷ ts) s rest e)))))
+    (λ _ e. assignment_sound n (first ∷ ts) s rest e))))))
 
 pub statement_sound : (n : ℕ) (ts : Tokens) (s : Statement) (rest : Tokens) → statement_at n ts ≡ Some (s, rest) → IsRead n ts s rest
 unfolding statement_at

@@ -1,61 +1,24 @@
-ghost use Rattle.std.specs.Prelude.{◌≡◌, ◌++◌, [], ◌++◌, map, nat_le, option_map, IfOk, IsTrue};
+ghost use Rattle.std.specs.Prelude.{◌≡◌, ◌++◌, [], ◌∷◌, ◌&&◌, not, map, nat_le, option_map, Some, IfOk, IsTrue};
 ghost use Rattle.std.specs.List.{list_all};
 ghost use Rattle.threader_cli.specs.Accepted as specs;
-ghost use Rattle.threader_cli.specs.Graph.{graph_of};
-ghost use Rattle.threader_cli.specs.Seen.{statement_of, statements_of, variable_of, function_of, creation_of, program_of};
+ghost use Rattle.threader_cli.specs.Checks.{is_usable};
+ghost use Rattle.threader_cli.specs.Graph.{locations};
+ghost use Rattle.threader_cli.specs.Seen.{variable_of, function_of, creation_of, program_of};
+ghost use Rattle.threader_cli.specs.Uses.{is_among};
 
 use crate::graph::actions_each;
 use crate::names::Names;
-use crate::tree::{Creation, Function, Program, Statement, Variable};
+use crate::scope::Scope;
+use crate::tree::{Creation, Function, Program, Variable};
+use crate::uses::are_allowed;
 use std::alloc::{AllocError, Global};
 
 /// How many locations a function may have, the failing one and the exit included.
 const LOCATION_LIMIT: u32 = 128;
 
-/// Whether each variable that is assigned is among the names.
-#[cycle(assigns)]
-#[tactic(auto, using(crate::proofs::AcceptLemmas::assigns_in_block))]
-fn assigns_among(names: &Names, statement: &Statement) -> bool
-    ensures { result ≡ specs.assigns_among names.now (statement_of statement.now) }
-{
-    match statement {
-        Statement::Block(body) => all_assign_among(names, body),
-        Statement::Empty => true,
-        Statement::Assign(assignment) => names.contains(&assignment.name),
-        Statement::AssertFalse => true,
-        Statement::If(part) => assigns_among(names, part),
-        Statement::IfElse(part, other) => assigns_among(names, part) && assigns_among(names, other),
-        Statement::While(part) => assigns_among(names, part),
-    }
-}
-
-#[cycle(assigns)]
-fn all_assign_among(names: &Names, body: &[Statement]) -> bool
-    ensures { result ≡ specs.all_assign_among names.now (statements_of body.now) }
-{
-    for statement in body {
-        if !assigns_among(names, statement) {
-            return false;
-        }
-    }
-    true
-}
-
-/// Whether each function assigns only variables among the names.
-fn functions_assign_among(names: &Names, functions: &[Function]) -> bool
-    ensures { result ≡ list_all (λ f. specs.all_assign_among names.now f.body) (map function_of functions.now) }
-{
-    for function in functions {
-        if !all_assign_among(names, &function.body) {
-            return false;
-        }
-    }
-    true
-}
-
 /// Whether no function has too many locations.
 fn are_small(functions: &[Function]) -> bool
-    ensures { result ≡ list_all (λ f. nat_le (graph_of f.body).locations 128) (map function_of functions.now) }
+    ensures { result ≡ list_all (λ f. nat_le (locations f.body) 128) (map function_of functions.now) }
 {
     for function in functions {
         if actions_each(&function.body) > LOCATION_LIMIT - 2 {
@@ -66,7 +29,7 @@ fn are_small(functions: &[Function]) -> bool
 }
 
 /// Whether the names of variables are new, which they are added to.
-fn add_variables(
+pub fn add_variables(
     alloc: Global,
     names: &mut Names,
     variables: &[Variable],
@@ -82,29 +45,49 @@ fn add_variables(
     Ok(true)
 }
 
-/// Whether the names of functions are new.
-fn add_functions(
-    alloc: Global,
-    names: &mut Names,
-    functions: &[Function],
-) -> Result<bool, AllocError>
-    ensures { IfOk result (λ new. new ≡ specs.are_new names.old (map (λ f. f.name) (map function_of functions.now))) }
+/// Whether names are new, which they are added to.
+pub fn add_names(alloc: Global, names: &mut Names, more: &[Vec<u8>]) -> Result<bool, AllocError>
+    ensures are_new { IfOk result (λ new. new ≡ specs.are_new names.old (map (λ name. name.items) more.now)) }
+    ensures added { IfOk result (λ new. IsTrue new → names.new ≡ names.old ++ map (λ name. name.items) more.now) }
 {
-    for function in functions {
-        if !names.add(alloc, &function.name)? {
+    for name in more {
+        if !names.add(alloc, name)? {
             return Ok(false);
         }
     }
     Ok(true)
 }
 
-/// Whether the names of handles are new, which they are added to.
-fn add_handles(alloc: Global, names: &mut Names, handles: &[Vec<u8>]) -> Result<bool, AllocError>
-    ensures are_new { IfOk result (λ new. new ≡ specs.are_new names.old (map (λ name. name.items) handles.now)) }
-    ensures added { IfOk result (λ new. IsTrue new → names.new ≡ names.old ++ map (λ name. name.items) handles.now) }
+/// Whether none of the names is among others.
+fn are_others(names: &Names, others: &[Vec<u8>]) -> bool
+    ensures { result ≡ list_all (λ name. not (is_among names.now name)) (map (λ name. name.items) others.now) }
 {
-    for handle in handles {
-        if !names.add(alloc, handle)? {
+    for name in others {
+        if names.contains(name) {
+            return false;
+        }
+    }
+    true
+}
+
+/// Whether the names of functions are new among those declared, and their locals are new among both.
+#[tactic(auto, using(crate::proofs::AcceptLemmas::new_functions_step))]
+fn add_functions(
+    alloc: Global,
+    declared: &mut Names,
+    locals: &mut Names,
+    functions: &[Function],
+) -> Result<bool, AllocError>
+    ensures { IfOk result (λ new. new ≡ specs.are_new declared.old (map (λ f. f.name) (map function_of functions.now)) && specs.locals_are_new_behind declared.old locals.old (map function_of functions.now)) }
+{
+    for function in functions {
+        if !declared.add(alloc, &function.name)? {
+            return Ok(false);
+        }
+        if !are_others(declared, &function.locals) {
+            return Ok(false);
+        }
+        if !add_names(alloc, locals, &function.locals)? {
             return Ok(false);
         }
     }
@@ -145,19 +128,64 @@ fn are_declared(program: &Program, handles: &Names) -> bool
     true
 }
 
-/// Whether the names of the text are declared once each, and variables are what functions assign.
+/// Whether the names of the text are declared once each, and locals are new.
 #[tactic(auto, using(crate::proofs::AcceptLemmas::are_new_append))]
 fn text_declares(alloc: Global, program: &Program) -> Result<bool, AllocError>
-    ensures { IfOk result (λ yes. yes ≡ specs.text_declares (program_of program.now)) }
+    ensures { IfOk result (λ yes. yes ≡ specs.text_declares (program_of program.now) && specs.locals_are_new (program_of program.now)) }
 {
-    let mut names = Names::new(alloc);
-    if !add_variables(alloc, &mut names, &program.variables)? {
+    let mut declared = Names::new(alloc);
+    let mut locals = Names::new(alloc);
+    if !add_variables(alloc, &mut declared, &program.variables)? {
         return Ok(false);
     }
-    if !functions_assign_among(&names, &program.functions) {
+    add_functions(alloc, &mut declared, &mut locals, &program.functions)
+}
+
+/// Whether a function uses what it may.
+fn function_is_usable(alloc: Global, variables: &Names, function: &Function) -> Result<bool, AllocError>
+    ensures { IfOk result (λ yes. yes ≡ is_usable variables.now (function_of function.now)) }
+{
+    let none = Names::new(alloc);
+    let mut locals = Names::new(alloc);
+    if !add_names(alloc, &mut locals, &function.locals)? {
         return Ok(false);
     }
-    add_functions(alloc, &mut names, &program.functions)
+    let own = Scope {
+        variables: &none,
+        before: 0,
+        locals: &locals,
+        width: locals.len(),
+    };
+    are_allowed(alloc, variables, &own, &function.body)
+}
+
+fn are_usable(
+    alloc: Global,
+    variables: &Names,
+    functions: &[Function],
+) -> Result<bool, AllocError>
+    ensures { IfOk result (λ yes. yes ≡ list_all (is_usable variables.now) (map function_of functions.now)) }
+{
+    for function in functions {
+        if !function_is_usable(alloc, variables, function)? {
+            return Ok(false);
+        }
+    }
+    Ok(true)
+}
+
+/// Whether functions use what they may.
+fn uses_are_allowed(alloc: Global, program: &Program) -> Result<bool, AllocError>
+    ensures {
+        let p = program_of program.now in
+        IfOk result (λ yes. yes ≡ specs.are_new [] (specs.variable_names p) && list_all (is_usable (specs.variable_names p)) p.functions)
+    }
+{
+    let mut variables = Names::new(alloc);
+    if !add_variables(alloc, &mut variables, &program.variables)? {
+        return Ok(false);
+    }
+    are_usable(alloc, &variables, &program.functions)
 }
 
 /// Whether the names of `main` are declared once each, and its creations name what is declared.
@@ -165,7 +193,7 @@ fn main_declares(alloc: Global, program: &Program) -> Result<bool, AllocError>
     ensures { IfOk result (λ yes. yes ≡ specs.main_declares (program_of program.now)) }
 {
     let mut handles = Names::new(alloc);
-    if !add_handles(alloc, &mut handles, &program.handles)? {
+    if !add_names(alloc, &mut handles, &program.handles)? {
         return Ok(false);
     }
     Ok(are_declared(program, &handles))
@@ -182,6 +210,9 @@ pub fn is_accepted(alloc: Global, program: &Program) -> Result<bool, AllocError>
         return Ok(false);
     }
     if !text_declares(alloc, program)? {
+        return Ok(false);
+    }
+    if !uses_are_allowed(alloc, program)? {
         return Ok(false);
     }
     main_declares(alloc, program)

@@ -1,16 +1,16 @@
-ghost use Rattle.std.specs.Prelude.{◌≡◌, ℕ, ◌+◌, ◌-◌, ◌^◌, ◌<◌, [], ◌∷◌, ◌++◌, map, min, IfOk, OnOk};
+ghost use Rattle.std.specs.Prelude.{◌≡◌, ◌+◌, ◌-◌, ◌^◌, ◌<◌, ◌++◌, map, min, true, IfOk, OnOk};
+ghost use Rattle.std.specs.List.{list_all};
+ghost use Rattle.transition_formula.specs.Stored.{edge_of, thread_of};
 ghost use Rattle.threader_cli.specs.Graph as specs;
-ghost use Rattle.threader_cli.specs.Seen.{statement_of, statements_of, edge_of, graph_of};
+ghost use Rattle.threader_cli.specs.Scope.{columns_of, AreApart, HasRoom};
+ghost use Rattle.threader_cli.specs.Seen.{statement_of, statements_of};
+ghost use Rattle.threader_cli.specs.Uses.{uses, uses_each, use_fits};
 
+use crate::edges::{push_assignment, push_branches, push_free, push_sides, push_true};
+use crate::scope::Scope;
 use crate::tree::Statement;
 use std::alloc::{AllocError, Global};
-
-/// A step of a thread from one location to another.
-#[derive(Clone, Copy)]
-pub struct Edge {
-    pub from: u32,
-    pub to: u32,
-}
+use transition_formula::{Edge, ThreadGraph};
 
 /// How many actions a statement has, as far as a `u32` counts.
 #[cycle(actions)]
@@ -22,11 +22,13 @@ fn actions(statement: &Statement) -> u32
         Statement::Empty => 0,
         Statement::Assign(_) => 1,
         Statement::AssertFalse => 1,
-        Statement::If(part) => actions(part).saturating_add(1),
-        Statement::IfElse(part, other) => actions(part)
+        Statement::Assert(_) => 1,
+        Statement::Assume(_) => 1,
+        Statement::If(_, part) => actions(part).saturating_add(1),
+        Statement::IfElse(_, part, other) => actions(part)
             .saturating_add(actions(other))
             .saturating_add(1),
-        Statement::While(part) => actions(part).saturating_add(1),
+        Statement::While(_, part) => actions(part).saturating_add(1),
     }
 }
 
@@ -42,65 +44,6 @@ pub fn actions_each(body: &[Statement]) -> u32
     count
 }
 
-/// Adds the edges of a statement whose first action stands at `at`, and after which control goes to `next`.
-#[cycle(edges)]
-#[tactic(auto, using(crate::proofs::GraphLemmas::actions_of_block), unfolding(crate::specs::Graph::edges))]
-fn add_edges(
-    edges: &mut Vec<Edge>,
-    statement: &Statement,
-    at: u32,
-    next: u32,
-) -> Result<(), AllocError>
-    requires { at + specs.actions (statement_of statement.now) < 2 ^ 32 - 1 }
-    ensures { OnOk result (map edge_of edges.new.items ≡ map edge_of edges.old.items ++ specs.edges (statement_of statement.now) at next) }
-{
-    match statement {
-        Statement::Block(body) => add_edges_each(edges, body, at, next),
-        Statement::Empty => Ok(()),
-        Statement::Assign(_) => add_edge(edges, at, next),
-        Statement::AssertFalse => add_edge(edges, at, 0),
-        Statement::If(part) => {
-            add_edge(edges, at, entry(actions(part), at + 1, next))?;
-            add_edge(edges, at, next)?;
-            add_edges(edges, part, at + 1, next)
-        }
-        Statement::IfElse(part, other) => {
-            let behind = at + 1 + actions(part);
-            add_edge(edges, at, entry(actions(part), at + 1, next))?;
-            add_edge(edges, at, entry(actions(other), behind, next))?;
-            add_edges(edges, part, at + 1, next)?;
-            add_edges(edges, other, behind, next)
-        }
-        Statement::While(part) => {
-            add_edge(edges, at, entry(actions(part), at + 1, at))?;
-            add_edge(edges, at, next)?;
-            add_edges(edges, part, at + 1, at)
-        }
-    }
-}
-
-/// Adds the edges of statements, the first of whose actions stands at `at`.
-#[cycle(edges)]
-#[tactic(auto, unfolding(crate::specs::Graph::edges))]
-fn add_edges_each(
-    edges: &mut Vec<Edge>,
-    body: &[Statement],
-    at: u32,
-    next: u32,
-) -> Result<(), AllocError>
-    requires { at + specs.actions_each (statements_of body.now) < 2 ^ 32 - 1 }
-    ensures { OnOk result (map edge_of edges.new.items ≡ map edge_of edges.old.items ++ specs.edges_each (statements_of body.now) at next) }
-{
-    let end = at + actions_each(body);
-    let mut here = at;
-    for statement in body {
-        let behind = here + actions(statement);
-        add_edges(edges, statement, here, entry(end - behind, behind, next))?;
-        here = behind;
-    }
-    Ok(())
-}
-
 /// Where control goes on: to what comes, where it has an action, and else to what follows that.
 fn entry(count: u32, at: u32, next: u32) -> u32
     ensures { result ≡ specs.entry count at next }
@@ -108,31 +51,100 @@ fn entry(count: u32, at: u32, next: u32) -> u32
     if count == 0 { next } else { at }
 }
 
-fn add_edge(edges: &mut Vec<Edge>, from: u32, to: u32) -> Result<(), AllocError>
-    ensures { OnOk result (map edge_of edges.new.items ≡ map edge_of edges.old.items ++ specs.edge from to ∷ []) }
+/// Appends the edges of a statement whose first action stands at `at`, and after which control goes to `next`.
+#[cycle(edges)]
+#[tactic(auto, using(crate::proofs::GraphLemmas::actions_of_block, crate::proofs::NameLemmas::list_all_append), unfolding(crate::specs::Graph::edges))]
+fn push_edges(
+    edges: &mut Vec<Edge>,
+    scope: &Scope<'_>,
+    statement: &Statement,
+    at: u32,
+    next: u32,
+) -> Result<(), AllocError>
+    requires count { at + specs.actions (statement_of statement.now) < 2 ^ 32 - 1 }
+    requires room { HasRoom scope.now }
+    requires few { scope.now.width < 2 ^ 32 }
+    requires apart { AreApart (columns_of scope.now) }
+    requires fits { list_all (use_fits (columns_of scope.now)) (uses (statement_of statement.now)) ≡ true }
+    ensures { OnOk result (map edge_of edges.new.items ≡ map edge_of edges.old.items ++ specs.edges (columns_of scope.now) (statement_of statement.now) at next) }
 {
-    edges.push(Edge { from, to })?;
+    match statement {
+        Statement::Block(body) => push_edges_each(edges, scope, body, at, next),
+        Statement::Empty => Ok(()),
+        Statement::Assign(assignment) => push_assignment(edges, scope, assignment, at, next),
+        Statement::AssertFalse => push_free(edges, at, 0),
+        Statement::Assert(comparison) => push_sides(edges, scope, comparison, at, next, 0),
+        Statement::Assume(comparison) => push_true(edges, scope, comparison, at, next),
+        Statement::If(condition, part) => {
+            let inside = entry(actions(part), at + 1, next);
+            push_branches(edges, scope, condition, at, inside, next)?;
+            push_edges(edges, scope, part, at + 1, next)
+        }
+        Statement::IfElse(condition, part, other) => {
+            let behind = at + 1 + actions(part);
+            let inside = entry(actions(part), at + 1, next);
+            let otherwise = entry(actions(other), behind, next);
+            push_branches(edges, scope, condition, at, inside, otherwise)?;
+            push_edges(edges, scope, part, at + 1, next)?;
+            push_edges(edges, scope, other, behind, next)
+        }
+        Statement::While(condition, part) => {
+            let inside = entry(actions(part), at + 1, at);
+            push_branches(edges, scope, condition, at, inside, next)?;
+            push_edges(edges, scope, part, at + 1, at)
+        }
+    }
+}
+
+/// Appends the edges of statements, the first of whose actions stands at `at`.
+#[cycle(edges)]
+#[tactic(auto, using(crate::proofs::NameLemmas::list_all_append), unfolding(crate::specs::Graph::edges))]
+fn push_edges_each(
+    edges: &mut Vec<Edge>,
+    scope: &Scope<'_>,
+    body: &[Statement],
+    at: u32,
+    next: u32,
+) -> Result<(), AllocError>
+    requires count { at + specs.actions_each (statements_of body.now) < 2 ^ 32 - 1 }
+    requires room { HasRoom scope.now }
+    requires few { scope.now.width < 2 ^ 32 }
+    requires apart { AreApart (columns_of scope.now) }
+    requires fits { list_all (use_fits (columns_of scope.now)) (uses_each (statements_of body.now)) ≡ true }
+    ensures { OnOk result (map edge_of edges.new.items ≡ map edge_of edges.old.items ++ specs.edges_each (columns_of scope.now) (statements_of body.now) at next) }
+{
+    let end = at + actions_each(body);
+    let mut here = at;
+    for statement in body {
+        let behind = here + actions(statement);
+        push_edges(edges, scope, statement, here, entry(end - behind, behind, next))?;
+        here = behind;
+    }
     Ok(())
 }
 
-/// The graph of a thread.
-#[derive(Drop)]
-pub struct Graph {
-    /// How many locations there are, 0 and the exit included.
-    pub locations: u32,
-    /// In the order of their numbers, which count from 1.
-    pub edges: Vec<Edge>,
-}
-
-/// The graph of a thread with this body.
-pub fn thread_graph(alloc: Global, body: &[Statement]) -> Result<Graph, AllocError>
-    requires { specs.actions_each (statements_of body.now) < 2 ^ 31 }
-    ensures { IfOk result (λ graph. graph_of graph ≡ specs.graph_of (statements_of body.now)) }
+/// A thread that runs a body. Its counter is this column.
+pub fn thread(
+    alloc: Global,
+    scope: &Scope<'_>,
+    counter: u32,
+    body: &[Statement],
+) -> Result<ThreadGraph, AllocError>
+    requires count { specs.actions_each (statements_of body.now) < 2 ^ 31 }
+    requires room { HasRoom scope.now }
+    requires few { scope.now.width < 2 ^ 32 }
+    requires apart { AreApart (columns_of scope.now) }
+    requires fits { list_all (use_fits (columns_of scope.now)) (uses_each (statements_of body.now)) ≡ true }
+    ensures {
+        let seen = statements_of body.now in
+        IfOk result (λ made. thread_of made ≡ record { counter = counter; locations = specs.locations seen; edges = specs.thread_edges (columns_of scope.now) seen })
+    }
 {
     let count = actions_each(body);
     let mut edges = Vec::new(alloc);
-    add_edges_each(&mut edges, body, 1, count + 1)?;
-    Ok(Graph {
+    push_edges_each(&mut edges, scope, body, 1, count + 1)?;
+    Ok(ThreadGraph {
+        counter,
         locations: count + 2,
         edges,
     })

@@ -2,18 +2,17 @@
 #![tactic(auto)]
 
 mod accept;
-mod answer;
 mod cursor;
+mod data;
+mod edges;
+mod expression;
+mod form;
 mod graph;
+mod limit;
 mod names;
 mod program;
-mod reach;
-mod reader;
+mod scope;
 mod statement;
-mod table;
-mod threads;
 mod tree;
+mod uses;
 mod word;
-mod words;
-
-pub use answer::threader_serial;

@@ -1,5 +1,5 @@
-ghost use Rattle.std.specs.Prelude.{◌≡◌, [], ◌∷◌, ◌++◌, not, bytes_eq, if◌then◌else◌, IfOk};
-ghost use Rattle.std.specs.List.{list_any};
+ghost use Rattle.std.specs.Prelude.{◌≡◌, [], ◌∷◌, ◌++◌, length, not, bytes_eq, if◌then◌else◌, IfOk};
+ghost use Rattle.std.specs.List.{list_any, position_or_len};
 
 use indexmap::IndexSet;
 use std::alloc::{AllocError, Global};
@@ -40,5 +40,17 @@ impl Names {
         ensures { result ≡ list_any (bytes_eq name.now) self.now }
     {
         self.set.contains(name)
+    }
+    pub fn len(&self) -> usize
+        ensures { result ≡ length self.now }
+    {
+        self.set.len()
+    }
+
+    /// The place of a name, from 0, or the number of names where it is none of them.
+    pub fn place(&self, name: &[u8]) -> usize
+        ensures { result ≡ position_or_len (bytes_eq name.now) self.now }
+    {
+        self.set.get_index_of(name).unwrap_or(self.set.len())
     }
 }

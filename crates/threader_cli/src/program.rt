@@ -34,6 +34,28 @@ fn variable(alloc: Global, cursor: &mut Cursor<'_>) -> Result<Variable, Stop>
     Ok(Variable { name, start })
 }
 
+/// A type's word, and the name that is declared.
+#[tactic(auto, unfolding(crate::specs::Reading::declared_at))]
+fn declared(alloc: Global, word: &str, cursor: &mut Cursor<'_>) -> Result<Vec<u8>, Stop>
+    ensures { Gives (λ found. (found.items, cursor.new)) result (specs.declared_at word.now cursor.old) }
+{
+    cursor.skip(&[word])?;
+    let name = cursor.name(alloc)?;
+    cursor.skip(&[";"])?;
+    Ok(name)
+}
+
+/// The names that are declared behind this word, as many as there are.
+fn declarations(alloc: Global, word: &str, cursor: &mut Cursor<'_>) -> Result<Vec<Vec<u8>>, Stop>
+    ensures { Gives (λ found. (map (λ name. name.items) found.items, cursor.new)) result (specs.declarations_at word.now cursor.old) }
+{
+    let mut names = Vec::new(alloc);
+    'each: while cursor.begins(word) {
+        names.push(declared(alloc, word, cursor)?)?;
+    }
+    Ok(names)
+}
+
 #[tactic(auto, unfolding(crate::specs::Reading::function_at))]
 fn function(alloc: Global, cursor: &mut Cursor<'_>) -> Result<Function, Stop>
     ensures { Gives (λ found. (function_of found, cursor.new)) result (specs.function_at cursor.old) }
@@ -43,22 +65,14 @@ fn function(alloc: Global, cursor: &mut Cursor<'_>) -> Result<Function, Stop>
     cursor.skip(&["(", "void", "*"])?;
     let parameter = cursor.name(alloc)?;
     cursor.skip(&[")", "{"])?;
+    let locals = declarations(alloc, "int", cursor)?;
     let body = body(alloc, LEVEL_LIMIT, cursor)?;
     Ok(Function {
         name,
         parameter,
+        locals,
         body,
     })
-}
-
-#[tactic(auto, unfolding(crate::specs::Reading::handle_at))]
-fn handle(alloc: Global, cursor: &mut Cursor<'_>) -> Result<Vec<u8>, Stop>
-    ensures { Gives (λ found. (found.items, cursor.new)) result (specs.handle_at cursor.old) }
-{
-    cursor.skip(&["pthread_t"])?;
-    let name = cursor.name(alloc)?;
-    cursor.skip(&[";"])?;
-    Ok(name)
 }
 
 #[tactic(auto, unfolding(crate::specs::Reading::creation_at))]
@@ -99,16 +113,6 @@ fn functions(alloc: Global, cursor: &mut Cursor<'_>) -> Result<Vec<Function>, St
     Ok(functions)
 }
 
-fn handles(alloc: Global, cursor: &mut Cursor<'_>) -> Result<Vec<Vec<u8>>, Stop>
-    ensures { Gives (λ found. (map (λ name. name.items) found.items, cursor.new)) result (specs.each specs.is_handle specs.handle_at cursor.old) }
-{
-    let mut handles = Vec::new(alloc);
-    'each: while cursor.begins("pthread_t") {
-        handles.push(handle(alloc, cursor)?)?;
-    }
-    Ok(handles)
-}
-
 fn creations(alloc: Global, cursor: &mut Cursor<'_>) -> Result<Vec<Creation>, Stop>
     ensures { Gives (λ found. (map creation_of found.items, cursor.new)) result (specs.each specs.is_creation specs.creation_at cursor.old) }
 {
@@ -128,7 +132,7 @@ pub fn program(alloc: Global, tokens: &[Token<'_>]) -> Result<Program, Stop>
     let variables = variables(alloc, &mut cursor)?;
     let functions = functions(alloc, &mut cursor)?;
     cursor.skip(&["int", "main", "(", ")", "{"])?;
-    let handles = handles(alloc, &mut cursor)?;
+    let handles = declarations(alloc, "pthread_t", &mut cursor)?;
     let creations = creations(alloc, &mut cursor)?;
     cursor.skip(&["return", "0", ";", "}"])?;
     if cursor.next().is_some() {

@@ -1,23 +1,13 @@
 ghost use Rattle.std.specs.Prelude.{◌≡◌};
 ghost use Rattle.threader_cli.specs.Reading as specs;
 ghost use Rattle.threader_cli.specs.Refusals.{Gives};
-ghost use Rattle.threader_cli.specs.Seen.{statement_of, statements_of};
+ghost use Rattle.threader_cli.specs.Seen.{comparison_of, condition_of, statement_of, statements_of};
 
 use crate::cursor::{Cursor, NOT_BUILT};
-use crate::tree::{Assignment, Statement};
+use crate::expression::{comparison, condition, first, more};
+use crate::tree::{Assignment, Comparison, Condition, Statement};
 use std::alloc::Global;
 use thr_base::Stop;
-
-/// Whether a `-` comes, which is passed over.
-fn sign(cursor: &mut Cursor<'_>) -> bool
-    ensures { (result, cursor.new) ≡ specs.sign_at cursor.old }
-{
-    if cursor.begins("-") {
-        let _minus = cursor.next();
-        return true;
-    }
-    false
-}
 
 #[tactic(auto, unfolding(crate::specs::Reading::assignment_at))]
 fn assignment(alloc: Global, cursor: &mut Cursor<'_>) -> Result<Assignment, Stop>
@@ -25,14 +15,33 @@ fn assignment(alloc: Global, cursor: &mut Cursor<'_>) -> Result<Assignment, Stop
 {
     let name = cursor.name(alloc)?;
     cursor.skip(&["="])?;
-    let negative = sign(cursor);
-    let digits = cursor.number(alloc)?;
+    let first = first(alloc, cursor)?;
+    let more = more(alloc, cursor)?;
     cursor.skip(&[";"])?;
-    Ok(Assignment {
-        name,
-        negative,
-        digits,
-    })
+    Ok(Assignment { name, first, more })
+}
+
+/// A comparison in parentheses, and what ends the statement.
+#[tactic(auto, unfolding(crate::specs::Reading::claim_at))]
+fn claim(alloc: Global, cursor: &mut Cursor<'_>) -> Result<Comparison, Stop>
+    ensures { Gives (λ found. (comparison_of found, cursor.new)) result (specs.claim_at cursor.old) }
+{
+    cursor.skip(&["("])?;
+    let comparison = comparison(alloc, cursor)?;
+    cursor.skip(&[")", ";"])?;
+    Ok(comparison)
+}
+
+/// What follows `assert`.
+#[tactic(auto, unfolding(crate::specs::Reading::assertion_at))]
+fn assertion(alloc: Global, cursor: &mut Cursor<'_>) -> Result<Statement, Stop>
+    ensures { Gives (λ found. (statement_of found, cursor.new)) result (specs.assertion_at cursor.old) }
+{
+    if cursor.second_is("0") {
+        cursor.skip(&["(", "0", ")", ";"])?;
+        return Ok(Statement::AssertFalse);
+    }
+    Ok(Statement::Assert(claim(alloc, cursor)?))
 }
 
 /// The statements up to the brace that closes them, each at most so many levels deep.
@@ -51,12 +60,17 @@ pub fn body(alloc: Global, levels: u32, cursor: &mut Cursor<'_>) -> Result<Vec<S
 
 /// A condition, and the statement behind it.
 #[cycle(statement)]
-#[tactic(auto, unfolding(crate::specs::Reading::choice_at))]
-fn choice(alloc: Global, levels: u32, cursor: &mut Cursor<'_>) -> Result<Box<Statement>, Stop>
-    ensures { Gives (λ found. (statement_of found.value, cursor.new)) result (specs.choice_at (specs.statement_at levels) cursor.old) }
+#[tactic(auto, unfolding(crate::specs::Reading::guarded_at))]
+fn guarded(
+    alloc: Global,
+    levels: u32,
+    cursor: &mut Cursor<'_>,
+) -> Result<(Condition, Box<Statement>), Stop>
+    ensures { Gives (λ found. ((condition_of found.0, statement_of found.1.value), cursor.new)) result (specs.guarded_at (specs.statement_at levels) cursor.old) }
 {
-    cursor.skip(&["(", "__VERIFIER_nondet_int", "(", ")", ")"])?;
-    Ok(Box::new(alloc, statement(alloc, levels, cursor)?)?)
+    let condition = condition(alloc, cursor)?;
+    let part = statement(alloc, levels, cursor)?;
+    Ok((condition, Box::new(alloc, part)?))
 }
 
 /// What follows the first part of an `if`.
@@ -65,17 +79,18 @@ fn choice(alloc: Global, levels: u32, cursor: &mut Cursor<'_>) -> Result<Box<Sta
 fn otherwise(
     alloc: Global,
     levels: u32,
+    condition: Condition,
     part: Box<Statement>,
     cursor: &mut Cursor<'_>,
 ) -> Result<Statement, Stop>
-    ensures { Gives (λ found. (statement_of found, cursor.new)) result (specs.else_at (specs.statement_at levels) (statement_of part.value) cursor.old) }
+    ensures { Gives (λ found. (statement_of found, cursor.new)) result (specs.else_at (specs.statement_at levels) (condition_of condition) (statement_of part.value) cursor.old) }
 {
     if !cursor.begins("else") {
-        return Ok(Statement::If(part));
+        return Ok(Statement::If(condition, part));
     }
     let _else = cursor.next();
     let other = statement(alloc, levels, cursor)?;
-    Ok(Statement::IfElse(part, Box::new(alloc, other)?))
+    Ok(Statement::IfElse(condition, part, Box::new(alloc, other)?))
 }
 
 /// A statement at most so many levels deep.
@@ -95,15 +110,19 @@ fn statement(alloc: Global, levels: u32, cursor: &mut Cursor<'_>) -> Result<Stat
         let _semicolon = cursor.next();
         Ok(Statement::Empty)
     } else if cursor.begins("assert") {
-        cursor.skip(&["assert", "(", "0", ")", ";"])?;
-        Ok(Statement::AssertFalse)
+        let _assert = cursor.next();
+        assertion(alloc, cursor)
+    } else if cursor.begins("__VERIFIER_assume") {
+        let _assume = cursor.next();
+        Ok(Statement::Assume(claim(alloc, cursor)?))
     } else if cursor.begins("if") {
         let _if = cursor.next();
-        let part = choice(alloc, levels, cursor)?;
-        otherwise(alloc, levels, part, cursor)
+        let (condition, part) = guarded(alloc, levels, cursor)?;
+        otherwise(alloc, levels, condition, part, cursor)
     } else if cursor.begins("while") {
         let _while = cursor.next();
-        Ok(Statement::While(choice(alloc, levels, cursor)?))
+        let (condition, part) = guarded(alloc, levels, cursor)?;
+        Ok(Statement::While(condition, part))
     } else {
         Ok(Statement::Assign(assignment(alloc, cursor)?))
     }

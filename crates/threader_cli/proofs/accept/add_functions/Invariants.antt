@@ -1,10 +1,9 @@
-use Rattle.std.proofs.Common.{◌≡◌, ◌++◌, map, drop}
-use Rattle.threader_cli.specs.Accepted.{are_new}
+use Rattle.std.proofs.Common.{◌≡◌, ◌&&◌, map, drop}
+use Rattle.threader_cli.specs.Accepted.{are_new, locals_are_new_behind}
 use Rattle.threader_cli.specs.Seen.{function_of}
 use Rattle.threader_cli.proofs.accept.add_functions.Given as goal
 
 abbrev pub invariant-loop-function : goal.invariant-loop-function
-invariant-loop-function l = record {
-  left : are_new l.names (map (λ x. x.name) (map function_of (drop l.function-index l.functions))) ≡ are_new l.fn.names (map (λ x. x.name) (map function_of l.functions));
-  added : l.names ++ map (λ x. x.name) (map function_of (drop l.function-index l.functions)) ≡ l.fn.names ++ map (λ x. x.name) (map function_of l.functions);
-}
+invariant-loop-function l =
+    are_new l.declared (map (λ x. x.name) (map function_of (drop l.function-index l.functions))) && locals_are_new_behind l.declared l.locals (map function_of (drop l.function-index l.functions))
+    ≡ are_new l.fn.declared (map (λ x. x.name) (map function_of l.functions)) && locals_are_new_behind l.fn.declared l.fn.locals (map function_of l.functions)

@@ -42,4 +42,4 @@ pub statement-returns-in_ok-assignment : goal.statement-returns-in_ok-assignment
 statement-returns-in_ok-assignment t c =
     let above : c.args.levels ≡ suc (c.args.levels - 1) = omega arith in
     ap (λ n. specs.statement_at n c.args.cursor.now) above
-    ∙ statement_at-assignment (c.args.levels - 1) c.args.cursor.now _ _ (search rules) (search rules) (search rules) (search rules) (search rules) c.in_ok-assignment.ensures
+    ∙ statement_at-assignment (c.args.levels - 1) c.args.cursor.now _ _ (search rules) (search rules) (search rules) (search rules) (search rules) (search rules) c.in_ok-assignment.ensures

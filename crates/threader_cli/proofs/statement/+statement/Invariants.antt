@@ -8,8 +8,8 @@ use Rattle.threader_cli.proofs.statement.+statement.Given as goal
 abbrev pub decreases-body : goal.decreases-body
 decreases-body l = 2 * l.levels + 1
 
-abbrev pub decreases-choice : goal.decreases-choice
-decreases-choice l = 2 * l.levels + 1
+abbrev pub decreases-guarded : goal.decreases-guarded
+decreases-guarded l = 2 * l.levels + 1
 
 abbrev pub decreases-otherwise : goal.decreases-otherwise
 decreases-otherwise l = 2 * l.levels + 1
