@@ -1,13 +1,7 @@
-pub mod Accepted
-pub mod Answer
-pub mod Graph
-pub mod Least
-pub mod Lines
-pub mod Reach
+pub mod Proper
 pub mod Reading
 pub mod Refusals
 pub mod Seen
 pub mod Spelling
-pub mod Table
 pub mod Tree
 pub mod Word

@@ -1,12 +1,8 @@
 -- How the readers answer.
-use Rattle.std.specs.Prelude.{◌≡◌, ℕ, List, Option, Some, None, Result, Ok, Err}
+use Rattle.std.specs.Prelude.{◌≡◌, Option, Some, None, Result, Ok, Err}
 use Rattle.thr_base.specs.declared.stops.Refusal.{Refusal}
 use Rattle.thr_base.specs.declared.stops.Stop.{Stop}
 use Rattle.thr_base.specs.declared.stops.Stop.TheVariants.{Refused, Memory}
-use Rattle.c_lex.specs.Tokens.{Lexeme}
-use Rattle.threader_cli.specs.Accepted.{IsAccepted}
-use Rattle.threader_cli.specs.Answer.{Refuses}
-use Rattle.threader_cli.specs.Tree.{Program}
 
 -- the refusal of a text that is none of the narrow language
 abbrev pub not_built : Refusal
@@ -20,13 +16,3 @@ Fails (Refused refusal) read = (refusal ≡ not_built) × (read ≡ None)
 abbrev pub Gives : {X Y : Type 0} → (X → Y) → Result X Stop → Option Y → Type 0
 Gives view (Ok x) read = read ≡ Some (view x)
 Gives view (Err stop) read = Fails stop read
-
--- Why tokens give no program: they are those of no text of the narrow language, unless there was no memory.
-abbrev pub StopsTokens : List Lexeme → Stop → Type 0
-StopsTokens tokens Memory = Unit {0}
-StopsTokens tokens (Refused refusal) = (refusal ≡ not_built) × ((p : Program) → IsAccepted tokens p → ⊥)
-
--- Why bytes give no table: they break the rule that is told, unless there was no memory.
-abbrev pub StopsBytes : List ℕ → Stop → Type 0
-StopsBytes bytes Memory = Unit {0}
-StopsBytes bytes (Refused refusal) = Refuses bytes refusal

@@ -1,25 +1,55 @@
 -- What a contract sees of the trees that the code holds.
 use Rattle.std.specs.Prelude.{ℕ, List, map, option_map}
 use Rattle.c_lex.specs.declared.token.Token.{Token}
-use Rattle.threader_cli.specs.Graph as graph
-use Rattle.threader_cli.specs.declared.graph.Edge.{Edge}
-use Rattle.threader_cli.specs.declared.graph.Graph.{Graph}
 use Rattle.threader_cli.specs.Tree as tree
-use Rattle.threader_cli.specs.declared.tree.Statement.{Statement, Block', Empty, Assign, AssertFalse, If', IfElse', While', Row_of-Statement, end_of-Statement, more_of-Statement}
+use Rattle.threader_cli.specs.declared.tree.Mark.{Mark}
+use Rattle.threader_cli.specs.declared.tree.Mark.TheVariants.{Equal, Unequal, Less, LessOrEqual, Greater, GreaterOrEqual}
+use Rattle.threader_cli.specs.declared.tree.Term.{Term}
+use Rattle.threader_cli.specs.declared.tree.Term.TheVariants.{Number, Named, Multiple}
+use Rattle.threader_cli.specs.declared.tree.Signed.{Signed}
+use Rattle.threader_cli.specs.declared.tree.Comparison.{Comparison}
+use Rattle.threader_cli.specs.declared.tree.Condition.{Condition}
+use Rattle.threader_cli.specs.declared.tree.Condition.TheVariants.{Choice, Compares}
+use Rattle.threader_cli.specs.declared.tree.Statement.{Statement, Block', Empty, Assign, AssertFalse, Assert, Assume, If', IfElse', While', Row_of-Statement, end_of-Statement, more_of-Statement}
 use Rattle.threader_cli.specs.declared.tree.Variable.{Variable}
 use Rattle.threader_cli.specs.declared.tree.Function.{Function}
 use Rattle.threader_cli.specs.declared.tree.Creation.{Creation}
 use Rattle.threader_cli.specs.declared.tree.Program.{Program}
 
+abbrev pub mark_of : Mark → tree.Mark
+mark_of Equal = tree.Equal
+mark_of Unequal = tree.Unequal
+mark_of Less = tree.Less
+mark_of LessOrEqual = tree.LessOrEqual
+mark_of Greater = tree.Greater
+mark_of GreaterOrEqual = tree.GreaterOrEqual
+
+abbrev pub term_of : Term → tree.Term
+term_of (Number digits) = tree.Number digits.items
+term_of (Named name) = tree.Named name.items
+term_of (Multiple digits name) = tree.Multiple digits.items name.items
+
+abbrev pub signed_of : Signed → tree.Signed
+signed_of s = record { negative = s.negative; term = term_of s.term }
+
+abbrev pub comparison_of : Comparison → tree.Comparison
+comparison_of c = record { name = c.name.items; mark = mark_of c.mark; negative = c.negative; digits = c.digits.items }
+
+abbrev pub condition_of : Condition → tree.Condition
+condition_of Choice = tree.Choice
+condition_of (Compares c) = tree.Compares (comparison_of c)
+
 abbrev mutual
   pub statement_of : Statement → tree.Statement
   statement_of (Block' _ row) = tree.Block (row_of row)
   statement_of Empty = tree.Empty
-  statement_of (Assign a) = tree.Assign a.name.items a.negative a.digits.items
+  statement_of (Assign a) = tree.Assign a.name.items (signed_of a.first) (map signed_of a.more.items)
   statement_of AssertFalse = tree.AssertFalse
-  statement_of (If' _ s) = tree.If (statement_of s)
-  statement_of (IfElse' _ s _ t) = tree.IfElse (statement_of s) (statement_of t)
-  statement_of (While' _ s) = tree.While (statement_of s)
+  statement_of (Assert c) = tree.Assert (comparison_of c)
+  statement_of (Assume c) = tree.Assume (comparison_of c)
+  statement_of (If' c _ s) = tree.If (condition_of c) (statement_of s)
+  statement_of (IfElse' c _ s _ t) = tree.IfElse (condition_of c) (statement_of s) (statement_of t)
+  statement_of (While' c _ s) = tree.While (condition_of c) (statement_of s)
 
   pub row_of : {n : _} → Row_of-Statement n → tree.Statements
   row_of end_of-Statement = tree.End
@@ -33,7 +63,12 @@ abbrev pub variable_of : Variable → tree.Variable
 variable_of v = record { name = v.name.items; start = option_map (λ digits. digits.items) v.start }
 
 abbrev pub function_of : Function → tree.Function
-function_of f = record { name = f.name.items; parameter = f.parameter.items; body = statements_of f.body.items }
+function_of f = record {
+  name = f.name.items;
+  parameter = f.parameter.items;
+  locals = map (λ name. name.items) f.locals.items;
+  body = statements_of f.body.items;
+}
 
 abbrev pub creation_of : Creation → tree.Creation
 creation_of c = record { handle = c.handle.items; function = c.function.items }
@@ -49,9 +84,3 @@ program_of p = record {
 -- the texts of tokens
 abbrev pub texts : List Token → List (List ℕ)
 texts tokens = map (λ t. t.text.now) tokens
-
-abbrev pub edge_of : Edge → graph.Edge
-edge_of e = record { from = e.from; to = e.to }
-
-abbrev pub graph_of : Graph → graph.ThreadGraph
-graph_of g = record { locations = g.locations; edges = map edge_of g.edges.items }

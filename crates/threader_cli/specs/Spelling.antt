@@ -1,25 +1,58 @@
 -- The grammar of the narrow language: the tokens that a program is spelled with.
 use Rattle.std.specs.Prelude.{ℕ, Bool, true, false, List, [], ◌∷◌, ◌++◌, codes, flat_map, Option, Some, None}
-use Rattle.threader_cli.specs.Tree.{Statement, Block, Empty, Assign, AssertFalse, If, IfElse, While, Statements, End, Then, Variable, Function, Creation, Program}
+use Rattle.threader_cli.specs.Tree.{Mark, Equal, Unequal, Less, LessOrEqual, Greater, GreaterOrEqual, Term, Number, Named, Multiple, Signed, Comparison, Condition, Choice, Compares, Statement, Block, Empty, Assign, AssertFalse, Assert, Assume, If, IfElse, While, Statements, End, Then, Variable, Function, Creation, Program}
 use Rattle.threader_cli.specs.Word.{pieces}
 
--- a condition, which a run may choose either way
-abbrev pub choice : List (List ℕ)
-choice = pieces (codes "( __VERIFIER_nondet_int ( ) )")
+abbrev pub spell_mark : Mark → List ℕ
+spell_mark Equal = codes "=="
+spell_mark Unequal = codes "!="
+spell_mark Less = codes "<"
+spell_mark LessOrEqual = codes "<="
+spell_mark Greater = codes ">"
+spell_mark GreaterOrEqual = codes ">="
 
+-- a `-` or nothing
 abbrev pub spell_sign : Bool → List (List ℕ)
 spell_sign true = pieces (codes "-")
 spell_sign false = []
+
+-- a `-` or a `+`
+abbrev pub spell_operator : Bool → List ℕ
+spell_operator true = codes "-"
+spell_operator false = codes "+"
+
+abbrev pub spell_term : Term → List (List ℕ)
+spell_term (Number digits) = digits ∷ []
+spell_term (Named name) = name ∷ []
+spell_term (Multiple digits name) = digits ∷ pieces (codes "*") ++ name ∷ []
+
+-- the first term of a sum
+abbrev pub spell_first : Signed → List (List ℕ)
+spell_first s = spell_sign s.negative ++ spell_term s.term
+
+-- a later term of a sum
+abbrev pub spell_next : Signed → List (List ℕ)
+spell_next s = spell_operator s.negative ∷ spell_term s.term
+
+abbrev pub spell_comparison : Comparison → List (List ℕ)
+spell_comparison c = c.name ∷ spell_mark c.mark ∷ spell_sign c.negative ++ c.digits ∷ []
+
+-- a condition with its parentheses
+abbrev pub spell_condition : Condition → List (List ℕ)
+spell_condition Choice = pieces (codes "( __VERIFIER_nondet_int ( ) )")
+spell_condition (Compares c) = pieces (codes "(") ++ spell_comparison c ++ pieces (codes ")")
 
 abbrev mutual
   pub spell_statement : Statement → List (List ℕ)
   spell_statement (Block body) = pieces (codes "{") ++ spell_statements body ++ pieces (codes "}")
   spell_statement Empty = pieces (codes ";")
-  spell_statement (Assign name negative digits) = name ∷ pieces (codes "=") ++ spell_sign negative ++ digits ∷ pieces (codes ";")
+  spell_statement (Assign name first more) = name ∷ pieces (codes "=") ++ spell_first first ++ flat_map spell_next more ++ pieces (codes ";")
   spell_statement AssertFalse = pieces (codes "assert ( 0 ) ;")
-  spell_statement (If s) = pieces (codes "if") ++ choice ++ spell_statement s
-  spell_statement (IfElse s t) = pieces (codes "if") ++ choice ++ spell_statement s ++ pieces (codes "else") ++ spell_statement t
-  spell_statement (While s) = pieces (codes "while") ++ choice ++ spell_statement s
+  spell_statement (Assert c) = pieces (codes "assert (") ++ spell_comparison c ++ pieces (codes ") ;")
+  spell_statement (Assume c) = pieces (codes "__VERIFIER_assume (") ++ spell_comparison c ++ pieces (codes ") ;")
+  spell_statement (If c s) = pieces (codes "if") ++ spell_condition c ++ spell_statement s
+  spell_statement (IfElse c s t) = pieces (codes "if") ++ spell_condition c ++ spell_statement s ++ pieces (codes "else") ++ spell_statement t
+  spell_statement (While c s) = pieces (codes "while") ++ spell_condition c ++ spell_statement s
 
   pub spell_statements : Statements → List (List ℕ)
   spell_statements End = []
@@ -32,13 +65,20 @@ spell_start (Some digits) = pieces (codes "=") ++ digits ∷ []
 abbrev pub spell_variable : Variable → List (List ℕ)
 spell_variable v = pieces (codes "int") ++ v.name ∷ spell_start v.start ++ pieces (codes ";")
 
+-- a type's word, and the name that is declared
+abbrev pub spell_declared : List ℕ → List ℕ → List (List ℕ)
+spell_declared word name = word ∷ name ∷ pieces (codes ";")
+
+abbrev pub spell_local : List ℕ → List (List ℕ)
+spell_local name = spell_declared (codes "int") name
+
 abbrev pub spell_function : Function → List (List ℕ)
 spell_function f =
     pieces (codes "void *") ++ f.name ∷ pieces (codes "( void *") ++ f.parameter ∷ pieces (codes ") {")
-    ++ spell_statements f.body ++ pieces (codes "}")
+    ++ flat_map spell_local f.locals ++ spell_statements f.body ++ pieces (codes "}")
 
 abbrev pub spell_handle : List ℕ → List (List ℕ)
-spell_handle name = pieces (codes "pthread_t") ++ name ∷ pieces (codes ";")
+spell_handle name = spell_declared (codes "pthread_t") name
 
 abbrev pub spell_creation : Creation → List (List ℕ)
 spell_creation c = pieces (codes "pthread_create ( &") ++ c.handle ∷ pieces (codes ", 0 ,") ++ c.function ∷ pieces (codes ", 0 ) ;")

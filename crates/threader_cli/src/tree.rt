@@ -1,3 +1,54 @@
+/// The marks of comparisons.
+#[derive(Clone, Copy, Drop)]
+pub enum Mark {
+    Equal,
+    Unequal,
+    Less,
+    LessOrEqual,
+    Greater,
+    GreaterOrEqual,
+}
+
+/// What is added up: a number by its digits, a name, or a number times a name.
+#[derive(Drop)]
+pub enum Term {
+    Number(Vec<u8>),
+    Named(Vec<u8>),
+    Multiple(Vec<u8>, Vec<u8>),
+}
+
+/// A term, and whether it is taken away.
+#[derive(Drop)]
+pub struct Signed {
+    pub negative: bool,
+    pub term: Term,
+}
+
+/// `name = first` and the terms behind it.
+#[derive(Drop)]
+pub struct Assignment {
+    pub name: Vec<u8>,
+    pub first: Signed,
+    pub more: Vec<Signed>,
+}
+
+/// A name against a number, the number by its sign and its digits.
+#[derive(Drop)]
+pub struct Comparison {
+    pub name: Vec<u8>,
+    pub mark: Mark,
+    pub negative: bool,
+    pub digits: Vec<u8>,
+}
+
+/// What an `if` or a `while` asks.
+#[derive(Drop)]
+pub enum Condition {
+    /// Either way.
+    Choice,
+    Compares(Comparison),
+}
+
 /// A statement of the narrow language, as it is spelled.
 #[derive(Drop)]
 pub enum Statement {
@@ -5,17 +56,11 @@ pub enum Statement {
     Empty,
     Assign(Assignment),
     AssertFalse,
-    If(Box<Statement>),
-    IfElse(Box<Statement>, Box<Statement>),
-    While(Box<Statement>),
-}
-
-/// `name = number`, or `name = -number`, the number by its digits.
-#[derive(Drop)]
-pub struct Assignment {
-    pub name: Vec<u8>,
-    pub negative: bool,
-    pub digits: Vec<u8>,
+    Assert(Comparison),
+    Assume(Comparison),
+    If(Condition, Box<Statement>),
+    IfElse(Condition, Box<Statement>, Box<Statement>),
+    While(Condition, Box<Statement>),
 }
 
 /// A variable that all threads share.
@@ -30,6 +75,7 @@ pub struct Variable {
 pub struct Function {
     pub name: Vec<u8>,
     pub parameter: Vec<u8>,
+    pub locals: Vec<Vec<u8>>,
     pub body: Vec<Statement>,
 }
 
