@@ -1,7 +1,15 @@
+pub mod Accepted
+pub mod Answer
+pub mod Comparison
+pub mod Data
+pub mod Form
+pub mod Graph
+pub mod ProgramText
 pub mod Proper
 pub mod Reading
 pub mod Refusals
 pub mod Seen
 pub mod Spelling
 pub mod Tree
+pub mod Uses
 pub mod Word

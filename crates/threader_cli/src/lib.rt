@@ -1,7 +1,15 @@
-//! What the program does, over stores and sinks: reads words and a text, and writes the answer.
+//! What the program does, over stores and sinks: reads words and texts, and writes the answer.
 #![tactic(auto)]
 
+mod accept;
+mod answer;
 mod cursor;
+mod data;
+mod limit;
 mod program;
+mod reader;
 mod tree;
 mod word;
+mod words;
+
+pub use answer::threader_serial;

@@ -1,0 +1,6 @@
+//! Stub.
+#![tactic(auto)]
+
+mod predicates;
+
+pub use predicates::read_predicates;

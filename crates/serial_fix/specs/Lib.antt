@@ -1,0 +1,4 @@
+pub mod Stored
+pub mod Table
+pub mod Least
+pub mod Answer

@@ -1,0 +1,6 @@
+//! Stub.
+#![tactic(auto)]
+
+mod run;
+
+pub use run::{LeastAnswer, least, table};
