@@ -1,6 +1,6 @@
 -- How answers follow from those of the parts.
-use Rattle.std.proofs.Common.{◌≡◌, ◌<◌, ◌≤◌, ◌↔◌, ℕ, zero, suc, ◌+◌, ◌-◌, min, List, [], length, map, replicate, get_or, slice_get, Any, Option, Some, None, option_map, Result, Ok, Err, IfOk, IsTrue, refl, sym, ap, subst, ◌∙◌, arith}
-use Rattle.std.proofs.lemmas.List.{length-map, length-replicate}
+use Rattle.std.proofs.Common.{◌≡◌, ◌<◌, ◌≤◌, ◌↔◌, ℕ, zero, suc, ◌+◌, ◌-◌, min, List, [], length, map, slice_get, Any, Option, Some, None, option_map, Result, Ok, Err, IfOk, IsTrue, sym, ap, subst, ◌∙◌, arith}
+use Rattle.std.proofs.lemmas.List.{length-map}
 use Rattle.std.proofs.lemmas.Option.{slice_get-map, get_or_from_slice_get}
 use Rattle.thr_base.specs.Outside.{StoreMeaning, SinkMeaning, Files, Lacks, Rose, count_end}
 use Rattle.thr_base.specs.Reading.{IsFileNamed, IsLonger, StopsReading, KeepsFiles}
@@ -93,20 +93,6 @@ IsReadAs-stored program bytes lists read =
           subst (IsSetOf program home) (sym (ap (λ (ls : List (List Row)). set_at ls n) read.sets_are ∙ mapped-at give (homes program) n home is))
           (read.is_text.allowed.are_sets home);
     }
-
-replicated-at : (n i : ℕ) (list : List Row) → get_or (replicate n list) i list ≡ list
-replicated-at zero i list = refl
-replicated-at (suc n) zero list = refl
-replicated-at (suc n) (suc i) list = replicated-at n i list
-
-no_atoms : (program : Program) (home : Home) → IsSetOf program home []
-no_atoms program home = record { are_atoms = tt; none_twice = λ i j d before within. absurd (omega arith) }
-
-pub no_predicates-stored : (program : Program) → AreStoredSetsOf program (no_predicates program)
-no_predicates-stored program = record {
-  one_each = length-replicate (length (homes program)) [];
-  sets_are = λ n home is. subst (IsSetOf program home) (sym (replicated-at (length (homes program)) (n - 1) [])) (no_atoms program home);
-}
 
 -- ---- tables
 

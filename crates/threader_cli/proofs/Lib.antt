@@ -1,5 +1,17 @@
+pub mod AcceptedLemmas
 pub mod AnswerLemmas
+pub mod BodyLemmas
+pub mod ExpressionComplete
+pub mod ExpressionShrinks
+pub mod ExpressionSound
 pub mod ManyLemmas
 pub mod ReaderLemmas
+pub mod ReadingComplete
+pub mod ReadingShrinks
+pub mod ReadingSound
+pub mod ReadingSteps
+pub mod SeenLemmas
+pub mod StatementComplete
+pub mod StatementSound
 pub mod WordLemmas
 pub mod WordsLemmas

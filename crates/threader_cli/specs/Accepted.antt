@@ -1,8 +1,10 @@
 -- Which texts are programs of the narrow language.
 use Rattle.std.specs.Prelude.{◌≡◌, ℕ, Bool, true, not, ◌&&◌, List, [], ◌∷◌, ◌++◌, map, length, find, is_some, Option, Some, bytes_eq, nat_le, IsTrue}
 use Rattle.std.specs.List.{list_any, list_all}
+use Rattle.c_lex.specs.Tokens.{Lexeme}
 use Rattle.threader_cli.specs.Graph.{locations}
-use Rattle.threader_cli.specs.Proper.{is_proper_program}
+use Rattle.threader_cli.specs.Proper.{is_proper_program, is_shallow}
+use Rattle.threader_cli.specs.Spelling.{spell_program}
 use Rattle.threader_cli.specs.Tree.{Function, Creation, Program}
 use Rattle.threader_cli.specs.Uses.{Use, uses_each, is_among, uses_only, accesses, use_fits}
 
@@ -78,7 +80,8 @@ is_allowed p =
     && main_declares p
 
 -- The tokens are those of a text of the narrow language, and this is its tree.
-pub record IsAccepted (tokens : List Rattle.c_lex.specs.Tokens.Lexeme) (p : Program) : Type 0 where
-  pub spelled : map (λ token. token.bytes) tokens ≡ Rattle.threader_cli.specs.Spelling.spell_program p
+pub record IsAccepted (tokens : List Lexeme) (p : Program) : Type 0 where
+  pub spelled : map (λ token. token.bytes) tokens ≡ spell_program p
   pub proper : IsTrue (is_proper_program p)
+  pub shallow : IsTrue (is_shallow p)
   pub allowed : IsTrue (is_allowed p)

@@ -130,7 +130,7 @@ assignment_at ts = do
   rest ← after (pieces (codes ";")) more.1
   Some (Assign name.0 first.0 more.0, rest)
 
--- a comparison in parentheses, and what ends the statement
+-- what follows `assert` or `__VERIFIER_assume`: a comparison in parentheses, and what ends the statement
 unfoldable pub claim_at : Reading Comparison
 claim_at ts = do
   inside ← after (pieces (codes "(")) ts

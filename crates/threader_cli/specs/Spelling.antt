@@ -37,10 +37,17 @@ spell_next s = spell_operator s.negative ∷ spell_term s.term
 abbrev pub spell_comparison : Comparison → List (List ℕ)
 spell_comparison c = c.name ∷ spell_mark c.mark ∷ spell_sign c.negative ++ c.digits ∷ []
 
--- a condition with its parentheses
+-- a condition without its parentheses
+abbrev pub spell_inner : Condition → List (List ℕ)
+spell_inner Choice = pieces (codes "__VERIFIER_nondet_int ( )")
+spell_inner (Compares c) = spell_comparison c
+
 abbrev pub spell_condition : Condition → List (List ℕ)
-spell_condition Choice = pieces (codes "( __VERIFIER_nondet_int ( ) )")
-spell_condition (Compares c) = pieces (codes "(") ++ spell_comparison c ++ pieces (codes ")")
+spell_condition c = pieces (codes "(") ++ spell_inner c ++ pieces (codes ")")
+
+-- what follows `assert` and `__VERIFIER_assume`
+abbrev pub spell_claim : Comparison → List (List ℕ)
+spell_claim c = pieces (codes "(") ++ spell_comparison c ++ pieces (codes ") ;")
 
 abbrev mutual
   pub spell_statement : Statement → List (List ℕ)
@@ -48,8 +55,8 @@ abbrev mutual
   spell_statement Empty = pieces (codes ";")
   spell_statement (Assign name first more) = name ∷ pieces (codes "=") ++ spell_first first ++ flat_map spell_next more ++ pieces (codes ";")
   spell_statement AssertFalse = pieces (codes "assert ( 0 ) ;")
-  spell_statement (Assert c) = pieces (codes "assert (") ++ spell_comparison c ++ pieces (codes ") ;")
-  spell_statement (Assume c) = pieces (codes "__VERIFIER_assume (") ++ spell_comparison c ++ pieces (codes ") ;")
+  spell_statement (Assert c) = pieces (codes "assert") ++ spell_claim c
+  spell_statement (Assume c) = pieces (codes "__VERIFIER_assume") ++ spell_claim c
   spell_statement (If c s) = pieces (codes "if") ++ spell_condition c ++ spell_statement s
   spell_statement (IfElse c s t) = pieces (codes "if") ++ spell_condition c ++ spell_statement s ++ pieces (codes "else") ++ spell_statement t
   spell_statement (While c s) = pieces (codes "while") ++ spell_condition c ++ spell_statement s

@@ -43,6 +43,13 @@ impl<'a> Cursor<'a> {
         self.at < self.tokens.len() && self.tokens[self.at].text == text
     }
 
+    /// Whether the next token is a number.
+    pub fn begins_number(&self) -> bool
+        ensures { result ≡ specs.begins_number self.now }
+    {
+        self.at < self.tokens.len() && is_number(self.tokens[self.at].text)
+    }
+
     /// Whether the token behind the next one is this one.
     pub fn second_is(&self, text: &str) -> bool
         ensures { result ≡ specs.begins text.now (drop 1 self.now) }

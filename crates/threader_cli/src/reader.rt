@@ -6,7 +6,10 @@ ghost use Rattle.threader_cli.specs.Accepted.{IsAccepted};
 ghost use Rattle.threader_cli.specs.ProgramText.{text_limit, IsText, IsProgramText, StopsBytes, StopsTokens};
 ghost use Rattle.threader_cli.specs.Seen.{program_of};
 
+use crate::accept::is_accepted;
+use crate::cursor::NOT_BUILT;
 use crate::data::program_data;
+use crate::program::program;
 use crate::tree;
 use c_lex::{Token, lex};
 use c_tree::parse;
@@ -51,7 +54,12 @@ fn accepted_program(alloc: Global, tokens: &[Token<'_>]) -> Result<tree::Program
     ensures program { IfOk result (λ p. IsAccepted (views tokens.now) (program_of p)) }
     ensures stops { IfErr result (StopsTokens (views tokens.now)) }
 {
-    Err(Stop::Memory)
+    let program = program(alloc, tokens)?;
+    if is_accepted(alloc, &program)? {
+        Ok(program)
+    } else {
+        Err(NOT_BUILT)
+    }
 }
 
 /// The place of the first word `main`, where there is one.

@@ -1,0 +1,12 @@
+use Rattle.std.proofs.Common.{◌≡◌, map, length}
+use Rattle.threader_cli.proofs.ManyLemmas.{all_in_front}
+use Rattle.threader_cli.specs.Reading as specs
+use Rattle.threader_cli.specs.Seen.{signed_of}
+use Rattle.threader_cli.proofs.expression.more.Given as goal
+
+-- those so far, and those that are left, are all
+abbrev pub invariant-each : goal.invariant-each
+invariant-each l = all_in_front (map signed_of l.terms.items) (specs.each specs.is_next specs.next_at l.cursor) ≡ specs.each specs.is_next specs.next_at l.fn.cursor
+
+abbrev pub decreases-each : goal.decreases-each
+decreases-each l = length l.cursor
