@@ -1,4 +1,3 @@
 pub mod Stored
 pub mod Table
 pub mod Least
-pub mod Answer

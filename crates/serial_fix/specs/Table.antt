@@ -4,7 +4,6 @@ use Rattle.std.specs.Ordering.{nat_cmp, ordering_then}
 use Rattle.std.specs.Cmp.Lexicographic.{slice_cmp}
 use Rattle.std.specs.declared.cmp.Ordering.{Ordering}
 use Rattle.std.specs.declared.cmp.Ordering.TheVariants.{Less, Greater}
-
 use Rattle.horn_rules.specs.Home.{Home, State, Env}
 use Rattle.horn_rules.specs.Fact.{Fact}
 

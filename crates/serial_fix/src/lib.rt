@@ -1,6 +1,8 @@
 //! Stub.
 #![tactic(auto)]
 
-mod run;
+mod fixpoint;
+mod lines;
 
-pub use run::{LeastAnswer, least, table};
+pub use fixpoint::{LeastAnswer, least};
+pub use lines::table;

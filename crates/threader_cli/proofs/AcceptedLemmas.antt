@@ -6,8 +6,8 @@ use Rattle.c_lex.specs.Tokens.{Lexeme, views}
 use Rattle.c_lex.specs.declared.token.Token.{Token}
 use Rattle.threader_cli.proofs.ReadingComplete.{program_complete}
 use Rattle.threader_cli.proofs.ReadingSound.{program_sound}
-use Rattle.threader_cli.specs.Accepted.{IsAccepted, is_allowed}
-use Rattle.threader_cli.specs.ProgramText.{StopsTokens}
+use Rattle.threader_cli.specs.Accepted.{is_allowed}
+use Rattle.threader_cli.specs.ProgramText.{IsAccepted, StopsTokens}
 use Rattle.threader_cli.specs.Reading.{program_at}
 use Rattle.threader_cli.specs.Refusals.{Fails}
 use Rattle.threader_cli.specs.Seen.{texts}

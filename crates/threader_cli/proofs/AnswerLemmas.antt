@@ -106,11 +106,11 @@ IsTableOf-same One Other text same written = record {
 }
 
 -- the table of what stands for the least set
-pub table-answers : (program : Program) (lists : List (List Row)) (facts held : List StoredFact) (text : List ℕ) → AreLeast program (sets_of program lists) facts
+pub table-answers : (program : Program) (lists : List (List Row)) (facts held : List StoredFact) (text : List ℕ) → AreLeast program lists facts
     → held ≡ facts → IsTableOf (λ fact. Any (λ stored. StandsFor program stored fact) held) text → AnswersProgram program lists 0 text
 table-answers program lists facts held text least are written =
     table text
-    (IsTableOf-same (λ fact. Any (λ stored. StandsFor program stored fact) facts) (Least program Rg (sets_of program lists)) text (λ fact. least.exact fact)
+    (IsTableOf-same (λ fact. Any (λ stored. StandsFor program stored fact) facts) (Least program Rg (sets_of program lists)) text (λ fact. (least.sound fact, least.complete fact))
     (subst (λ (stored : List StoredFact). IsTableOf (λ fact. Any (λ one. StandsFor program one fact) stored) text) are written))
 
 -- ---- files

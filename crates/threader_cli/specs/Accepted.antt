@@ -1,10 +1,7 @@
 -- Which texts are programs of the narrow language.
-use Rattle.std.specs.Prelude.{◌≡◌, ℕ, Bool, true, not, ◌&&◌, List, [], ◌∷◌, ◌++◌, map, length, find, is_some, Option, Some, bytes_eq, nat_le, IsTrue}
+use Rattle.std.specs.Prelude.{ℕ, Bool, true, not, ◌&&◌, List, [], ◌∷◌, ◌++◌, map, length, find, is_some, Option, Some, bytes_eq, nat_le}
 use Rattle.std.specs.List.{list_any, list_all}
-use Rattle.c_lex.specs.Tokens.{Lexeme}
 use Rattle.threader_cli.specs.Graph.{locations}
-use Rattle.threader_cli.specs.Proper.{is_proper_program, is_shallow}
-use Rattle.threader_cli.specs.Spelling.{spell_program}
 use Rattle.threader_cli.specs.Tree.{Function, Creation, Program}
 use Rattle.threader_cli.specs.Uses.{Use, uses_each, is_among, uses_only, accesses, use_fits}
 
@@ -78,10 +75,3 @@ abbrev pub is_allowed : Program → Bool
 is_allowed p =
     has_few_creations p && is_small p && text_declares p && locals_are_new p && uses_declared p && has_few_accesses p && numbers_fit p
     && main_declares p
-
--- The tokens are those of a text of the narrow language, and this is its tree.
-pub record IsAccepted (tokens : List Lexeme) (p : Program) : Type 0 where
-  pub spelled : map (λ token. token.bytes) tokens ≡ spell_program p
-  pub proper : IsTrue (is_proper_program p)
-  pub shallow : IsTrue (is_shallow p)
-  pub allowed : IsTrue (is_allowed p)

@@ -12,7 +12,7 @@ use Rattle.horn_rules.specs.Home.{homes}
 use Rattle.horn_rules.specs.Least.{Least}
 use Rattle.horn_rules.specs.Stored.{sets_of}
 use Rattle.annotation_form.specs.BadLine.{IsReadAs, IsBadLine}
-use Rattle.serial_fix.specs.Least.{IsUndecided}
+use Rattle.serial_fix.specs.Least.{Leaves}
 use Rattle.serial_fix.specs.Table.{IsTableOf}
 use Rattle.threader_cli.specs.ProgramText.{text_limit, IsProgramText, Refuses}
 use Rattle.threader_cli.specs.Refusals.{not_built}
@@ -55,7 +55,7 @@ no_predicates program = replicate (length (homes program)) []
 pub data AnswersProgram (program : Program) (lists : List (List Row)) : ℕ → List ℕ → Type 0 where
   table : (text : List ℕ) → IsTableOf (Least program Rg (sets_of program lists)) text → AnswersProgram program lists 0 text
   -- The elimination leaves a system undecided that the least set asks for.
-  leaves : IsUndecided program (sets_of program lists) → AnswersProgram program lists 4 (codes "UNKNOWN leaves\n")
+  leaves : Leaves program lists → AnswersProgram program lists 4 (codes "UNKNOWN leaves\n")
 
 -- The status and the text that follow from a program and the bytes of a file of predicates.
 pub data AnswersPredicates (program : Program) (bytes : List ℕ) : ℕ → List ℕ → Type 0 where

@@ -1,5 +1,5 @@
 -- Which bytes are the text of a program, and which rule others break.
-use Rattle.std.specs.Prelude.{◌≡◌, ◌≢◌, ℕ, List, [], find, Some, option_map, Ok, Err, codes, bytes_eq, IsOk, IsUtf8}
+use Rattle.std.specs.Prelude.{◌≡◌, ◌≢◌, ℕ, List, [], map, find, Some, option_map, Ok, Err, codes, bytes_eq, IsOk, IsUtf8, IsTrue}
 use Rattle.std.specs.Str.Lossy.{utf8_valid_len}
 use Rattle.thr_base.specs.declared.stops.Refusal.{Refusal}
 use Rattle.thr_base.specs.declared.stops.Stop.{Stop}
@@ -7,9 +7,11 @@ use Rattle.thr_base.specs.declared.stops.Stop.TheVariants.{Refused, Memory}
 use Rattle.c_lex.specs.Tokens.{Lexeme, lexed}
 use Rattle.c_tree.specs.Item.{parsed}
 use Rattle.transition_formula.specs.Program.{Program}
-use Rattle.threader_cli.specs.Accepted.{IsAccepted}
+use Rattle.threader_cli.specs.Accepted.{is_allowed}
 use Rattle.threader_cli.specs.Data.{data_of}
+use Rattle.threader_cli.specs.Proper.{is_proper_program, is_shallow}
 use Rattle.threader_cli.specs.Refusals.{not_built}
+use Rattle.threader_cli.specs.Spelling.{spell_program}
 use Rattle.threader_cli.specs.Tree as tree
 
 -- how many bytes a text may have
@@ -25,6 +27,13 @@ pub record IsText (bytes : List ℕ) (tokens : List Lexeme) : Type 0 where
   pub utf8 : IsUtf8 bytes
   pub grammatical : IsOk (parsed bytes)
   pub tokens_are : lexed bytes ≡ Ok tokens
+
+-- The tokens are those of a text of the narrow language, and this is its tree.
+pub record IsAccepted (tokens : List Lexeme) (p : tree.Program) : Type 0 where
+  pub spelled : map (λ token. token.bytes) tokens ≡ spell_program p
+  pub proper : IsTrue (is_proper_program p)
+  pub shallow : IsTrue (is_shallow p)
+  pub allowed : IsTrue (is_allowed p)
 
 -- The bytes are a text of the narrow language, these are its tokens, and this is its tree.
 pub record Spells (bytes : List ℕ) (tokens : List Lexeme) (p : tree.Program) : Type 0 where

@@ -18,7 +18,9 @@ use transition_formula::Program;
 /// How many bytes the text of a program or of predicates may have.
 const TEXT_LIMIT: u32 = 1_048_576;
 
-/// The refusal of predicates for a program of more than one thread.
+/// How many threads a program may have for which predicates are given.
+const MOST_THREADS: u32 = 1;
+
 const SECOND_THREAD: Refusal = Refusal { code: 14, place: 0 };
 
 /// All that the program does for its words: the answer goes to the sink, and the result is the status.
@@ -88,7 +90,7 @@ fn answer_files<S: Store>(
     };
     match files.predicates {
         None => alone(alloc, &program),
-        Some(_) if program.threads() > 1 => refused(alloc, SECOND_THREAD),
+        Some(_) if program.threads() > MOST_THREADS => refused(alloc, SECOND_THREAD),
         Some(name) => second(alloc, &program, name, store),
     }
 }

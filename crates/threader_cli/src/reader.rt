@@ -2,8 +2,7 @@
 
 ghost use Rattle.std.specs.Prelude.{◌≡◌, ◌≤◌, length, codes, bytes_eq, find, option_map, IsUtf8, IsSome, IfOk, IfErr};
 ghost use Rattle.c_lex.specs.Tokens.{views};
-ghost use Rattle.threader_cli.specs.Accepted.{IsAccepted};
-ghost use Rattle.threader_cli.specs.ProgramText.{text_limit, IsText, IsProgramText, StopsBytes, StopsTokens};
+ghost use Rattle.threader_cli.specs.ProgramText.{text_limit, IsText, IsAccepted, IsProgramText, StopsBytes, StopsTokens};
 ghost use Rattle.threader_cli.specs.Seen.{program_of};
 
 use crate::accept::is_accepted;

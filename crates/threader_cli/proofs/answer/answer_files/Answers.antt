@@ -36,7 +36,7 @@ returns-in-Some g c =
     let within : length c.in-Ok.bytes.items ≤ text_limit = omega (arith, c.in-Ok.ensures.within, c.in-Ok.bytes.ok.0) in
     let has = has_program (g.S.Store.meaning c.args.store.now) c.args.files.now.program.now c.in-Ok.bytes.items c.deref.result.now c.in-Ok-read_program.program within
     c.in-Ok.ensures.whole c.deref.ensures.value c.in-Ok-read_program.ensures.program in
-    let more : 1 < length c.in-Ok-read_program.program.threads = omega (arith, c.if-threads-gt1.true, c.threads.ensures.threads) in
+    let more : 1 < length c.in-Ok-read_program.program.threads = omega (arith, c.if-threads-gt-MOST_THREADS.true, c.threads.ensures.threads) in
     second_thread-files _ _ c.in-Some.field-0.now c.refused-in-Some.result (ap (option_map (λ (name : Bor (List ℕ)). name.now)) c.in-Some.is) has more c.refused-in-Some.ensures
 
 pub returns : goal.returns
@@ -44,5 +44,5 @@ returns g c =
     let within : length c.in-Ok.bytes.items ≤ text_limit = omega (arith, c.in-Ok.ensures.within, c.in-Ok.bytes.ok.0) in
     let has = has_program (g.S.Store.meaning c.args.store.now) c.args.files.now.program.now c.in-Ok.bytes.items c.deref.result.now c.in-Ok-read_program.program within
     c.in-Ok.ensures.whole c.deref.ensures.value c.in-Ok-read_program.ensures.program in
-    let one : length c.in-Ok-read_program.program.threads ≤ 1 = omega (arith, c.if-threads-gt1.false, c.threads.ensures.threads) in
+    let one : length c.in-Ok-read_program.program.threads ≤ 1 = omega (arith, c.if-threads-gt-MOST_THREADS.false, c.threads.ensures.threads) in
     with_second-files _ _ c.in-Some-2.name.now c.second.result (ap (option_map (λ (name : Bor (List ℕ)). name.now)) c.in-Some-2.is) has one c.read_all.ensures.kept c.second.ensures
