@@ -1,6 +1,8 @@
 pub mod AcceptLemmas
+pub mod AcceptedLemmas
 pub mod AccessLemmas
 pub mod AllowedLemmas
+pub mod AnswerLemmas
 pub mod BodyLemmas
 pub mod ColumnLemmas
 pub mod DataLemmas
@@ -15,6 +17,7 @@ pub mod NameLemmas
 pub mod NumberLemmas
 pub mod PlaceLemmas
 pub mod ProgramColumns
+pub mod ReaderLemmas
 pub mod ReadingComplete
 pub mod ReadingShrinks
 pub mod ReadingSound
@@ -26,3 +29,4 @@ pub mod StatementSound
 pub mod TextLemmas
 pub mod UseLemmas
 pub mod WordLemmas
+pub mod WordsLemmas

@@ -78,17 +78,3 @@ abbrev pub is_allowed : Program → Bool
 is_allowed p =
     has_few_creations p && is_small p && text_declares p && locals_are_new p && uses_declared p && has_few_accesses p && numbers_fit p
     && main_declares p
-
--- The tokens are those of a text of the narrow language, and this is its tree.
-pub record IsAccepted (tokens : List Lexeme) (p : Program) : Type 0 where
-  pub spelled : map (λ token. token.bytes) tokens ≡ spell_program p
-  pub proper : IsTrue (is_proper_program p)
-  pub shallow : IsTrue (is_shallow p)
-  pub few_creations : IsTrue (has_few_creations p)
-  pub small : IsTrue (is_small p)
-  pub text_declared : IsTrue (text_declares p)
-  pub locals_new : IsTrue (locals_are_new p)
-  pub uses_known : IsTrue (uses_declared p)
-  pub few_accesses : IsTrue (has_few_accesses p)
-  pub sums_fit : IsTrue (numbers_fit p)
-  pub main_declared : IsTrue (main_declares p)

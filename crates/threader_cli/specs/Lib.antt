@@ -1,10 +1,12 @@
 pub mod Accepted
+pub mod Answer
 pub mod Checks
 pub mod Comparison
 pub mod Data
 pub mod Form
 pub mod Graph
 pub mod Limits
+pub mod ProgramText
 pub mod Proper
 pub mod Reading
 pub mod Refusals

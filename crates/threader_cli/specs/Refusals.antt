@@ -4,7 +4,7 @@ use Rattle.thr_base.specs.declared.stops.Refusal.{Refusal}
 use Rattle.thr_base.specs.declared.stops.Stop.{Stop}
 use Rattle.thr_base.specs.declared.stops.Stop.TheVariants.{Refused, Memory}
 
--- the refusal of a text that is none of the narrow language
+-- the refusal of what is not taken yet
 abbrev pub not_built : Refusal
 not_built = record { code = 14; place = 0 }
 

@@ -1,7 +1,8 @@
-//! What the program does, over stores and sinks: reads words and a text, and writes the answer.
+//! What the program does, over stores and sinks: reads words and texts, and writes the answer.
 #![tactic(auto)]
 
 mod accept;
+mod answer;
 mod cursor;
 mod data;
 mod edges;
@@ -11,8 +12,12 @@ mod graph;
 mod limit;
 mod names;
 mod program;
+mod reader;
 mod scope;
 mod statement;
 mod tree;
 mod uses;
 mod word;
+mod words;
+
+pub use answer::threader_serial;

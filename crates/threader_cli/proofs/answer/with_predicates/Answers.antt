@@ -1,0 +1,19 @@
+use Rattle.std.proofs.Common.{Err, subst}
+use Rattle.thr_base.specs.declared.stops.LineStop.{LineStop}
+use Rattle.annotation_form.specs.BadLine.{IsReadAnswer}
+use Rattle.threader_cli.proofs.AnswerLemmas.{said, passed, IsReadAs-stored}
+use Rattle.threader_cli.specs.Answer.{AnswersProgram, AnswersPredicates, bad_line, read}
+use Rattle.threader_cli.proofs.answer.with_predicates.Goals as goal
+
+pub tables-requires : goal.tables-requires
+tables-requires c = IsReadAs-stored c.args.program.now c.args.bytes.now c.in-Ok.sets c.in-Ok.ensures.answer
+
+pub returns-in-Ok : goal.returns-in-Ok
+returns-in-Ok c =
+    passed (AnswersProgram c.args.program.now c.in-Ok.sets) (AnswersPredicates c.args.program.now c.args.bytes.now) c.tables.result
+    (λ status text answers. read c.in-Ok.sets status text c.in-Ok.ensures.answer answers) c.tables.ensures
+
+pub returns-in-Err-BadLine : goal.returns-in-Err-BadLine
+returns-in-Err-BadLine c =
+    let bad = subst (λ (stop : LineStop). IsReadAnswer c.args.program.now c.args.bytes.now (Err stop)) c.in-Err-BadLine.field-0-is c.in-Err-BadLine.ensures.answer in
+    said (AnswersPredicates c.args.program.now c.args.bytes.now) c.bad_line.result 3 _ c.bad_line.ensures (bad_line c.in-Err-BadLine.line bad)
