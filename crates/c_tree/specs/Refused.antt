@@ -1,4 +1,4 @@
--- Where a text is refused: its tokens up to there, and the one that stands there, begin no text of the grammar.
+-- Where a text is refused: its tokens up to there begin a text of the grammar, and with the one that stands there begin none.
 use Rattle.std.specs.Prelude.{◌≡◌, ◌⊎◌, ℕ, List, [], ◌∷◌, ◌++◌, length, Result, Ok, Err}
 use Rattle.thr_base.specs.declared.stops.Refusal.{Refusal}
 use Rattle.thr_base.specs.declared.stops.Stop.{Stop}
@@ -21,16 +21,25 @@ SameNext (t ∷ ts) (u ∷ us) = t ≡ u
 abbrev pub NoTreeGoesOn : ℕ → List Lexeme → List Lexeme → Type 0
 NoTreeGoesOn levels front rest = (us : List Lexeme) (t : Tree) → SameNext rest us → IsTreeWithin levels t (front ++ us) → ⊥
 
+-- Some tree, within some number of levels, has tokens that begin with these.
+abbrev pub BeginATree : List Lexeme → Type 0
+BeginATree front = (levels : ℕ) × (us : List Lexeme) × (t : Tree) × IsTreeWithin levels t (front ++ us)
+
+-- Some tree, within some number of levels, has tokens that begin with those in front, and behind them have the same next
+-- token as the rest.
+abbrev pub ATreeGoesOn : List Lexeme → List Lexeme → Type 0
+ATreeGoesOn front rest = (levels : ℕ) × (us : List Lexeme) × (t : Tree) × SameNext rest us × IsTreeWithin levels t (front ++ us)
+
 -- What is said of the next token, in a text of so many bytes, is so: no tree goes on with it, with however many levels;
--- or it opens a level too many, and no tree within the levels of the profile goes on with it.
+-- or it opens a level too many, where no tree within the levels of the profile goes on with it, and one with more does.
 abbrev pub IsSaidOf : ℕ → Refusal → List Lexeme → List Lexeme → Type 0
 IsSaidOf end d front rest =
     ((d ≡ refusal (record { tokens = rest; end = end })) × ((levels : ℕ) → NoTreeGoesOn levels front rest))
-    ⊎ ((d ≡ too_deep (record { tokens = rest; end = end })) × NoTreeGoesOn max_levels front rest)
+    ⊎ ((d ≡ too_deep (record { tokens = rest; end = end })) × NoTreeGoesOn max_levels front rest × ATreeGoesOn front rest)
 
--- The tokens of a text of so many bytes are refused at one of them, or at their end.
+-- The tokens of a text of so many bytes are refused at one of them, or at their end, and those in front begin a tree.
 abbrev pub IsRefusedWith : ℕ → List Lexeme → Refusal → Type 0
-IsRefusedWith end tokens d = (front : List Lexeme) × (rest : List Lexeme) × (tokens ≡ front ++ rest) × IsSaidOf end d front rest
+IsRefusedWith end tokens d = (front : List Lexeme) × (rest : List Lexeme) × (tokens ≡ front ++ rest) × BeginATree front × IsSaidOf end d front rest
 
 -- Where an answer refuses a text that has tokens, they are refused so.
 abbrev pub IsRefusedBy : List ℕ → Result Tree Stop → Type 0
