@@ -1,10 +1,10 @@
 -- Where a parser refuses a token, those in front of it begin some that another reads, which has more levels.
-use Rattle.std.proofs.Common.{◌≡◌, ℕ, Bool, true, false, List, [], ◌∷◌, ◌++◌, Ok, Err, refl, sym, ap, subst, ◌∙◌, append_assoc}
+use Rattle.std.proofs.Common.{◌≡◌, ℕ, Bool, true, List, [], ◌∷◌, ◌++◌, Ok, Err, refl, sym, ap, subst, ◌∙◌, append_assoc}
 use Rattle.std.proofs.Math.Logic.{◌⊎◌, inl, inr}
 use Rattle.thr_base.specs.declared.stops.Refusal.{Refusal}
 use Rattle.c_lex.specs.Tokens.{Lexeme}
 use Rattle.c_tree.specs.declared.term.Term.{Term}
-use Rattle.c_tree.specs.Input.{Input, Outcome, Parser, and_then, ◌>>=◌, term_at, refusal, too_deep}
+use Rattle.c_tree.specs.Input.{Input, Parser, ◌>>=◌, term_at, refusal, too_deep}
 use Rattle.c_tree.specs.Refused.{SameNext}
 use Rattle.c_tree.proofs.Steps.{bind_ok}
 use Rattle.c_tree.proofs.Again.{at}
@@ -69,11 +69,11 @@ pub record Completes {A : Type 0} (p q : Parser A) (us : List Lexeme) (C : Term 
 
 -- ---- lists
 
-pub none_front : (front rest : List Lexeme) → front ++ rest ≡ [] → front ≡ []
+none_front : (front rest : List Lexeme) → front ++ rest ≡ [] → front ≡ []
 none_front [] rest e = refl
 none_front (t ∷ front) rest e = absurd cc
 
-pub none_back : (front rest : List Lexeme) → front ++ rest ≡ [] → rest ≡ []
+none_back : (front rest : List Lexeme) → front ++ rest ≡ [] → rest ≡ []
 none_back [] rest e = e
 none_back (t ∷ front) rest e = absurd cc
 

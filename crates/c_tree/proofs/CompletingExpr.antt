@@ -1,5 +1,5 @@
 -- Expressions, and what completes them, with more levels.
-use Rattle.std.proofs.Common.{◌≡◌, ℕ, zero, suc, ◌<◌, ◌≤◌, ℤ, pos, true, Bool, nat_lt, List, [], ◌∷◌, ◌++◌, Option, Some, None, codes, refl, ap, ◌∙◌, arith}
+use Rattle.std.proofs.Common.{◌≡◌, ℕ, zero, suc, ◌<◌, ◌≤◌, ℤ, pos, true, Bool, nat_lt, List, [], ◌∷◌, Option, Some, None, codes, refl, arith}
 use Rattle.std.proofs.lemmas.Bool.{lt-ltb, ltb-true}
 use Rattle.c_lex.specs.Tokens.{Lexeme}
 use Rattle.c_tree.specs.declared.term.Term.{Term}
@@ -15,18 +15,16 @@ use Rattle.c_tree.specs.declared.expr.Unary.{Unary}
 use Rattle.c_tree.specs.declared.expr.Unary.TheVariants as unaries
 use Rattle.c_tree.specs.declared.expr.UnaryKind.{UnaryKind}
 use Rattle.c_tree.specs.declared.expr.UnaryKind.TheVariants as signs
-use Rattle.c_tree.specs.Term.{term_of}
-use Rattle.c_tree.specs.Input.{Parser, ◌>>=◌, ◌>>◌, pure, refuse, here, look, take_token, expect, bytes, term_at}
-use Rattle.c_tree.specs.Chain.{more_of}
+use Rattle.c_tree.specs.Input.{Parser, ◌>>=◌, pure, refuse, expect, bytes}
 use Rattle.c_tree.specs.Expr as spec
 use Rattle.c_tree.specs.Grammar.{binds}
 use Rattle.c_tree.proofs.Shrinks.{Shrinks, product_shrinks, sum_shrinks, relation_shrinks, equality_shrinks, conjunction_shrinks, unary_shrinks}
 use Rattle.c_tree.proofs.Sizes.{refuse_shrinks}
-use Rattle.c_tree.proofs.Again.{no_product_mark, no_sum_mark, no_relation_mark, no_equality_mark, no_and_mark, no_or_mark, name_again, number_again}
+use Rattle.c_tree.proofs.Again.{no_product_mark, no_sum_mark, no_relation_mark, no_equality_mark, no_and_mark, no_or_mark, name_again}
 use Rattle.c_tree.proofs.NextToken.{seeing, views_bytes}
-use Rattle.c_tree.proofs.Completing.{any, Fills, Leads, FinishesAt, Completes, bind, bind_at, fill_bind}
+use Rattle.c_tree.proofs.Completing.{any, Fills, FinishesAt, Completes, bind}
 use Rattle.c_tree.proofs.Fillers.{IsToken, is_there, name_token, zero_token, close_token, is_zero, is_name, is_close}
-use Rattle.c_tree.proofs.CompletingSteps.{something, leads_any, leads_none, leads_token, not_read, filled, same_completes, pure_completes, refuse_at, seen_some, Branches, looked, looked_fill, placed, Takes, taking, deep_at, expect_completes, wanted, ended}
+use Rattle.c_tree.proofs.CompletingSteps.{something, leads_any, leads_none, leads_token, not_read, filled, same_completes, pure_completes, refuse_at, seen_some, Branches, looked, looked_fill, placed, Takes, taking, deep_at, wanted, ended}
 use Rattle.c_tree.proofs.CompletingLoops.{more_completes}
 
 abbrev pub zero_fill : List Lexeme
@@ -102,7 +100,7 @@ module _ (p q : Parser Unary) (shrinks : Shrinks p) (deeper : Shrinks q) (operan
   conjunction_completes = placed (λ from. bind equality_completes (leads_none (looser_less 2 3 (omega arith))) (λ first. bind (more_completes spec.and_mark (spec.equality p) (spec.equality q) zero_fill (looser 3) (looser 2) (λ n. refl) (equality_shrinks p shrinks) (equality_shrinks q deeper) equality_completes (looser_less 2 3 (omega arith)) (λ k n so. no_and_mark k n (looser_lt 2 k so)))
       (leads_none (λ k so. so)) (λ more. pure_completes (roll-Conjunction (record { from = from; first = first; more = more })))))
 
-  pub expr_over_completes : Completes (spec.expr_over p) (spec.expr_over q) zero_fill (looser 1)
+  expr_over_completes : Completes (spec.expr_over p) (spec.expr_over q) zero_fill (looser 1)
   unfolding spec.expr_over
   expr_over_completes = placed (λ from. bind conjunction_completes (leads_none (looser_less 1 2 (omega arith))) (λ first. bind (more_completes spec.or_mark (spec.conjunction p) (spec.conjunction q) zero_fill (looser 2) (looser 1) (λ n. refl) (conjunction_shrinks p shrinks) (conjunction_shrinks q deeper) conjunction_completes (looser_less 1 2 (omega arith)) (λ k n so. no_or_mark k n (looser_lt 1 k so)))
       (leads_none (λ k so. so)) (λ more. pure_completes (roll-Expr (record { from = from; first = first; more = more })))))
@@ -124,7 +122,7 @@ unary_with_fill : (deeper : Option (Parser Unary)) → Fills (spec.unary_with de
 unfolding spec.unary_with
 unary_with_fill deeper = looked_fill (spec.unary_by deeper) terms.Number is_zero.is number_operand_completes.fill
 
-pub unary_fill : (levels : ℕ) → Fills (spec.unary levels) zero_fill any
+unary_fill : (levels : ℕ) → Fills (spec.unary levels) zero_fill any
 unfolding spec.unary
 unary_fill zero = unary_with_fill None
 unary_fill (suc levels) = unary_with_fill (Some (spec.unary levels))

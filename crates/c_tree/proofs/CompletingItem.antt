@@ -1,5 +1,5 @@
 -- Whole texts, and what completes them, with more levels.
-use Rattle.std.proofs.Common.{◌≡◌, ℕ, suc, ◌<◌, Bool, true, false, not, List, [], ◌∷◌, Some, None, Ok, refl, ap, ◌∙◌, arith}
+use Rattle.std.proofs.Common.{◌≡◌, ℕ, suc, ◌<◌, Bool, true, false, List, [], ◌∷◌, Some, None, refl, ap, arith}
 use Rattle.c_lex.specs.Tokens.{Lexeme}
 use Rattle.c_tree.specs.declared.term.Term.{Term}
 use Rattle.c_tree.specs.declared.term.Term.TheVariants as terms
@@ -13,13 +13,12 @@ use Rattle.c_tree.specs.declared.item.Mainfn.{Mainfn}
 use Rattle.c_tree.specs.declared.item.Threadfn.{Threadfn}
 use Rattle.c_tree.specs.declared.item.Proto.{Proto}
 use Rattle.c_tree.specs.declared.item.Typed.TheVariants as typeds
-use Rattle.c_tree.specs.declared.item.Untyped.{Untyped}
 use Rattle.c_tree.specs.declared.item.Untyped.TheVariants as untypeds
 use Rattle.c_tree.specs.declared.item.Body.TheVariants as bodies
 use Rattle.c_tree.specs.declared.item.Item.{Item}
 use Rattle.c_tree.specs.declared.item.Tree.{Tree}
-use Rattle.c_tree.specs.Term.{same_term, term_of}
-use Rattle.c_tree.specs.Input.{Input, Parser, ◌>>=◌, ◌>>◌, pure, expect, peek, sees, term_at}
+use Rattle.c_tree.specs.Term.{same_term}
+use Rattle.c_tree.specs.Input.{Input, Parser, ◌>>=◌, pure, expect, peek, sees, term_at}
 use Rattle.c_tree.specs.Expr as expr_spec
 use Rattle.c_tree.specs.Simple as simple_spec
 use Rattle.c_tree.specs.Stmt as stmt_spec
@@ -27,10 +26,10 @@ use Rattle.c_tree.specs.Item as spec
 use Rattle.c_tree.proofs.StmtSizes.{stmt_shrinks}
 use Rattle.c_tree.proofs.ItemSizes.{gname_shrinks, mname_shrinks, item_shrinks}
 use Rattle.c_tree.proofs.Again.{at, same_self}
-use Rattle.c_tree.proofs.AgainParts.{closes, not_assign}
+use Rattle.c_tree.proofs.AgainParts.{closes}
 use Rattle.c_tree.proofs.NextToken.{Views, views_peek, views_sees, seeing}
 use Rattle.c_tree.proofs.Completing.{Meets, any, Fills, FinishesAt, Completes, bind}
-use Rattle.c_tree.proofs.Fillers.{is_there, zero_token, name_token, int_token, start_token, mutex_token, handle_token, abort_token, open_token, close_token, left_token, right_token, semicolon, is_zero, is_name, is_int, is_mutex_start, is_mutex, is_handle, is_abort, is_open, is_close, is_left, is_semicolon}
+use Rattle.c_tree.proofs.Fillers.{is_there, name_token, int_token, mutex_token, handle_token, abort_token, open_token, close_token, left_token, right_token, semicolon, is_zero, is_name, is_int, is_mutex_start, is_mutex, is_handle, is_abort, is_open, is_close, is_left, is_semicolon}
 use Rattle.c_tree.proofs.CompletingSteps.{something, leads_any, leads_none, leads_token, filled, same_completes, pure_completes, refuse_at, seen_some, see_at, Branches, looked, placed, Takes, taking, taken_then, wanted, ended, is_not, eaten}
 use Rattle.c_tree.proofs.CompletingLoops.{only, more_completes, many_completes}
 use Rattle.c_tree.proofs.CompletingSkips.{quals_completes, skip_completes}

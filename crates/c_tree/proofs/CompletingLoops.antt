@@ -1,18 +1,18 @@
 -- Repetitions, and what completes them.
-use Rattle.std.proofs.Common.{◌≡◌, ℕ, zero, suc, ◌+◌, ◌<◌, ◌≤◌, Bool, true, false, List, [], ◌∷◌, ◌++◌, length, Option, Some, None, is_none, Ok, refl, sym, ap, ◌∙◌, arith}
+use Rattle.std.proofs.Common.{◌≡◌, ℕ, zero, suc, ◌<◌, ◌≤◌, Bool, true, false, List, [], ◌∷◌, ◌++◌, length, Option, Some, None, Ok, refl, ◌∙◌, arith}
 use Rattle.c_lex.specs.Tokens.{Lexeme}
 use Rattle.c_tree.specs.declared.term.Term.{Term}
 use Rattle.c_tree.specs.Term.{same_term}
-use Rattle.c_tree.specs.Input.{Input, Parser, ◌>>=◌, ◌>>◌, pure, take_token, peek, place, next, sees, term_at}
-use Rattle.c_tree.specs.Chain.{mark_at, more_from, more_of}
+use Rattle.c_tree.specs.Input.{Input, Parser, ◌>>=◌, pure, take_token, peek, place, sees, term_at}
+use Rattle.c_tree.specs.Chain.{mark_at, more_of}
 use Rattle.c_tree.specs.Many.{many}
 use Rattle.c_tree.proofs.Shrinks.{Shrinks, NoMarkAtEnd}
 use Rattle.c_tree.proofs.Again.{at}
-use Rattle.c_tree.proofs.NextToken.{Views, views_sees, seeing}
-use Rattle.c_tree.proofs.Unrolled.{views_mark, taken_there, seen_there, marked_shorter, more_none, more_if, more_same_by, many_if, many_same}
+use Rattle.c_tree.proofs.NextToken.{views_sees, seeing}
+use Rattle.c_tree.proofs.Unrolled.{views_mark, taken_there, marked_shorter, more_none, more_if, more_same_by, many_if, many_same}
 use Rattle.c_tree.proofs.Completing.{Meets, any, Fills, Leads, FinishesAt, Completes, bind_at, fill_bind}
 use Rattle.c_tree.proofs.Fillers.{semicolon}
-use Rattle.c_tree.proofs.CompletingSteps.{something, some_not_none, filled, leads_any, same_finish, pure_completes, see_at, take_at}
+use Rattle.c_tree.proofs.CompletingSteps.{something, filled, leads_any, same_finish, pure_completes, see_at, take_at}
 
 -- ---- marks and items
 

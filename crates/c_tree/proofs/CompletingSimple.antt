@@ -1,5 +1,5 @@
 -- The parts of statements, and what completes them, with more levels.
-use Rattle.std.proofs.Common.{◌≡◌, ℕ, ◌<◌, Bool, true, false, not, cond, List, [], ◌∷◌, Option, Some, None, refl, ap, ◌∙◌, arith}
+use Rattle.std.proofs.Common.{◌≡◌, ℕ, ◌<◌, Bool, true, false, not, cond, List, [], ◌∷◌, Some, None, refl, ap}
 use Rattle.std.proofs.lemmas.Bool.{lt-ltb}
 use Rattle.c_lex.specs.Tokens.{Lexeme}
 use Rattle.c_tree.specs.declared.term.Term.{Term}
@@ -19,7 +19,7 @@ use Rattle.c_tree.specs.declared.simple.Lname.{Lname}
 use Rattle.c_tree.specs.declared.simple.Local.{Local}
 use Rattle.c_tree.specs.declared.simple.Handles.{Handles}
 use Rattle.c_tree.specs.Term.{same_term, term_of}
-use Rattle.c_tree.specs.Input.{Input, Parser, ◌>>=◌, ◌>>◌, pure, look, take_token, expect, peek, bytes, term_at}
+use Rattle.c_tree.specs.Input.{Input, Parser, ◌>>=◌, pure, look, take_token, expect, peek, bytes, term_at}
 use Rattle.c_tree.specs.Chain.{more_of}
 use Rattle.c_tree.specs.Expr as expr_spec
 use Rattle.c_tree.specs.Simple as spec
@@ -29,8 +29,8 @@ use Rattle.c_tree.proofs.Sizes.{lname_shrinks}
 use Rattle.c_tree.proofs.Again.{at, same_self}
 use Rattle.c_tree.proofs.AgainParts.{closes, closes_binds, not_assign}
 use Rattle.c_tree.proofs.NextToken.{Views, views_peek, views_bytes, seeing}
-use Rattle.c_tree.proofs.Completing.{any, Fills, Leads, FinishesAt, Completes, bind, fill_bind}
-use Rattle.c_tree.proofs.Fillers.{IsToken, zero_token, name_token, int_token, null_token, nondet_token, handle_token, abort_token, open_token, close_token, semicolon, comma_token, address_token, increment_token, is_zero, is_name, is_int, is_null, is_nondet, is_handle, is_abort, is_open, is_close, is_semicolon, is_comma, is_address, is_increment}
+use Rattle.c_tree.proofs.Completing.{any, Fills, FinishesAt, Completes, bind, fill_bind}
+use Rattle.c_tree.proofs.Fillers.{IsToken, zero_token, name_token, int_token, nondet_token, abort_token, open_token, close_token, semicolon, comma_token, address_token, increment_token, is_zero, is_name, is_int, is_null, is_nondet, is_abort, is_open, is_close, is_semicolon, is_comma, is_address, is_increment}
 use Rattle.c_tree.proofs.CompletingSteps.{something, leads_any, leads_none, leads_token, filled, closer, same_completes, pure_completes, refuse_at, seen_some, Branches, looked, looked_fill, placed, placed_fill, Takes, taking, take_fill, expect_completes, wanted, ended, is_not, eaten}
 use Rattle.c_tree.proofs.CompletingLoops.{only, more_completes}
 use Rattle.c_tree.proofs.CompletingSkips.{no_qual, quals_completes, qual_fill}
@@ -194,7 +194,7 @@ module _ (n m : ℕ) (lt : n < m) where
   right_branches terms.Nondet end ts is = filled ((bind nondet_completes leads_any (λ e. pure_completes {C = closes} (rights.Nondet e))).there end ts)
   right_branches _ end ts is = filled (right_expr.there end ts)
 
-  pub right_completes : Completes (spec.right n) (spec.right m) zero_fill closes
+  right_completes : Completes (spec.right n) (spec.right m) zero_fill closes
   unfolding spec.right
   right_completes = looked right_branches terms.Number is_zero.is right_expr.fill
 

@@ -1,21 +1,21 @@
 -- Words in front of a type and tokens that are skipped, and what completes them.
-use Rattle.std.proofs.Common.{◌≡◌, ℕ, zero, suc, ◌+◌, ◌<◌, ◌≤◌, Bool, true, false, cond, List, [], ◌∷◌, ◌++◌, map, length, Option, Some, None, Ok, refl, sym, ap, subst, ◌∙◌, arith}
+use Rattle.std.proofs.Common.{◌≡◌, ℕ, zero, suc, ◌<◌, ◌≤◌, Bool, true, false, cond, List, [], ◌∷◌, ◌++◌, map, length, Option, Some, None, refl, ap, subst, ◌∙◌, arith}
 use Rattle.c_lex.specs.Tokens.{Lexeme}
 use Rattle.c_tree.specs.declared.term.Term.{Term}
 use Rattle.c_tree.specs.declared.term.Term.TheVariants as terms
 use Rattle.c_tree.specs.declared.simple.Qual.{Qual}
 use Rattle.c_tree.specs.Term.{same_term, term_of}
-use Rattle.c_tree.specs.Input.{Parser, Outcome, ◌>>=◌, ◌>>◌, pure, take_token, peek, place, next, term_at}
+use Rattle.c_tree.specs.Input.{◌>>=◌, pure, take_token, peek, place, next, term_at}
 use Rattle.c_tree.specs.Chain.{mark_at}
-use Rattle.c_tree.specs.Simple.{qual_mark, quals_from, quals}
-use Rattle.c_tree.specs.Item.{closed_by, open_after, skip_through}
+use Rattle.c_tree.specs.Simple.{qual_mark, quals}
+use Rattle.c_tree.specs.Item.{open_after, skip_through}
 use Rattle.c_tree.proofs.Again.{at}
 use Rattle.c_tree.proofs.Skipping.{none_left}
 use Rattle.c_tree.proofs.NextToken.{seeing}
 use Rattle.c_tree.proofs.Unrolled.{views_mark, taken_there, marked_shorter, no_qual_at_end, quals_none, quals_if, quals_same_by, skip_all, opened_shorter, skip_if, skip_same_by, opens, views_opens}
 use Rattle.c_tree.proofs.Completing.{Meets, any, Fills, Leads, FinishesAt, Completes, bind_at, fill_bind}
 use Rattle.c_tree.proofs.Fillers.{close_token, right_token, semicolon, is_close, is_right}
-use Rattle.c_tree.proofs.CompletingSteps.{something, filled, leads_any, same_finish, pure_completes, refuse_at, see_at, take_at, take_fill, some_not_none}
+use Rattle.c_tree.proofs.CompletingSteps.{something, filled, leads_any, same_finish, pure_completes, refuse_at, see_at, take_at, some_not_none}
 
 -- ---- words in front of a type
 

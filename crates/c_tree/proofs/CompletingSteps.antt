@@ -8,10 +8,10 @@ use Rattle.c_tree.specs.declared.term.Term.TheVariants as terms
 use Rattle.c_tree.specs.Term.{same_term, term_of}
 use Rattle.c_tree.specs.Input.{Input, Outcome, Parser, and_then, ◌>>=◌, ◌>>◌, pure, refuse, refuse_deep, look, here, take_token, eat, peek, place, next, sees, after, expect, term_at, refusal, too_deep}
 use Rattle.c_tree.proofs.Steps.{ok_parts, not_err}
-use Rattle.c_tree.proofs.Again.{at, same_self, expect_again}
+use Rattle.c_tree.proofs.Again.{at, same_self}
 use Rattle.c_tree.proofs.NextToken.{Views, seeing, views_peek, views_place, views_sees, views_refusal, views_too_deep, ok_not_err, err_parts}
 use Rattle.c_tree.proofs.Fillers.{IsToken, is_there, semicolon}
-use Rattle.c_tree.proofs.Completing.{Meets, any, Fills, Leads, Kept, Says, AtOnce, Stopped, FinishesAt, Completes, front_next, onto, bind_at, bind, fill_bind}
+use Rattle.c_tree.proofs.Completing.{Meets, any, Fills, Leads, AtOnce, Stopped, FinishesAt, Completes, front_next, onto, bind_at, bind, fill_bind}
 
 -- ---- what begins, and where
 
@@ -29,10 +29,16 @@ abbrev pub something : List Lexeme
 something = semicolon ∷ []
 
 -- what finishes in front of more kinds, or for another filler
-pub change_at : {A : Type 0} {p q : Parser A} {us ws : List Lexeme} {C D : Term → Bool} {end : ℕ} {ts : List Lexeme} → (us ≡ [] → ws ≡ []) → ((k : Term) → D k ≡ true → C k ≡ true) → FinishesAt p q us C end ts → FinishesAt p q ws D end ts
+change_at : {A : Type 0} {p q : Parser A} {us ws : List Lexeme} {C D : Term → Bool} {end : ℕ} {ts : List Lexeme} → (us ≡ [] → ws ≡ []) → ((k : Term) → D k ≡ true → C k ≡ true) → FinishesAt p q us C end ts → FinishesAt p q ws D end ts
 change_at {A} {p} {q} {us} {ws} {C} {D} {end} {ts} none less first = record {
   keeps = λ x j e. (let k = first.keeps x j e in record {
-    front = k.front; rest = k.rest; splits = k.splits; leaves = k.leaves; some = λ is. none (k.some is); again = k.again; deeper = k.deeper;
+    front = k.front;
+    rest = k.rest;
+    splits = k.splits;
+    leaves = k.leaves;
+    some = λ is. none (k.some is);
+    again = k.again;
+    deeper = k.deeper;
     closed = λ tail meets. k.closed tail (less (term_at tail) meets);
   });
   stops = λ d e. go d (first.stops d e);
@@ -41,7 +47,14 @@ change_at {A} {p} {q} {us} {ws} {C} {D} {end} {ts} none less first = record {
     go : (d : Refusal) → AtOnce p end ts d ⊎ Stopped p q C end ts d → AtOnce p end ts d ⊎ Stopped p q D end ts d
     go d (inl once) = inl once
     go d (inr s) = inr (record {
-      front = s.front; rest = s.rest; more = s.more; value = s.value; splits = s.splits; says = s.says; again = s.again; begins = s.begins;
+      front = s.front;
+      rest = s.rest;
+      more = s.more;
+      value = s.value;
+      splits = s.splits;
+      says = s.says;
+      again = s.again;
+      begins = s.begins;
       reads = λ tail meets. s.reads tail (less (term_at tail) meets);
     })
 
@@ -57,14 +70,15 @@ closer {A} {p} {q} {us} {C} {D} less first = record {
   there = λ end ts. change_at (λ none. none) less (first.there end ts);
 }
 
-pub with_any : {A : Type 0} {p q : Parser A} {us : List Lexeme} {D : Term → Bool} → Completes p q us any → Completes p q us D
-with_any first = closer (λ k so. refl) first
-
 -- what do the same as parsers that finish
 pub same_finish : {A : Type 0} {us : List Lexeme} {C : Term → Bool} {end : ℕ} {ts : List Lexeme} (p q a b : Parser A) → ((i : Input) → p i ≡ a i) → ((i : Input) → q i ≡ b i) → FinishesAt a b us C end ts → FinishesAt p q us C end ts
 same_finish {A} {us} {C} {end} {ts} p q a b first second local = record {
   keeps = λ x j e. (let k = local.keeps x j (sym (first (at ts end)) ∙ e) in record {
-    front = k.front; rest = k.rest; splits = k.splits; leaves = k.leaves; some = k.some;
+    front = k.front;
+    rest = k.rest;
+    splits = k.splits;
+    leaves = k.leaves;
+    some = k.some;
     again = λ vs next. first (at (k.front ++ vs) end) ∙ k.again vs next;
     deeper = λ vs next. second (at (k.front ++ vs) end) ∙ k.deeper vs next;
     closed = λ tail meets. second (at (k.front ++ tail) end) ∙ k.closed tail meets;
@@ -75,7 +89,13 @@ same_finish {A} {us} {C} {end} {ts} p q a b first second local = record {
     go : (d : Refusal) → AtOnce a end ts d ⊎ Stopped a b C end ts d → AtOnce p end ts d ⊎ Stopped p q C end ts d
     go d (inl once) = inl (record { says = once.says; again = λ vs next. first (at vs end) ∙ once.again vs next })
     go d (inr s) = inr (record {
-      front = s.front; rest = s.rest; more = s.more; value = s.value; splits = s.splits; says = s.says; begins = s.begins;
+      front = s.front;
+      rest = s.rest;
+      more = s.more;
+      value = s.value;
+      splits = s.splits;
+      says = s.says;
+      begins = s.begins;
       again = λ vs next. first (at (s.front ++ vs) end) ∙ s.again vs next;
       reads = λ tail meets. second (at (s.front ++ (s.more ++ tail)) end) ∙ s.reads tail meets;
     })
@@ -93,7 +113,11 @@ pure_completes {A} {C} x = record {
   fill = record { value = x; reads = λ end tail meets. refl };
   there = λ end ts. record {
     keeps = λ y j e. (let same = ok_parts x y (at ts end) j e in record {
-      front = []; rest = ts; splits = refl; leaves = sym same.1; some = λ none. none;
+      front = [];
+      rest = ts;
+      splits = refl;
+      leaves = sym same.1;
+      some = λ none. none;
       again = λ vs next. ap (λ (z : A). Ok (z, at vs end)) same.0;
       deeper = λ vs next. ap (λ (z : A). Ok (z, at vs end)) same.0;
       closed = λ tail meets. ap (λ (z : A). Ok (z, at tail end)) same.0;
@@ -126,7 +150,13 @@ module _ {V A : Type 0} (v : Input → V) (views : Views v) (f g : V → Parser 
   see_stops : (d : Refusal) → AtOnce (f (v (at ts end))) end ts d ⊎ Stopped (f (v (at ts end))) (g (v (at ts end))) C end ts d → AtOnce (seeing v >>= f) end ts d ⊎ Stopped (seeing v >>= f) (seeing v >>= g) C end ts d
   see_stops d (inl once) = inl (record { says = once.says; again = λ vs next. rw (views end ts vs next) (once.again vs next) })
   see_stops d (inr s) = inr (record {
-    front = s.front; rest = s.rest; more = s.more; value = s.value; splits = s.splits; says = s.says; begins = s.begins;
+    front = s.front;
+    rest = s.rest;
+    more = s.more;
+    value = s.value;
+    splits = s.splits;
+    says = s.says;
+    begins = s.begins;
     again = λ vs next. rw (views end ts (s.front ++ vs) (onto s.front s.rest ts vs s.splits next)) (s.again vs next);
     reads = λ tail meets. rw (views end ts (s.front ++ (s.more ++ tail)) (s.begins tail)) (s.reads tail meets);
   })
@@ -134,7 +164,11 @@ module _ {V A : Type 0} (v : Input → V) (views : Views v) (f g : V → Parser 
   pub see_at : FinishesAt (seeing v >>= f) (seeing v >>= g) ws C end ts
   see_at = record {
     keeps = λ x j e. (let k = second.keeps x j e in record {
-      front = k.front; rest = k.rest; splits = k.splits; leaves = k.leaves; some = λ none. some (k.some none);
+      front = k.front;
+      rest = k.rest;
+      splits = k.splits;
+      leaves = k.leaves;
+      some = λ none. some (k.some none);
       again = λ vs next. rw (views end ts (k.front ++ vs) (onto k.front k.rest ts vs k.splits next)) (k.again vs next);
       deeper = λ vs next. rw (views end ts (k.front ++ vs) (onto k.front k.rest ts vs k.splits next)) (k.deeper vs next);
       closed = λ tail meets. rw (seen_closed k.front k.rest k.splits k.some tail meets) (k.closed tail meets);
@@ -176,7 +210,11 @@ pub take_at : {C : Term → Bool} (end : ℕ) (t : Lexeme) (ts : List Lexeme) �
 unfolding place next
 take_at {C} end t ts = record {
   keeps = λ x j e. (let same = ok_parts t.from x (at ts end) j e in record {
-    front = t ∷ []; rest = ts; splits = refl; leaves = sym same.1; some = λ none. absurd cc;
+    front = t ∷ [];
+    rest = ts;
+    splits = refl;
+    leaves = sym same.1;
+    some = λ none. absurd cc;
     again = λ vs next. ap (λ (n : ℕ). Ok (n, at vs end)) same.0;
     deeper = λ vs next. ap (λ (n : ℕ). Ok (n, at vs end)) same.0;
     closed = λ tail meets. ap (λ (n : ℕ). Ok (n, at tail end)) same.0;
@@ -221,7 +259,11 @@ deep_at {A} {q} {k} {us} {C} some fill end [] is = absurd (no_token k some is)
 deep_at {A} {q} {k} {us} {C} some fill end (t ∷ ts) is = record {
   keeps = λ x j e. absurd (not_err _ x j e);
   stops = λ d e. (let same = err_parts {A = A} (too_deep (at (t ∷ ts) end)) d e in inr (record {
-    front = []; rest = t ∷ ts; more = t ∷ us; value = (fill t is).value; splits = refl;
+    front = [];
+    rest = t ∷ ts;
+    more = t ∷ us;
+    value = (fill t is).value;
+    splits = refl;
     says = inr (sym same, λ tail. refl);
     again = λ vs next. ap (λ (c : Refusal). Err c) (views_too_deep end (t ∷ ts) vs next ∙ same);
     begins = λ tail. refl;
@@ -321,7 +363,7 @@ module _ {A : Type 0} (f g : Bool → Parser A) (us vs : List Lexeme) (C : Term 
   eaten_there end ts = same_finish (eat k >>= f) (eat k >>= g) (seeing (sees k) >>= eat_then f) (seeing (sees k) >>= eat_then g) (λ i. eat_is f i (sees k i)) (λ i. eat_is g i (sees k i))
       (see_at (sees k) (views_sees k) (eat_then f) (eat_then g) fills_by vs C end ts (eat_by end ts (sees k (at ts end)) refl) (none_by (sees k (at ts end))) (other_by end (sees k (at ts end))))
 
-  pub eaten_all : Completes (eat k >>= f) (eat k >>= g) vs C
+  eaten_all : Completes (eat k >>= f) (eat k >>= g) vs C
   eaten_all = record { fill = eaten_fill; there = eaten_there }
 
 pub eaten : {A : Type 0} {us vs : List Lexeme} {C : Term → Bool} (k : Term) (f g : Bool → Parser A) → is_there k ≡ true → Leads (is_not k) vs C → Completes (f true) (g true) us C → Completes (f false) (g false) vs C → Completes (eat k >>= f) (eat k >>= g) vs C

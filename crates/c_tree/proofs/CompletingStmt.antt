@@ -1,9 +1,8 @@
 -- Statements, and what completes them, with more levels.
-use Rattle.std.proofs.Common.{◌≡◌, ℕ, zero, suc, ◌<◌, Bool, true, false, List, [], ◌∷◌, ◌++◌, Option, Some, None, refl, ap, arith}
+use Rattle.std.proofs.Common.{◌≡◌, ℕ, zero, suc, ◌<◌, Bool, true, false, List, [], ◌∷◌, ◌++◌, Some, None, refl, ap, arith}
 use Rattle.c_lex.specs.Tokens.{Lexeme}
 use Rattle.c_tree.specs.declared.term.Term.{Term}
 use Rattle.c_tree.specs.declared.term.Term.TheVariants as terms
-use Rattle.c_tree.specs.declared.simple.Nil.{Nil}
 use Rattle.c_tree.specs.declared.simple.Qual.{Qual}
 use Rattle.c_tree.specs.declared.simple.QualKind.TheVariants as kinds
 use Rattle.c_tree.specs.declared.stmt.Around.{Around}
@@ -13,8 +12,7 @@ use Rattle.c_tree.specs.declared.stmt.First.TheVariants as firsts
 use Rattle.c_tree.specs.declared.stmt.Stmt.{Stmt}
 use Rattle.c_tree.specs.declared.stmt.Stmt.TheVariants as stmts
 use Rattle.c_tree.specs.Term.{same_term, term_of}
-use Rattle.c_tree.specs.Input.{Parser, ◌>>=◌, ◌>>◌, pure, refuse, look, take_token, eat, expect, peek, sees, term_at}
-use Rattle.c_tree.specs.Many.{many}
+use Rattle.c_tree.specs.Input.{Parser, ◌>>=◌, pure, refuse, look, take_token, expect, sees, term_at}
 use Rattle.c_tree.specs.Simple as simple_spec
 use Rattle.c_tree.specs.Stmt as spec
 use Rattle.c_tree.proofs.Shrinks.{Shrinks}
@@ -24,8 +22,8 @@ use Rattle.c_tree.proofs.Again.{same_self}
 use Rattle.c_tree.proofs.AgainParts.{closes}
 use Rattle.c_tree.proofs.NextToken.{views_sees}
 use Rattle.c_tree.proofs.Completing.{any, Fills, FinishesAt, Completes, bind, fill_bind}
-use Rattle.c_tree.proofs.Fillers.{IsToken, zero_token, name_token, int_token, end_token, abort_token, open_token, close_token, left_token, right_token, semicolon, increment_token, is_atomic_end, is_open, is_close, is_left, is_right, is_semicolon, is_abort, is_handle, handle_token}
-use Rattle.c_tree.proofs.CompletingSteps.{something, leads_any, leads_none, leads_token, filled, closer, with_any, not_read, same_completes, pure_completes, refuse_at, seen_some, Branches, looked, looked_fill, Takes, taking, take_fill, deep_at, expect_completes, wanted, ended, is_not, eaten, seen_token}
+use Rattle.c_tree.proofs.Fillers.{IsToken, zero_token, name_token, int_token, end_token, abort_token, open_token, close_token, left_token, right_token, semicolon, increment_token, is_atomic_end, is_open, is_close, is_left, is_right, is_semicolon, is_handle, handle_token}
+use Rattle.c_tree.proofs.CompletingSteps.{something, leads_any, leads_none, leads_token, filled, not_read, same_completes, pure_completes, refuse_at, seen_some, Branches, looked, looked_fill, Takes, taking, take_fill, deep_at, expect_completes, wanted, ended, is_not, eaten, seen_token}
 use Rattle.c_tree.proofs.CompletingLoops.{only, many_completes, missing_completes}
 use Rattle.c_tree.proofs.CompletingSimple.{semicolon_closes, empty_parens_completes, nil_completes, handles_completes, cond_completes, assign_completes, assign_name_fill, assign_increment_fill, assign_decrement_fill, call_tokens, calls_word, call_completes, call_fill, local_completes, local_qual_fill, local_int_fill, local_long_fill}
 

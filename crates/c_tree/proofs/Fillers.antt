@@ -48,9 +48,6 @@ mutex_token = word (codes "pthread_mutex_t")
 abbrev pub handle_token : Lexeme
 handle_token = word (codes "pthread_t")
 
-abbrev pub reach_token : Lexeme
-reach_token = word (codes "reach_error")
-
 abbrev pub abort_token : Lexeme
 abort_token = word (codes "abort")
 
@@ -109,10 +106,6 @@ is_mutex = record { is = refl; some = refl }
 pub is_handle : IsToken handle_token terms.HandleType
 unfolding word_term
 is_handle = record { is = refl; some = refl }
-
-pub is_reach_error : IsToken reach_token terms.ReachError
-unfolding word_term
-is_reach_error = record { is = refl; some = refl }
 
 pub is_abort : IsToken abort_token terms.Abort
 unfolding word_term

@@ -1,12 +1,11 @@
 -- What the next token alone tells.
-use Rattle.std.proofs.Common.{◌≡◌, ℕ, Bool, true, false, cond, List, [], ◌∷◌, ◌++◌, Ok, Err, refl, sym, ap, subst, ◌∙◌, append_assoc}
+use Rattle.std.proofs.Common.{◌≡◌, ℕ, List, [], ◌∷◌, ◌++◌, Ok, Err, refl, sym, ap}
 use Rattle.std.proofs.Math.Logic.{◌⊎◌, inl, inr}
 use Rattle.thr_base.specs.declared.stops.Refusal.{Refusal}
 use Rattle.c_lex.specs.Tokens.{Lexeme}
 use Rattle.c_tree.specs.declared.term.Term.{Term}
-use Rattle.c_tree.specs.Input.{Input, Outcome, Parser, and_then, ◌>>=◌, ◌>>◌, pure, refuse, refuse_deep, look, here, take_token, eat, peek, place, bytes, next, sees, after, expect, refusal, too_deep}
+use Rattle.c_tree.specs.Input.{Input, Outcome, Parser, and_then, peek, place, bytes, sees, refusal, too_deep}
 use Rattle.c_tree.specs.Refused.{SameNext}
-use Rattle.c_tree.proofs.Steps.{bind_ok, ok_parts, not_err}
 use Rattle.c_tree.proofs.Again.{at}
 
 pub next_behind : (front ts us : List Lexeme) → SameNext ts us → SameNext (front ++ ts) (front ++ us)

@@ -7,7 +7,7 @@ use Rattle.c_tree.specs.Input.{Input, Outcome, Parser, and_then, ◌>>=◌, ◌>
 use Rattle.c_tree.specs.Chain.{mark_at, past, more_from, more_of}
 use Rattle.c_tree.specs.Many.{one_or_end, many_from, many}
 use Rattle.c_tree.specs.Simple.{qual_mark, quals_from, quals}
-use Rattle.c_tree.specs.Item.{open_after, skip_from, skip_through}
+use Rattle.c_tree.specs.Item.{open_after, skip_from}
 use Rattle.c_tree.proofs.Steps.{ok_parts, next_shorter}
 use Rattle.c_tree.proofs.Shrinks.{Shrinks, NoMarkAtEnd, past_shorter}
 use Rattle.c_tree.proofs.Again.{at}
@@ -20,12 +20,6 @@ and_then_same (Err d) f g same = refl
 
 pub views_mark : {M : Type 0} (mark : Term → ℕ → Option M) → Views (mark_at mark)
 views_mark mark end ts us same = rw (views_peek end ts us same, views_place end ts us same) refl
-
--- what a view shows, and that it takes nothing
-pub seen_there : {V : Type 0} (v : Input → V) (end : ℕ) (ts rest : List Lexeme) (x : V) → seeing v (at ts end) ≡ Ok (x, at rest end) → (v (at rest end) ≡ x) × (length rest ≡ length ts)
-seen_there v end ts rest x e =
-    let same = ok_parts (v (at ts end)) x (at ts end) (at rest end) e in
-    (ap v (sym same.1) ∙ same.0, ap (λ (i : Input). length i.tokens) (sym same.1))
 
 pub taken_there : (end : ℕ) (ts rest : List Lexeme) (from : ℕ) → take_token (at ts end) ≡ Ok (from, at rest end) → length rest ≡ length (next (at ts end)).tokens
 taken_there end ts rest from e = ap (λ (i : Input). length i.tokens) (sym (ok_parts (place (at ts end)) from (next (at ts end)) (at rest end) e).1)
@@ -179,4 +173,3 @@ opens top ends i = open_after (peek i) (top ∷ ends)
 pub views_opens : (top : Term) (ends : List Term) → Views (opens top ends)
 unfolding opens
 views_opens top ends end ts us same = ap (λ (k : Term). open_after k (top ∷ ends)) (views_peek end ts us same)
-
