@@ -112,7 +112,7 @@ module _ {M A : Type 0} (mark : Term → ℕ → Option M) (item : Parser A) (Is
 
 -- ---- the marks
 
-no_product_mark : (t : Term) (from : ℕ) → binds t < 6 → spec.product_mark t from ≡ None
+pub no_product_mark : (t : Term) (from : ℕ) → binds t < 6 → spec.product_mark t from ≡ None
 no_product_mark terms.Star from lt = absurd (omega arith)
 no_product_mark _ from lt = refl
 
@@ -125,7 +125,7 @@ product_marks = record {
   none = no_product_mark;
 }
 
-no_and_mark : (t : Term) (from : ℕ) → binds t < 2 → spec.and_mark t from ≡ None
+pub no_and_mark : (t : Term) (from : ℕ) → binds t < 2 → spec.and_mark t from ≡ None
 no_and_mark terms.And from lt = absurd (omega arith)
 no_and_mark _ from lt = refl
 
@@ -138,7 +138,7 @@ and_marks = record {
   none = no_and_mark;
 }
 
-no_or_mark : (t : Term) (from : ℕ) → binds t < 1 → spec.or_mark t from ≡ None
+pub no_or_mark : (t : Term) (from : ℕ) → binds t < 1 → spec.or_mark t from ≡ None
 no_or_mark terms.Or from lt = absurd (omega arith)
 no_or_mark _ from lt = refl
 
@@ -151,7 +151,7 @@ or_marks = record {
   none = no_or_mark;
 }
 
-no_sum_mark : (t : Term) (from : ℕ) → binds t < 5 → spec.sum_mark t from ≡ None
+pub no_sum_mark : (t : Term) (from : ℕ) → binds t < 5 → spec.sum_mark t from ≡ None
 no_sum_mark terms.Plus from lt = absurd (omega arith)
 no_sum_mark terms.Minus from lt = absurd (omega arith)
 no_sum_mark _ from lt = refl
@@ -173,7 +173,7 @@ sum_marks = record {
   none = no_sum_mark;
 }
 
-no_relation_mark : (t : Term) (from : ℕ) → binds t < 4 → spec.relation_mark t from ≡ None
+pub no_relation_mark : (t : Term) (from : ℕ) → binds t < 4 → spec.relation_mark t from ≡ None
 no_relation_mark terms.Less from lt = absurd (omega arith)
 no_relation_mark terms.AtMost from lt = absurd (omega arith)
 no_relation_mark terms.Greater from lt = absurd (omega arith)
@@ -201,7 +201,7 @@ relation_marks = record {
   none = no_relation_mark;
 }
 
-no_equality_mark : (t : Term) (from : ℕ) → binds t < 3 → spec.equality_mark t from ≡ None
+pub no_equality_mark : (t : Term) (from : ℕ) → binds t < 3 → spec.equality_mark t from ≡ None
 no_equality_mark terms.Equal from lt = absurd (omega arith)
 no_equality_mark terms.Unequal from lt = absurd (omega arith)
 no_equality_mark _ from lt = refl

@@ -39,7 +39,7 @@ closed k so ts rest is = ap closes (stands_term k ts rest is) ∙ so
 impossible : {A : Type 0} → ◌≡◌ {A = Bool} false true → A
 impossible e = absurd cc
 
-closes_binds : (k : Term) → closes k ≡ true → binds k < 1
+pub closes_binds : (k : Term) → closes k ≡ true → binds k < 1
 closes_binds terms.Comma so = omega arith
 closes_binds terms.Semicolon so = omega arith
 closes_binds terms.RightParen so = omega arith

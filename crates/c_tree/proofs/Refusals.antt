@@ -1,5 +1,5 @@
--- Where a text is refused, no tree goes on.
-use Rattle.std.proofs.Common.{◌≡◌, ℕ, ◌+◌, ◌≤◌, List, [], ◌++◌, length, Result, Ok, Err, sym, ap, ◌∙◌, arith}
+-- Where a text is refused, the tokens in front begin a tree, and no tree goes on with the next.
+use Rattle.std.proofs.Common.{◌≡◌, ℕ, ◌+◌, ◌≤◌, List, [], ◌++◌, length, Result, Ok, Err, refl, sym, ap, ◌∙◌, arith}
 use Rattle.std.proofs.Math.Logic.{◌⊎◌, inl, inr}
 use Rattle.thr_base.specs.declared.stops.Refusal.{Refusal}
 use Rattle.thr_base.specs.declared.stops.Stop.{Stop}
@@ -11,11 +11,12 @@ use Rattle.c_tree.specs.declared.term.Term.TheVariants as terms
 use Rattle.c_tree.specs.Input.{Input, Outcome, peek, refusal_code, too_many, refusal, too_deep}
 use Rattle.c_tree.specs.GrammarItem.{IsTreeWithin}
 use Rattle.c_tree.specs.Item as spec
-use Rattle.c_tree.specs.Refused.{SameNext, NoTreeGoesOn, IsSaidOf, IsRefusedWith, IsRefusedBy}
-use Rattle.c_tree.proofs.Again.{at}
-use Rattle.c_tree.proofs.Trees.{tree_again}
-use Rattle.c_tree.proofs.NextToken.{Says}
-use Rattle.c_tree.proofs.NextItem.{tree_local}
+use Rattle.c_tree.specs.Refused.{SameNext, NoTreeGoesOn, more_levels, IsSaidOf, IsRefusedWith, IsRefusedBy}
+use Rattle.c_tree.proofs.Again.{at, same_self}
+use Rattle.c_tree.proofs.Trees.{tree_found, tree_again}
+use Rattle.c_tree.proofs.Completing.{Says, AtOnce, Stopped}
+use Rattle.c_tree.proofs.CompletingLoops.{only}
+use Rattle.c_tree.proofs.CompletingItem.{tree_completes}
 use Rattle.c_tree.proofs.DeepeningItem.{tree_widens}
 
 one_err : (d f : Refusal) → ◌≡◌ {A = Outcome Tree} (Err d) (Err f) → d ≡ f
@@ -59,15 +60,23 @@ module _ (end : ℕ) (ts : List Lexeme) (d : Refusal) (e : spec.tree spec.max_le
       (still_read levels (spec.max_levels + levels) end (omega arith) (front ++ us) t is)
       (still_refused spec.max_levels (spec.max_levels + levels) end (omega arith) (front ++ us) d (stops us next) other)
 
-  tree_refused : IsRefusedWith end ts d
-  tree_refused = (at_it.0, at_it.1, at_it.2, said at_it.3)
-    where
-      at_it : (front : List Lexeme) × (rest : List Lexeme) × (ts ≡ front ++ rest) × Says d end rest × ((us : List Lexeme) → SameNext rest us → spec.tree spec.max_levels (at (front ++ us) end) ≡ Err d)
-      at_it = (tree_local spec.max_levels end ts).stops d e
+  -- a tree with more levels, where the tokens in front are completed
+  read_on : (front more : List Lexeme) (t : Tree) → spec.tree more_levels (at (front ++ (more ++ [])) end) ≡ Ok (t, at [] end) → IsTreeWithin more_levels t (front ++ (more ++ []))
+  read_on front more t read = tree_found more_levels (at (front ++ (more ++ [])) end) t (at [] end) read
 
-      said : Says d end at_it.1 → IsSaidOf end d at_it.0 at_it.1
-      said (inl same) = inl (same, no_tree_within at_it.0 at_it.1 at_it.4 (λ j deep. not_deep (at at_it.1 end) j (sym same ∙ deep)))
-      said (inr same) = inr (same, no_tree at_it.0 at_it.1 at_it.4)
+  refused_by : AtOnce (spec.tree spec.max_levels) end ts d ⊎ Stopped (spec.tree spec.max_levels) (spec.tree more_levels) (only terms.End) end ts d → IsRefusedWith end ts d
+  refused_by (inl once) = ([], ts, refl, ([], record { items = [] }, refl), inl (once.says, no_tree_within [] ts once.again (λ j deep. not_deep (at ts end) j (sym once.says ∙ deep))))
+  refused_by (inr s) = (s.front, s.rest, s.splits, (s.more ++ [], s.value, whole), said s.says)
+    where
+      whole : IsTreeWithin more_levels s.value (s.front ++ (s.more ++ []))
+      whole = read_on s.front s.more s.value (s.reads [] (same_self terms.End))
+
+      said : Says d end s.rest s.more → IsSaidOf end d s.front s.rest
+      said (inl same) = inl (same, no_tree_within s.front s.rest s.again (λ j deep. not_deep (at s.rest end) j (sym same ∙ deep)))
+      said (inr deep) = inr (deep.0, no_tree s.front s.rest s.again, (s.more ++ [], s.value, deep.1 [], whole))
+
+  tree_refused : IsRefusedWith end ts d
+  tree_refused = refused_by (((tree_completes spec.max_levels more_levels (omega arith)).there end ts).stops d e)
 
 value_refused : {A : Type 0} (r : Outcome A) (d : Refusal) → spec.value_of r ≡ Err d → r ≡ Err d
 value_refused {A} (Ok p) d e = absurd (let differs : ◌≡◌ {A = Result A Refusal} (Ok p.0) (Err d) = e in cc)

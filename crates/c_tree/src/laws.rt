@@ -34,8 +34,9 @@ pub fn trees_are_read_exactly()
     ensures one { (tokens : List Lexeme) (t u : Tree) → IsTree t tokens → IsTree u tokens → t ≡ u }
 {}
 
-/// What is refused is a token with which no tree goes on behind those in front of it, or the end of the text: none with
-/// however many levels, or where a level too many is refused, none within the levels of the profile.
-pub fn no_tree_goes_on_where_a_text_is_refused()
+/// What is refused is the first wrong token, or the end of the text. The tokens in front of it begin a tree, which may
+/// have two levels more than the profile; with the refused one no tree goes on, with however many levels, or where a level
+/// too many is refused, none within the levels of the profile, and one with more.
+pub fn refusals_are_at_the_first_wrong_token()
     ensures { (text : List ℕ) (tokens : List Lexeme) (d : Refusal) → lexed text ≡ Ok tokens → parsed text ≡ Err d → IsRefusedWith (length text) tokens d }
 {}

@@ -27,7 +27,7 @@ pub use item::{
     Untyped,
 };
 pub use laws::{
-    expressions_are_read_exactly, no_tree_goes_on_where_a_text_is_refused, trees_are_read_exactly,
+    expressions_are_read_exactly, refusals_are_at_the_first_wrong_token, trees_are_read_exactly,
 };
 pub use reader::parse;
 pub use simple::{

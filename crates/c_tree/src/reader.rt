@@ -22,7 +22,8 @@ fn tree_of(alloc: Global, tokens: &[Token<'_>], end: u32) -> Result<Tree, Stop>
 
 /// The tree of a text. Refused is the first faulty token, as `lex` says; and where there is none, the first token that
 /// no text of the grammar has there, as rule 5 where it stands nowhere in the profile and else as rule 4, or that opens
-/// a level too many, as rule 11. Where the text should go on, its length is the place.
+/// a level too many, as rule 11. Where the text should go on, its length is the place. What stands in front of the refused
+/// token begins a text of the grammar.
 pub fn parse(alloc: Global, text: &str) -> Result<Tree, Stop>
     requires { length text.now ≤ TEXT_LIMIT }
     ensures exact { Gives (λ t. t) result (parsed text.now) }
