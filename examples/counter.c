@@ -1,16 +1,17 @@
-/* Two threads run the same function. Without predicates a number says nothing,
-   so each location that the text leads to is found. */
+/* Two threads count without a lock: each reads, adds and writes in steps of its own. Each has a local
+   of its own. Without predicates each location that the text leads to is found. */
 #include <pthread.h>
 
 int count;
 
 void *worker(void *arg) {
-    count = 0;
-    while (__VERIFIER_nondet_int()) {
-        if (__VERIFIER_nondet_int())
-            count = 1; // as often as it likes
-        else
-            count = -1;
+    int read;
+    int turns;
+    turns = 0;
+    while (turns < 3) {
+        read = count; // another thread may count between these two steps
+        count = read + 1;
+        turns = turns + 1;
     }
 }
 

@@ -1,20 +1,22 @@
-/* One thread tells, the other answers; neither looks at what it is told yet. */
+/* One thread hands a number over and says so; the other looks whether it may take it. Without
+   predicates nothing is known of `data` when `ready` is 1, so the assertion may fail. */
+#include <assert.h>
 #include <pthread.h>
 
+int data = 0;
 int ready = 0;
-int done = 0;
 
 void *producer(void *arg) {
-    while (__VERIFIER_nondet_int())
-        ready = 1; /* and again */
-    done = 1;
+    data = 7;
+    ready = 1;
 }
 
 void *consumer(void *arg) {
-    if (__VERIFIER_nondet_int()) {
-        ready = 0;
-    } else
-        done = -1;
+    int got;
+    while (ready == 0)
+        ;
+    got = data;
+    assert(got == 7);
 }
 
 int main() {

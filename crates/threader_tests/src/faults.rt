@@ -1,6 +1,6 @@
 ghost use Rattle.thr_base.specs.InMemory.{mem_sink_meaning};
 
-use crate::runs::{ASSIGNS_ONCE, ITS_TABLE, files, run, words};
+use crate::runs::{ASSIGNS_ONCE, ITS_TABLE, files, run, two_files, words};
 use std::alloc::Global;
 use std::test::Fail;
 use thr_base::{Failed, HonestStore, MemSink, MemStore, RoomSink, Sink, ZeroSink};
@@ -14,14 +14,23 @@ fn a_missing_file_is_a_fault(rt: HostRuntime) -> Result<(), Fail> {
     Ok(())
 }
 
+#[test]
+fn a_missing_second_file_is_a_fault(rt: HostRuntime) -> Result<(), Fail> {
+    let (status, written) = run(rt.alloc(), "tables x.c x.pred", ASSIGNS_ONCE)?;
+    assert_eq!(rt; status, 5);
+    assert_eq!(rt; written.as_str(), "read fault\n");
+    Ok(())
+}
+
 /// The status, where this call of the store fails, and whether the text that goes with it is written.
 fn where_store_fails(alloc: Global, call: u64) -> Result<(u8, bool), Fail> {
     let mut store = MemStore::new(
-        files(alloc, ASSIGNS_ONCE.as_bytes())?,
+        two_files(alloc, ASSIGNS_ONCE, "end\n")?,
         vec![in alloc; call]?,
     );
     let mut out = RoomSink::new(alloc, 64)?;
-    let status = threader_serial(alloc, &words(alloc, "tables x.c")?, &mut store, &mut out);
+    let words = words(alloc, "tables x.c x.pred")?;
+    let status = threader_serial(alloc, &words, &mut store, &mut out);
     let text = if status == 0 {
         ITS_TABLE
     } else {
@@ -32,8 +41,8 @@ fn where_store_fails(alloc: Global, call: u64) -> Result<(u8, bool), Fail> {
 
 #[test]
 fn each_fault_of_the_store_is_told(rt: HostRuntime) -> Result<(), Fail> {
-    // the file is opened, read, and read again to its end
-    for (call, wanted) in [(1, 5), (2, 5), (3, 5), (4, 0)] {
+    // each of two files is opened, read, and read again to its end
+    for (call, wanted) in [(1, 5), (2, 5), (3, 5), (4, 5), (5, 5), (6, 5), (7, 0)] {
         let (status, written) = where_store_fails(rt.alloc(), call)?;
         assert_eq!(rt; status, wanted, "call {call}");
         assert!(rt; written, "call {call}");

@@ -8,6 +8,8 @@ mod grammar;
 #[cfg(test)]
 mod limits;
 #[cfg(test)]
+mod predicates;
+#[cfg(test)]
 mod refusals;
 #[cfg(test)]
 mod runs;

@@ -1,4 +1,4 @@
-use crate::runs::{NOT_BUILT, run, spelled};
+use crate::runs::{ASSIGNS_ONCE, NOT_BUILT, run, run_with, spelled};
 use std::alloc::{AllocError, Global};
 use std::str::FromStr;
 use std::test::Fail;
@@ -61,6 +61,20 @@ fn bodies_have_limits(rt: HostRuntime) -> Result<(), Fail> {
 fn a_text_has_a_limit(rt: HostRuntime) -> Result<(), Fail> {
     for (count, wanted) in [(1_048_576, NOT_BUILT), (1_048_577, "program long\n")] {
         let (status, written) = run(rt.alloc(), "tables x.c", &times(rt.alloc(), count, " ")?)?;
+        assert_eq!(rt; status, 3, "{count} blanks");
+        assert_eq!(rt; written.as_str(), wanted, "{count} blanks");
+    }
+    Ok(())
+}
+
+#[test]
+fn predicates_have_a_limit(rt: HostRuntime) -> Result<(), Fail> {
+    for (count, wanted) in [
+        (1_048_576, "predicates line 1\n"),
+        (1_048_577, "predicates long\n"),
+    ] {
+        let blanks = times(rt.alloc(), count, " ")?;
+        let (status, written) = run_with(rt.alloc(), ASSIGNS_ONCE, &blanks)?;
         assert_eq!(rt; status, 3, "{count} blanks");
         assert_eq!(rt; written.as_str(), wanted, "{count} blanks");
     }

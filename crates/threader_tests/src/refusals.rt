@@ -6,12 +6,21 @@ const NOT_BUILT_YET: &str = "\
 no program =>
 a comment alone => // nothing
 an assertion of one => void *f(void *a) { assert(1); } MAIN
-an assertion of a comparison => int x; void *f(void *a) { assert(x == 0); } MAIN
-a condition that is no choice => void *f(void *a) { while (1) ; } MAIN
+an assertion of a variable => int x; void *f(void *a) { assert(x); } MAIN
+an assertion of a sum => int x; void *f(void *a) { assert(x + 1 == 2); } MAIN
+a comparison that begins with its number => int x; void *f(void *a) { assert(0 == x); } MAIN
+a comparison of two names => void *f(void *a) { int k; int l; assert(k == l); } MAIN
+two comparisons => int x; void *f(void *a) { assert(x == 0 || x == 1); } MAIN
+a comparison that is denied => int x; void *f(void *a) { if (!(x == 0)) ; } MAIN
+a condition that is a number => void *f(void *a) { while (1) ; } MAIN
 a loop with `for` => int x; void *f(void *a) { for (x = 0; ?; x = 1) ; } MAIN
 a `break` => void *f(void *a) { while (?) break; } MAIN
 a `return` in a thread => void *f(void *a) { return 0; } MAIN
-a local variable => void *f(void *a) { int k; } MAIN
+a local with a value => void *f(void *a) { int k = 1; } MAIN
+two locals in one declaration => void *f(void *a) { int k, l; } MAIN
+a local behind a statement => void *f(void *a) { ; int k; } MAIN
+a local in a block => void *f(void *a) { { int k; } } MAIN
+a `long` local => void *f(void *a) { long k; } MAIN
 two variables in one declaration => int x, y; void *f(void *a) { } MAIN
 a `long` variable => long int x; void *f(void *a) { } MAIN
 a `static` variable => static int x; void *f(void *a) { } MAIN
@@ -24,14 +33,29 @@ a prototype of a thread function => void *f(void *a); void *f(void *a) { } MAIN
 an error function => void reach_error() { } void *f(void *a) { } MAIN
 a thread function without a parameter => void *f() { } MAIN
 two signs => int x; void *f(void *a) { x = - -1; } MAIN
-the value of a variable => int x; void *f(void *a) { x = x; } MAIN
-a sum => int x; void *f(void *a) { x = x + 1; } MAIN
+a variable that is assigned and read => int x; void *f(void *a) { x = x; } MAIN
+a variable that is assigned and added => int x; void *f(void *a) { x = x + 1; } MAIN
+a variable that is read twice => int x; void *f(void *a) { int k; k = x - x; } MAIN
+two variables that are read => int x; int y; void *f(void *a) { int k; k = 2 * x + 3 * y; } MAIN
+a variable that is read for another => int x; int y; void *f(void *a) { x = 1 - y; } MAIN
+two accesses in a function that no thread runs => int x; void *g(void *a) { x = x; } void *f(void *a) { } MAIN
+a name times a number => void *f(void *a) { int k; k = k * 2; } MAIN
+a number times a number => void *f(void *a) { int k; k = 2 * 2; } MAIN
+a sum that does not fit => void *f(void *a) { int k; k = 170141183460469231731687303715884105727 + 1; } MAIN
+a difference that does not fit => void *f(void *a) { int k; k = -170141183460469231731687303715884105727 - 1; } MAIN
+a sum that does not fit on its way => void *f(void *a) { int k; k = 170141183460469231731687303715884105727 + 1 - 1; } MAIN
+coefficients that do not fit => void *f(void *a) { int k; k = 170141183460469231731687303715884105727 * k + k; } MAIN
+a side that needs 2^127 => int x; void *f(void *a) { if (x <= 170141183460469231731687303715884105727) ; } MAIN
+a side that needs -2^127 => int x; void *f(void *a) { assert(x >= -170141183460469231731687303715884105727); } MAIN
+an equality of the greatest number => int x; void *f(void *a) { assert(x == 170141183460469231731687303715884105727); } MAIN
+an assumption that needs 2^127 => int x; void *f(void *a) { __VERIFIER_assume(x > 170141183460469231731687303715884105727); } MAIN
 a value in parentheses => int x; void *f(void *a) { x = (1); } MAIN
 a value that is chosen => int x; void *f(void *a) { x = ?; } MAIN
 an increment => int x; void *f(void *a) { x++; } MAIN
 an addition to a variable => int x; void *f(void *a) { x += 1; } MAIN
 a failing call => void *f(void *a) { reach_error(); } MAIN
-an assumption => void *f(void *a) { __VERIFIER_assume(0); } MAIN
+an assumption of a number => void *f(void *a) { __VERIFIER_assume(0); } MAIN
+an assumption of a choice => void *f(void *a) { __VERIFIER_assume(?); } MAIN
 an atomic block => void *f(void *a) { __VERIFIER_atomic_begin(); __VERIFIER_atomic_end(); } MAIN
 two programs => void *f(void *a) { } MAIN MAIN
 a `main` without parameters => int main(void) { return 0; }
@@ -44,11 +68,19 @@ a third creation => void *f(void *a) { } int main() { pthread_t t; pthread_creat
 pthread_create(&t, 0, f, 0); return 0; }
 an undeclared variable => void *f(void *a) { x = 1; } MAIN
 an undeclared variable in a loop => int x; void *f(void *a) { while (?) { y = 1; } } MAIN
+an undeclared name in a sum => void *f(void *a) { int k; k = 1 + y; } MAIN
+an undeclared name in a comparison => void *f(void *a) { if (y < 0) ; } MAIN
+a local of another function => void *g(void *a) { int k; } void *f(void *a) { k = 1; } MAIN
 a parameter that is assigned => void *f(void *a) { a = 1; } MAIN
 a function that is assigned => void *f(void *a) { f = 1; } MAIN
 a handle that is assigned => void *f(void *a) { t = 1; } MAIN
 a variable declared twice => int x; int x; void *f(void *a) { } MAIN
 a function named like a variable => int f; void *f(void *a) { } MAIN
+a local named like a variable => int x; void *f(void *a) { int x; } MAIN
+a local named like its function => void *f(void *a) { int f; } MAIN
+a local named like a function before it => void *g(void *a) { } void *f(void *a) { int g; } MAIN
+a local declared twice => void *f(void *a) { int k; int k; } MAIN
+a local named like one of a function before it => void *g(void *a) { int k; } void *f(void *a) { int k; } MAIN
 a function declared twice => void *f(void *a) { } void *f(void *b) { } MAIN
 a handle declared twice => void *f(void *a) { } int main() { pthread_t t; pthread_t t; pthread_create(&t, 0, f, 0); return 0; }
 an undeclared handle => void *f(void *a) { } int main() { pthread_t t; pthread_create(&u, 0, f, 0); return 0; }
@@ -80,6 +112,15 @@ tabs and carriage returns => int\tx;\r void *f(void *a) { x\t= 1; } MAIN
 no blank that is not needed => int x=1;int y;void*f(void*a){x=1;y=-2;}MAIN
 a function that no thread runs => int x; void *g(void *b) { x = 1; } void *f(void *a) { } MAIN
 a parameter named like a variable => int a; void *f(void *a) { a = 1; } MAIN
+a parameter named like a local => void *f(void *a) { int a; a = 1; } MAIN
+a function named like a local before it => void *g(void *a) { int f; } void *f(void *a) { } MAIN
+a function that two threads run with its locals => int x; void *g(void *a) { int k; k = x; x = k + 1; } void *f(void *a) { } int main() { pthread_t t; \
+pthread_create(&t, 0, g, 0); pthread_create(&t, 0, g, 0); return 0; }
+one access beside locals => int x; void *f(void *a) { int k; int l; k = k + 2 * k - x - 7 + l; x = - k - 3 * l + 0; } MAIN
+each comparison mark => int x; void *f(void *a) { assert(x == 1); assert(x != 1); assert(x < -1); assert(x <= 1); assert(x > 1); assert(x >= - 1); } MAIN
+an assumption at the greatest number => int x; void *f(void *a) { __VERIFIER_assume(x <= 170141183460469231731687303715884105727); } MAIN
+a side that needs 2^127 - 1 => int x; void *f(void *a) { if (x > 170141183460469231731687303715884105726) ; } MAIN
+a sum that fits on its way => void *f(void *a) { int k; k = 170141183460469231731687303715884105727 - 1 + 1; } MAIN
 a handle named like a variable => int t; void *f(void *a) { t = 1; } MAIN
 a handle named like a function that no thread runs => void *t(void *a) { } void *f(void *a) { } MAIN
 a name that begins with a reserved word => int assert_; void *f(void *a) { assert_ = 1; } MAIN

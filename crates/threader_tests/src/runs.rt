@@ -30,19 +30,39 @@ pub fn words(alloc: Global, line: &str) -> Result<Vec<String>, AllocError> {
     Ok(words)
 }
 
+/// A file of this name with these bytes.
+fn file(alloc: Global, name: &str, bytes: &[u8]) -> Result<(String, Vec<u8>), AllocError> {
+    Ok((
+        String::from_str(alloc, name)?,
+        Vec::from_slice(alloc, bytes)?,
+    ))
+}
+
 /// One file, `x.c`, with these bytes.
 pub fn files(alloc: Global, bytes: &[u8]) -> Result<Vec<(String, Vec<u8>)>, AllocError> {
     let mut files = Vec::new(alloc);
-    files.push((
-        String::from_str(alloc, "x.c")?,
-        Vec::from_slice(alloc, bytes)?,
-    ))?;
+    files.push(file(alloc, "x.c", bytes)?)?;
     Ok(files)
 }
 
-/// The status, and what is written, where the words are these and the file `x.c` has these bytes.
-fn run_words(alloc: Global, line: &str, bytes: &[u8]) -> Result<(u8, String), Fail> {
-    let mut store = HonestStore::new(files(alloc, bytes)?);
+/// Two files: `x.c` with this text, and `x.pred` with this one.
+pub fn two_files(
+    alloc: Global,
+    text: &str,
+    predicates: &str,
+) -> Result<Vec<(String, Vec<u8>)>, AllocError> {
+    let mut files = files(alloc, text.as_bytes())?;
+    files.push(file(alloc, "x.pred", predicates.as_bytes())?)?;
+    Ok(files)
+}
+
+/// The status, and what is written, where the words are these and the store has these files.
+fn run_files(
+    alloc: Global,
+    line: &str,
+    files: Vec<(String, Vec<u8>)>,
+) -> Result<(u8, String), Fail> {
+    let mut store = HonestStore::new(files);
     let mut out = RoomSink::new(alloc, 1 << 16)?;
     let status = threader_serial(alloc, &words(alloc, line)?, &mut store, &mut out);
     let written = str::from_utf8(out.written())?;
@@ -51,10 +71,15 @@ fn run_words(alloc: Global, line: &str, bytes: &[u8]) -> Result<(u8, String), Fa
 
 /// The status, and what is written, where the words are these and the file `x.c` has this text.
 pub fn run(alloc: Global, line: &str, text: &str) -> Result<(u8, String), Fail> {
-    run_words(alloc, line, text.as_bytes())
+    run_files(alloc, line, files(alloc, text.as_bytes())?)
 }
 
 /// The status, and what is written, where the file `x.c` has these bytes.
 pub fn run_bytes(alloc: Global, bytes: &[u8]) -> Result<(u8, String), Fail> {
-    run_words(alloc, "tables x.c", bytes)
+    run_files(alloc, "tables x.c", files(alloc, bytes)?)
+}
+
+/// The status, and what is written, where the file `x.c` has this text, and the file `x.pred` these predicates.
+pub fn run_with(alloc: Global, text: &str, predicates: &str) -> Result<(u8, String), Fail> {
+    run_files(alloc, "tables x.c x.pred", two_files(alloc, text, predicates)?)
 }

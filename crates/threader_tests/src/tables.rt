@@ -70,7 +70,13 @@ int x; void *f(void *a) { while (?) { } assert(0); } MAIN => s 1 0, s 1 1, s 1 2
 int x; void *f(void *a) { while (?) { assert(0); x = 1; } } MAIN => s 1 0, s 1 1, s 1 2, s 1 4, e 1 1, e 1 2, e 1 3
 int x; void *f(void *a) { while (?) while (?) x = 1; } MAIN => s 1 1, s 1 2, s 1 3, s 1 4, e 1 1, e 1 2, e 1 3, e 1 4, e 1 5
 int x; void *f(void *a) { while (?) { while (?) x = 1; assert(0); x = 2; } } MAIN => s 1 0, s 1 1, s 1 2, s 1 3, s 1 4, s 1 6, e 1 1, e 1 2, e 1 3, e 1 4, e 1 5, e 1 6
-int x; void *f(void *a) { assert(0); while (?) x = 1; } MAIN => s 1 0, s 1 1, e 1 1";
+int x; void *f(void *a) { assert(0); while (?) x = 1; } MAIN => s 1 0, s 1 1, e 1 1
+int x; void *f(void *a) { x = 1; assert(x == 1); } MAIN => s 1 0, s 1 1, s 1 2, s 1 3, e 1 1, e 1 2, e 1 3, e 1 4
+int x; void *f(void *a) { if (x == 0) x = 1; } MAIN => s 1 1, s 1 2, s 1 3, e 1 1, e 1 2, e 1 3, e 1 4
+int x; void *f(void *a) { while (x != 0) x = 1; } MAIN => s 1 1, s 1 2, s 1 3, e 1 1, e 1 2, e 1 3, e 1 4
+int x; void *f(void *a) { if (x < 0) ; else x = 1; } MAIN => s 1 1, s 1 2, s 1 3, e 1 1, e 1 2, e 1 3
+void *f(void *a) { int k; k = 2 * k + 1; __VERIFIER_assume(k == 3); assert(k >= 3); } MAIN => s 1 0, s 1 1, s 1 2, s 1 3, s 1 4, e 1 1, e 1 2, e 1 3, e 1 4
+void *f(void *a) { int k; __VERIFIER_assume(k != 3); __VERIFIER_assume(k > 3); } MAIN => s 1 1, s 1 2, s 1 3, e 1 1, e 1 2, e 1 3";
 
 /// A program of two threads, and the lines of its table.
 const TWO_THREADS: &str = "\
@@ -78,7 +84,9 @@ int x; void *f(void *a) { x = 1; } int main() { pthread_t t; pthread_create(&t, 
 int x; void *f(void *a) { x = 1; } void *g(void *b) { assert(0); } int main() { pthread_t t; pthread_create(&t, 0, f, 0); pthread_create(&t, 0, g, 0); return 0; } => s 1 1, s 1 2, s 2 0, s 2 1, e 1 1, e 2 1
 int x; void *f(void *a) { x = 1; } void *g(void *b) { assert(0); } int main() { pthread_t t; pthread_create(&t, 0, g, 0); pthread_create(&t, 0, f, 0); return 0; } => s 1 0, s 1 1, s 2 1, s 2 2, e 1 1, e 2 1
 int x; void *f(void *a) { assert(0); x = 1; } void *g(void *b) { x = 1; x = 2; } int main() { pthread_t t; pthread_create(&t, 0, f, 0); pthread_create(&t, 0, g, 0); return 0; } => s 1 0, s 1 1, s 2 1, s 2 2, s 2 3, e 1 1, e 2 1, e 2 2
-void *f(void *a) { } void *g(void *b) { while (?) { if (?) assert(0); } } int main() { pthread_t t; pthread_create(&t, 0, f, 0); pthread_create(&t, 0, g, 0); return 0; } => s 1 1, s 2 0, s 2 1, s 2 2, s 2 3, s 2 4, e 2 1, e 2 2, e 2 3, e 2 4, e 2 5";
+void *f(void *a) { } void *g(void *b) { while (?) { if (?) assert(0); } } int main() { pthread_t t; pthread_create(&t, 0, f, 0); pthread_create(&t, 0, g, 0); return 0; } => s 1 1, s 2 0, s 2 1, s 2 2, s 2 3, s 2 4, e 2 1, e 2 2, e 2 3, e 2 4, e 2 5
+int x; void *f(void *a) { int k; k = x; if (k > 3) x = 0; } void *g(void *b) { int l; x = l; assert(x != 7); } int main() { pthread_t t; pthread_create(&t, 0, f, 0); pthread_create(&t, 0, g, 0); return 0; } => s 1 1, s 1 2, s 1 3, s 1 4, s 2 0, s 2 1, s 2 2, s 2 3, e 1 1, e 1 2, e 1 3, e 1 4, e 2 1, e 2 2, e 2 3, e 2 4
+int x; void *f(void *a) { int k; k = x; x = k + 1; } int main() { pthread_t t; pthread_create(&t, 0, f, 0); pthread_create(&t, 0, f, 0); return 0; } => s 1 1, s 1 2, s 1 3, s 2 1, s 2 2, s 2 3, e 1 1, e 1 2, e 2 1, e 2 2";
 
 /// The table of lines that are parted by commas.
 fn table(alloc: Global, lines: &str) -> Result<String, AllocError> {

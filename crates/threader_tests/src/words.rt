@@ -1,12 +1,14 @@
 use crate::runs::{ASSIGNS_ONCE, run};
 use std::test::Fail;
 
-/// No word, one, three, words that begin with `-`, and commands that are unknown or not built.
+/// No word, one, four, words that begin with `-`, and commands that are unknown or not built.
 const REFUSED: &str = "
 tables
 x.c
-tables x.c x.c
+tables x.c x.c x.c
 tables -x.c
+tables x.c -x.c
+tables -- x.c
 tables -
 -tables x.c
 x.c tables
