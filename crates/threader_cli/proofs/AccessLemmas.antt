@@ -1,6 +1,6 @@
 -- A variable that stands in one term at most has sums that fit.
-use Rattle.std.proofs.Common.{◌≡◌, ℕ, zero, suc, ◌+◌, ◌^◌, ◌<◌, ◌≤◌, ℤ, pos, negsuc, neg_ℤ, ◌+ℤ◌, Bool, true, false, cond, not, ◌&&◌, ◌||◌, List, [], ◌∷◌, ◌++◌, map, length, bytes_eq, nat_le, count_by, if◌then◌else◌, Option, Some, None, refl, sym, ap, subst, ◌∙◌, inl, inr, arith}
-use Rattle.std.specs.List.{list_any, list_all}
+use Rattle.std.proofs.Common.{◌≡◌, ℕ, zero, suc, ◌+◌, ◌^◌, ◌≤◌, ℤ, pos, negsuc, ◌+ℤ◌, Bool, true, false, cond, ◌&&◌, ◌||◌, List, [], ◌∷◌, ◌++◌, map, bytes_eq, nat_le, count_by, if◌then◌else◌, Option, Some, refl, sym, ap, subst, ◌∙◌, inl, inr, arith}
+use Rattle.std.specs.List.{list_all}
 use Rattle.std.proofs.lemmas.Bool.{cases_Bool, lt-ltb}
 use Rattle.std.proofs.lemmas.Bool.Decides.{nat_tests}
 use Rattle.std.proofs.lemmas.Int.{ints}
@@ -13,7 +13,7 @@ use Rattle.threader_cli.proofs.NameLemmas.{list_all_append}
 use Rattle.threader_cli.proofs.NumberLemmas.{Fits-value_of}
 use Rattle.threader_cli.proofs.ReadingSteps.{left_true, right_true}
 use Rattle.threader_cli.specs.Checks.{allows}
-use Rattle.threader_cli.specs.Form.{at_name, is_called, signed, value_of, term_coefficient, coefficient_in, constant_in, sums_fit_from, has_number, sums_fit}
+use Rattle.threader_cli.specs.Form.{at_name, is_called, signed, value_of, term_coefficient, coefficient_in, constant_in, sums_fit_from, has_number}
 use Rattle.threader_cli.specs.Tree.{Term, Number, Named, Multiple, Signed}
 use Rattle.threader_cli.specs.Uses.{Use, Assigns, Tests, Assumes, is_among, reads_among, uses_only, accesses, use_fits, one_if}
 

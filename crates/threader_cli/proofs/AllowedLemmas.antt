@@ -1,5 +1,5 @@
 -- What is asked of a program, as acceptance asks it.
-use Rattle.std.proofs.Common.{◌≡◌, ℕ, zero, suc, ◌+◌, ◌-◌, ◌≤◌, Bool, true, false, not, ◌&&◌, ◌||◌, List, [], ◌∷◌, ◌++◌, map, length, replicate, bytes_eq, nat_le, Option, Some, None, refl, sym, ap, ap₂, subst, ◌∙◌, inl, inr, arith}
+use Rattle.std.proofs.Common.{◌≡◌, ℕ, ◌+◌, ◌-◌, ◌≤◌, Bool, true, false, not, ◌&&◌, ◌||◌, List, [], ◌∷◌, ◌++◌, map, length, replicate, bytes_eq, nat_le, Some, None, refl, sym, ap, ap₂, subst, ◌∙◌, inl, inr, arith}
 use Rattle.std.specs.List.{list_any, list_all, AllByRecursion}
 use Rattle.std.proofs.lemmas.Bool.{cases_Bool}
 use Rattle.std.proofs.lemmas.Bool.Decides.{nat_tests}
@@ -24,15 +24,17 @@ others : (x : List ℕ) (before xs : List (List ℕ)) → ((y : List ℕ) → by
     → AllByRecursion (λ column. is_called x column ≡ false) (map Some xs)
 others x before [] has new = tt
 others x before (y ∷ ys) has new = (
-    apart x y (λ same. absurd (true_false (sym (has y same) ∙ false_of_not (list_any (bytes_eq y) before) (left_true (not (list_any (bytes_eq y) before)) _ new)))),
-    others x (before ++ y ∷ []) ys (λ z same. list_any_append (bytes_eq z) before (y ∷ []) ∙ or_left (list_any (bytes_eq z) before) _ (has z same)) (right_true (not (list_any (bytes_eq y) before)) _ new),
-  )
+  apart x y (λ same. absurd (true_false (sym (has y same) ∙ false_of_not (list_any (bytes_eq y) before) (left_true (not (list_any (bytes_eq y) before)) _ new)))),
+  others x (before ++ y ∷ []) ys (λ z same. list_any_append (bytes_eq z) before (y ∷ []) ∙ or_left (list_any (bytes_eq z) before) _ (has z same)) (right_true (not (list_any (bytes_eq y) before)) _ new),
+)
   where
     true_false : true ≡ false → ⊥
     true_false e = cc
+
     or_left : (a b : Bool) → a ≡ true → (a || b) ≡ true
     or_left true b e = refl
     or_left false b e = cc
+
     apart : (a b : List ℕ) → (bytes_eq b a ≡ true → ⊥) → bytes_eq a b ≡ false
     apart a b differs = elim (cases_Bool (bytes_eq a b)) [
       | inl same ↦ absurd (differs ((bytes_eq-Decides b a).1 (sym ((bytes_eq-Decides a b).0 same))))
@@ -85,8 +87,8 @@ usable_full variables declared locals (f ∷ functions) new =
     let own = are_new-alone locals f.locals (right_true (list_all (λ name. not (is_among (declared ++ f.name ∷ []) name)) f.locals) _ front) in
     let rest = right_true (list_all (λ name. not (is_among (declared ++ f.name ∷ []) name)) f.locals && are_new locals f.locals) _ new in
     let here : is_usable variables f ≡ list_all (full variables f) (uses_each f.body) =
-        with_new (are_new [] f.locals) (list_all (allows variables f.locals (map Some f.locals)) (uses_each f.body)) own
-        ∙ ap (λ (test : Use → Bool). list_all test (uses_each f.body)) (λ i used. allows-over variables f.locals used i) in
+    with_new (are_new [] f.locals) (list_all (allows variables f.locals (map Some f.locals)) (uses_each f.body)) own
+    ∙ ap (λ (test : Use → Bool). list_all test (uses_each f.body)) (λ i used. allows-over variables f.locals used i) in
     ap₂ ◌&&◌ here (usable_full variables (declared ++ f.name ∷ []) (locals ++ f.locals) functions rest)
 
 pub uses-splits : (p : Program) → list_all (λ f. list_all (full (variable_names p) f) (uses_each f.body)) p.functions ≡ (uses_declared p && has_few_accesses p && numbers_fit p)

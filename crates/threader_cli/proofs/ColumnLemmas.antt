@@ -1,6 +1,6 @@
 -- What a function sees of all columns, and what it sees of its own.
-use Rattle.std.proofs.Common.{◌≡◌, ℕ, zero, suc, ◌+◌, ◌-◌, ◌<◌, ◌≤◌, pos, Bool, true, false, ◌&&◌, ◌||◌, List, [], ◌∷◌, ◌++◌, map, length, replicate, bytes_eq, nat_le, Option, Some, None, refl, sym, ap, subst, ◌∙◌, inl, inr, arith}
-use Rattle.std.specs.List.{list_any, list_all, position_or_len, AllByRecursion}
+use Rattle.std.proofs.Common.{◌≡◌, ℕ, zero, suc, ◌+◌, ◌<◌, ◌≤◌, pos, Bool, true, false, ◌&&◌, ◌||◌, List, [], ◌∷◌, ◌++◌, map, length, replicate, bytes_eq, nat_le, Option, Some, None, refl, sym, ap, subst, ◌∙◌, inl, inr, arith}
+use Rattle.std.specs.List.{list_all, position_or_len, AllByRecursion}
 use Rattle.std.proofs.lemmas.Bool.{cases_Bool}
 use Rattle.std.proofs.lemmas.List.{append_assoc, append-nil, map-append}
 use Rattle.lin_rows.proofs.Lists.{AllByRecursion-append}
@@ -9,7 +9,7 @@ use Rattle.threader_cli.proofs.PlaceLemmas.{place_of-variable, place_of-local}
 use Rattle.threader_cli.proofs.ReadingSteps.{left_true, right_true}
 use Rattle.threader_cli.specs.Checks.{allows}
 use Rattle.threader_cli.specs.Data.{seen}
-use Rattle.threader_cli.specs.Form.{Columns, is_called, place_of, coefficient_in, constant_in, sums_fit_from, has_number, sums_fit}
+use Rattle.threader_cli.specs.Form.{Columns, is_called, place_of, coefficient_in, constant_in, sums_fit_from, has_number}
 use Rattle.threader_cli.specs.Scope.{IsNotAmong, AreApart}
 use Rattle.threader_cli.specs.Tree.{Term, Number, Named, Multiple, Signed}
 use Rattle.threader_cli.specs.Uses.{Use, Assigns, Tests, Assumes, is_among, uses_only, accesses, use_fits}
@@ -44,9 +44,9 @@ pub seen_apart : (variables : List (List ℕ)) (before : ℕ) (locals : List (Li
 seen_apart variables before locals behind apart =
     let names : AreApart (map Some variables ++ map Some locals) = subst AreApart (map-append Some variables locals) apart in
     let longer : AreApart ((map Some variables ++ map Some locals) ++ (replicate behind None ++ [])) =
-        insert_apart (map Some variables ++ map Some locals) [] behind (subst AreApart (sym (append-nil (map Some variables ++ map Some locals))) names) in
+    insert_apart (map Some variables ++ map Some locals) [] behind (subst AreApart (sym (append-nil (map Some variables ++ map Some locals))) names) in
     let whole : AreApart (map Some variables ++ (map Some locals ++ replicate behind None)) =
-        subst AreApart (append_assoc (map Some variables) (map Some locals) (replicate behind None)) (subst (λ (end : Columns). AreApart ((map Some variables ++ map Some locals) ++ end)) (append-nil (replicate behind None)) longer) in
+    subst AreApart (append_assoc (map Some variables) (map Some locals) (replicate behind None)) (subst (λ (end : Columns). AreApart ((map Some variables ++ map Some locals) ++ end)) (append-nil (replicate behind None)) longer) in
     insert_apart (map Some variables) (map Some locals ++ replicate behind None) before whole
 
 -- ---- sums over columns that are not seen

@@ -1,5 +1,5 @@
 -- The program of a text that was accepted is one.
-use Rattle.std.proofs.Common.{◌≡◌, ℕ, zero, suc, ◌+◌, ◌-◌, ◌*◌, ◌^◌, ◌<◌, ◌≤◌, Bool, true, false, not, ◌&&◌, ◌||◌, List, [], ◌∷◌, ◌++◌, map, length, take, find, filter_map, bytes_eq, nat_le, slice_get, cond, Option, Some, None, refl, sym, ap, subst, ◌∙◌, inl, inr, arith}
+use Rattle.std.proofs.Common.{◌≡◌, ℕ, zero, suc, ◌+◌, ◌^◌, ◌<◌, ◌≤◌, Bool, true, false, not, ◌&&◌, ◌||◌, List, [], ◌∷◌, ◌++◌, map, length, take, filter_map, bytes_eq, nat_le, slice_get, cond, Option, Some, None, refl, sym, ap, subst, ◌∙◌, arith}
 use Rattle.std.specs.List.{list_any, list_all, AllByRecursion, cons_option}
 use Rattle.std.proofs.lemmas.List.{length-map, length-append, take_at, append_assoc, append-nil}
 use Rattle.std.proofs.lemmas.Bool.Decides.{nat_tests}
@@ -15,10 +15,10 @@ use Rattle.threader_cli.proofs.ProgramColumns.{AreNamed, IsColumn, length-locals
 use Rattle.threader_cli.proofs.ReadingSteps.{left_true, right_true, false_of_not}
 use Rattle.threader_cli.proofs.TextLemmas.{Apart, AllPairs-Apart}
 use Rattle.threader_cli.specs.Accepted.{variable_names, function_names, find_function, are_new, locals_are_new_behind, text_declares, locals_are_new, uses_declared, has_few_accesses, numbers_fit, has_few_creations, is_small, main_declares, is_allowed}
-use Rattle.threader_cli.specs.Checks.{CanRun, allows}
+use Rattle.threader_cli.specs.Checks.{CanRun}
 use Rattle.threader_cli.specs.Data.{created, variable_column, local_columns, counter_columns, columns_of, seen, thread_of, count_locals, threads_from, threads_of, data_of}
 use Rattle.threader_cli.specs.Graph.{locations, actions_each}
-use Rattle.threader_cli.specs.Proper.{is_proper_variable, is_proper_function, is_proper_program, is_proper_creation}
+use Rattle.threader_cli.specs.Proper.{is_proper_variable, is_proper_function, is_proper_program}
 use Rattle.threader_cli.specs.Tree.{Variable, Function, Creation, Program}
 use Rattle.threader_cli.specs.Uses.{is_among, uses_each}
 use Rattle.threader_cli.specs.Word.{is_name}
@@ -97,12 +97,11 @@ can-run variables more locals [] shared new small allowed = tt
 can-run variables more locals (f ∷ fs) shared new small allowed =
     let front = left_true (list_all (λ name. not (is_among ((variables ++ more) ++ f.name ∷ []) name)) f.locals && are_new locals f.locals) _ new in
     let none : list_all (λ name. not (is_among (variables ++ (more ++ f.name ∷ [])) name)) f.locals ≡ true =
-        subst (λ (names : List (List ℕ)). list_all (λ name. not (is_among names name)) f.locals ≡ true) (append_assoc variables more (f.name ∷ [])) (left_true (list_all (λ name. not (is_among ((variables ++ more) ++ f.name ∷ []) name)) f.locals) _ front) in
+    subst (λ (names : List (List ℕ)). list_all (λ name. not (is_among names name)) f.locals ≡ true) (append_assoc variables more (f.name ∷ [])) (left_true (list_all (λ name. not (is_among ((variables ++ more) ++ f.name ∷ []) name)) f.locals) _ front) in
     let own = are_new-alone locals f.locals (right_true (list_all (λ name. not (is_among ((variables ++ more) ++ f.name ∷ []) name)) f.locals) _ front) in
     let joined : are_new variables f.locals ≡ true = subst (λ (names : List (List ℕ)). are_new names f.locals ≡ true) (append-nil variables) (join_new variables [] f.locals (none_before variables (more ++ f.name ∷ []) f.locals none) own) in
     let both : are_new [] (variables ++ f.locals) ≡ true = are_new_append [] variables f.locals ∙ ap (λ (b : Bool). b && are_new variables f.locals) shared ∙ joined in
-    let rest = right_true (list_all (λ name. not (is_among ((variables ++ more) ++ f.name ∷ []) name)) f.locals && are_new locals f.locals) _ new in
-    (
+    let rest = right_true (list_all (λ name. not (is_among ((variables ++ more) ++ f.name ∷ []) name)) f.locals && are_new locals f.locals) _ new in (
       record {
         small = small_enough (actions_each f.body) (left_true (nat_le (locations f.body) 128) _ small);
         new = own;
@@ -110,8 +109,8 @@ can-run variables more locals (f ∷ fs) shared new small allowed =
         allowed = left_true (list_all (full variables f) (uses_each f.body)) _ allowed;
       },
       can-run variables (more ++ f.name ∷ []) (locals ++ f.locals) fs shared
-      (subst (λ (names : List (List ℕ)). locals_are_new_behind names (locals ++ f.locals) fs ≡ true) (append_assoc variables more (f.name ∷ [])) rest)
-      (right_true (nat_le (locations f.body) 128) _ small) (right_true (list_all (full variables f) (uses_each f.body)) _ allowed),
+          (subst (λ (names : List (List ℕ)). locals_are_new_behind names (locals ++ f.locals) fs ≡ true) (append_assoc variables more (f.name ∷ [])) rest)
+          (right_true (nat_le (locations f.body) 128) _ small) (right_true (list_all (full variables f) (uses_each f.body)) _ allowed),
     )
 
 -- what is asked of a program, in parts
@@ -208,11 +207,11 @@ data-is p allowed proper few_columns =
     let front : length (vs ++ ls) ≡ length variables + count_locals fs = omega (arith, length-append vs ls, n_variables, n_locals) in
     let split : columns_of p ≡ (vs ++ ls) ++ cs = sym (append_assoc vs ls cs) in
     let each : AllByRecursion (IsColumn (length (threads_of p))) (columns_of p) =
-        subst (λ (n : ℕ). AllByRecursion (IsColumn n) (columns_of p)) (sym n_threads)
-        (AllByRecursion-append (IsColumn (length fs)) vs (ls ++ cs) (variables-are (length fs) p.variables proper_variables)
-        (AllByRecursion-append (IsColumn (length fs)) ls cs (locals-are (length fs) 1 fs (omega arith) (omega arith) (omega arith) named) (counters-are (length fs) 1 fs (omega arith) (omega arith) (omega arith)))) in
+    subst (λ (n : ℕ). AllByRecursion (IsColumn n) (columns_of p)) (sym n_threads)
+    (AllByRecursion-append (IsColumn (length fs)) vs (ls ++ cs) (variables-are (length fs) p.variables proper_variables)
+    (AllByRecursion-append (IsColumn (length fs)) ls cs (locals-are (length fs) 1 fs (omega arith) (omega arith) (omega arith) named) (counters-are (length fs) 1 fs (omega arith) (omega arith) (omega arith)))) in
     let counts : (j : ℕ) (k : ℕ) (column : Column) → k ≡ first_counter (data_of p) + j → slice_get (columns_of p) k ≡ Some column → IsCounter (suc j) column =
-        λ j k column at found. counter-at (vs ++ ls) fs k j column (at ∙ (λ i. (first ∙ sym front) i + j)) (ap (λ (xs : List Column). slice_get xs k) (sym split) ∙ found) in
+    λ j k column at found. counter-at (vs ++ ls) fs k j column (at ∙ (λ i. (first ∙ sym front) i + j)) (ap (λ (xs : List Column). slice_get xs k) (sym split) ∙ found) in
     record {
       few_columns = omega (arith, whole, few_columns);
       few_threads = omega (arith, n_threads, two);

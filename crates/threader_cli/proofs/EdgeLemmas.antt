@@ -1,14 +1,13 @@
 -- The edges of a thread are edges of its program.
-use Rattle.std.proofs.Common.{◌≡◌, ℕ, zero, suc, ◌+◌, ◌*◌, ◌^◌, ◌<◌, ◌≤◌, ℤ, pos, negsuc, neg_ℤ, ◌+ℤ◌, Bool, true, false, ◌&&◌, List, [], ◌∷◌, ◌++◌, map, length, nat_eq, refl, sym, ap, ◌∙◌, arith}
+use Rattle.std.proofs.Common.{◌≡◌, ℕ, suc, ◌+◌, ◌*◌, ◌^◌, ◌<◌, ◌≤◌, ℤ, pos, negsuc, ◌+ℤ◌, true, ◌&&◌, List, [], ◌∷◌, ◌++◌, map, length, refl, arith}
 use Rattle.std.specs.List.{list_all, AllByRecursion, IsDistinct}
 use Rattle.std.proofs.lemmas.List.{length-map, length-append}
 use Rattle.std.proofs.lemmas.Bool.Decides.{nat_tests}
-use Rattle.lin_rows.specs.Row.{Row, RowFits}
 use Rattle.lin_rows.specs.System.{IsRowOver}
 use Rattle.lin_rows.proofs.Lists.{AllByRecursion-append}
 use Rattle.lin_rows.proofs.Numbers.{Fits-neg}
 use Rattle.thr_base.specs.Number.{Fits, fits}
-use Rattle.transition_formula.specs.Program.{Form, Edge, Thread, Program, IsFormOver, IsEdge, first_counter}
+use Rattle.transition_formula.specs.Program.{Edge, Thread, Program, IsEdge, first_counter}
 use Rattle.threader_cli.proofs.FormLemmas.{Fits-multiple}
 use Rattle.threader_cli.proofs.NameLemmas.{all_left, all_right}
 use Rattle.threader_cli.proofs.NumberLemmas.{below_from}
@@ -17,7 +16,7 @@ use Rattle.threader_cli.specs.Comparison.{limits, opposite, right_of, limits_fit
 use Rattle.threader_cli.specs.Form.{Columns, at_name, place_of, form_of, coefficient_in, constant_in, sum_from, sums_fit_from, sums_fit, has_number}
 use Rattle.threader_cli.specs.Graph.{actions, actions_each, entry, edge, limit_edge, true_edges, false_edges, branches, edges, edges_each, thread_edges}
 use Rattle.threader_cli.specs.Tree.{Mark, Equal, Unequal, Less, LessOrEqual, Greater, GreaterOrEqual, Signed, Comparison, Condition, Choice, Compares, Statement, Block, Empty, Assign, AssertFalse, Assert, Assume, If, IfElse, While, Statements, End, Then}
-use Rattle.threader_cli.specs.Uses.{Use, Assigns, Tests, Assumes, uses, uses_each, condition_uses, is_among, uses_only, use_fits}
+use Rattle.threader_cli.specs.Uses.{Assigns, Tests, Assumes, uses, uses_each, condition_uses, is_among, uses_only, use_fits}
 use Rattle.threader_cli.specs.declared.limit.Limit.{Limit}
 use Rattle.threader_cli.specs.declared.limit.Limit.TheVariants.{Is, AtMost, AtLeast}
 use Rattle.threader_cli.specs.Word.{is_number}
@@ -33,9 +32,10 @@ sum-Fits adds sum (s ∷ terms) fit all = sum-Fits adds (sum +ℤ adds s) terms 
 sums-Fit : (columns : Columns) (terms : List Signed) → list_all (λ column. sums_fit_from (coefficient_in column) (pos 0) terms) columns ≡ true
     → AllByRecursion Fits (map (λ column. sum_from (coefficient_in column) (pos 0) terms) columns)
 sums-Fit [] terms all = tt
-sums-Fit (column ∷ columns) terms all =
-    (sum-Fits (coefficient_in column) (pos 0) terms refl (left_true (sums_fit_from (coefficient_in column) (pos 0) terms) _ all),
-    sums-Fit columns terms (right_true (sums_fit_from (coefficient_in column) (pos 0) terms) _ all))
+sums-Fit (column ∷ columns) terms all = (
+  sum-Fits (coefficient_in column) (pos 0) terms refl (left_true (sums_fit_from (coefficient_in column) (pos 0) terms) _ all),
+  sums-Fit columns terms (right_true (sums_fit_from (coefficient_in column) (pos 0) terms) _ all),
+)
 
 entry-below : (bound count at next : ℕ) → at + count ≤ bound → next < bound → entry count at next < bound
 entry-below bound count at next h k = grind (arith, nat_tests)
@@ -43,7 +43,6 @@ entry-below bound count at next h k = grind (arith, nat_tests)
 module _ (program : Program) (thread : Thread) (columns : Columns) (names : List (List ℕ)) (bound : ℕ)
     (width : length columns ≡ length program.columns) (locations_are : thread.locations ≡ bound)
     (known : (name : List ℕ) → is_among names name ≡ true → place_of columns name < first_counter program) where
-
   abbrev AreEdges : List Edge → Type 0
   AreEdges es = AllByRecursion (IsEdge program thread) es
 
@@ -129,9 +128,11 @@ module _ (program : Program) (thread : Thread) (columns : Columns) (names : List
         → AreEdges (edges columns s at next)
     edges-are (Block body) at next some h k only fit = each-are body at next some h k only fit
     edges-are Empty at next some h k only fit = tt
-    edges-are (Assign name first more) at next some h k only fit =
-        (assign-is name (first ∷ more) at next some (omega arith) k (left_true (is_among names name) _ (left_true (uses_only names (Assigns name (first ∷ more))) _ only))
-        (left_true (use_fits columns (Assigns name (first ∷ more))) _ fit), tt)
+    edges-are (Assign name first more) at next some h k only fit = (
+      assign-is name (first ∷ more) at next some (omega arith) k (left_true (is_among names name) _ (left_true (uses_only names (Assigns name (first ∷ more))) _ only))
+          (left_true (use_fits columns (Assigns name (first ∷ more))) _ fit),
+      tt,
+    )
     edges-are AssertFalse at next some h k only fit = (free-is at 0 some (omega arith) (omega arith), tt)
     edges-are (Assert c) at next some h k only fit = sides-are c at next 0 some (omega arith) k (omega arith) (left_true (use_fits columns (Tests c)) _ fit)
     edges-are (Assume c) at next some h k only fit =
@@ -179,8 +180,14 @@ limits-few GreaterOrEqual b = omega arith
 
 sides-few : (columns : Columns) (c : Comparison) (at holds fails : ℕ) → length (true_edges columns c at holds ++ false_edges columns c at fails) ≤ 4
 sides-few columns c at holds fails =
-    omega (arith, length-append (true_edges columns c at holds) (false_edges columns c at fails), length-map (true_limits c) (limit_edge columns c.name at holds), length-map (false_limits c) (limit_edge columns c.name at fails),
-    limits-few c.mark (right_of c), limits-few (opposite c.mark) (right_of c))
+    omega (
+      arith,
+      length-append (true_edges columns c at holds) (false_edges columns c at fails),
+      length-map (true_limits c) (limit_edge columns c.name at holds),
+      length-map (false_limits c) (limit_edge columns c.name at fails),
+      limits-few c.mark (right_of c),
+      limits-few (opposite c.mark) (right_of c),
+    )
 
 branches-few : (columns : Columns) (c : Condition) (at holds fails : ℕ) → length (branches columns c at holds fails) ≤ 4
 branches-few columns Choice at holds fails = omega arith
@@ -202,8 +209,14 @@ mutual
   edges-few columns (IfElse c s t) at next =
       let inside = entry (actions s) (at + 1) next in
       let otherwise = entry (actions t) (at + 1 + actions s) next in
-      omega (arith, length-append (branches columns c at inside otherwise) (edges columns s (at + 1) next ++ edges columns t (at + 1 + actions s) next),
-      length-append (edges columns s (at + 1) next) (edges columns t (at + 1 + actions s) next), branches-few columns c at inside otherwise, edges-few columns s (at + 1) next, edges-few columns t (at + 1 + actions s) next)
+      omega (
+        arith,
+        length-append (branches columns c at inside otherwise) (edges columns s (at + 1) next ++ edges columns t (at + 1 + actions s) next),
+        length-append (edges columns s (at + 1) next) (edges columns t (at + 1 + actions s) next),
+        branches-few columns c at inside otherwise,
+        edges-few columns s (at + 1) next,
+        edges-few columns t (at + 1 + actions s) next,
+      )
   edges-few columns (While c s) at next =
       let inside = entry (actions s) (at + 1) at in
       omega (arith, length-append (branches columns c at inside next) (edges columns s (at + 1) at), branches-few columns c at inside next, edges-few columns s (at + 1) at)

@@ -1,6 +1,6 @@
 -- Forms with one more term added.
-use Rattle.std.proofs.Common.{◌≡◌, ℕ, zero, suc, ◌+◌, ◌<◌, ◌≤◌, ℤ, pos, negsuc, ◌+ℤ◌, Bool, true, false, not, cond, ◌&&◌, List, [], ◌∷◌, ◌++◌, map, length, replicate, get_or, set, drop, bytes_eq, if◌then◌else◌, Option, Some, None, IsTrue, refl, sym, ap, ap₂, subst, ◌∙◌, inl, inr, arith}
-use Rattle.std.specs.List.{list_all, position_or_len, AllByRecursion}
+use Rattle.std.proofs.Common.{◌≡◌, ℕ, zero, suc, ◌+◌, ◌<◌, ℤ, pos, ◌+ℤ◌, Bool, true, false, ◌&&◌, List, [], ◌∷◌, map, length, replicate, get_or, set, drop, if◌then◌else◌, Option, Some, None, IsTrue, refl, sym, ap, ap₂, subst, ◌∙◌, inl, inr, arith}
+use Rattle.std.specs.List.{list_all, AllByRecursion}
 use Rattle.std.proofs.lemmas.List.{length-replicate, drop_more}
 use Rattle.lin_rows.specs.Exact.{fitting}
 use Rattle.threader_cli.proofs.ReadingSteps.{left_true, right_true}
@@ -196,17 +196,11 @@ pub adds_multiple : (columns : Columns) (old new : Form) (s : Signed) (name : Li
     → AddsWhereFits columns old s b new
 adds_multiple columns old new s name k b apart is number by_name constant fit kept made =
     let same : raised_by s columns old.coefficients ≡ added_at old.coefficients (place_of columns name) k =
-        (λ i. raised (λ column. by_name column i) columns old.coefficients) ∙ sym (added_at-place columns name k old.coefficients apart is.width) in
+    (λ i. raised (λ column. by_name column i) columns old.coefficients) ∙ sym (added_at-place columns name k old.coefficients apart is.width) in
     let constant_is : old.constant +ℤ constant_in s ≡ old.constant = ap (λ (v : ℤ). old.constant +ℤ v) constant ∙ add_zero old.constant in
     by_test columns old new s b is
     (fit ∙ ap (list_all fits) (sym same) ∙ sym (outer (has_number s.term) (list_all fits (raised_by s columns old.coefficients)) (fits (old.constant +ℤ constant_in s)) number (ap fits constant_is ∙ is.constant_fits)))
     (λ yes. same_form new (raised_by s columns old.coefficients) (old.constant +ℤ constant_in s) (made yes ∙ sym same) (kept ∙ sym constant_is))
-
-missing : (b c : Bool) → (false && b && c) ≡ false
-missing b c = refl
-
-pub no_number : (columns : Columns) (old new : Form) (s : Signed) → IsSum columns old → has_number s.term ≡ false → AddsWhereFits columns old s false new
-no_number columns old new s is none = refuses columns old s is (ap (λ (b : Bool). b && list_all fits (raised_by s columns old.coefficients) && fits (old.constant +ℤ constant_in s)) none)
 
 -- ---- the beginning and the end
 

@@ -1,5 +1,5 @@
 -- The digits of numbers.
-use Rattle.std.proofs.Common.{◌≡◌, ◌≢◌, ℕ, zero, suc, ◌+◌, ◌-◌, ◌*◌, ◌^◌, ◌<◌, ◌≤◌, ℤ, pos, negsuc, neg_ℤ, ◌≤ℤ◌, ◌<ℤ◌, Bool, true, false, not, ◌&&◌, ◌||◌, List, [], ◌∷◌, length, get_or, fold, Option, Some, None, IfSome, IfNone, if◌then◌else◌, eqb, ltb, refl, sym, ◌∙◌, ap, subst, arith, inl, inr}
+use Rattle.std.proofs.Common.{◌≡◌, ℕ, suc, ◌+◌, ◌-◌, ◌*◌, ◌^◌, ◌<◌, ℤ, pos, negsuc, ◌≤ℤ◌, ◌<ℤ◌, Bool, true, false, not, ◌&&◌, ◌||◌, List, ◌∷◌, length, get_or, fold, Some, None, if◌then◌else◌, eqb, ltb, refl, sym, ◌∙◌, ap, subst, arith}
 use Rattle.std.proofs.lemmas.Int.{ints}
 use Rattle.std.specs.Char.{is_ascii_digit, IsAsciiDigit}
 use Rattle.std.specs.List.{list_all}
@@ -10,9 +10,9 @@ use Rattle.c_lex.specs.Piece.{is_number_text}
 use Rattle.std.proofs.lemmas.Bool.{lt-ltb}
 use Rattle.std.proofs.lemmas.Bool.Decides.{nat_tests}
 use Rattle.std.proofs.lemmas.Str.Parse.{IsNumeralModel, numerals_by_fold, tells_all_ascii_digits, tells_by_index}
-use Rattle.thr_base.specs.Number.{Fits, fits, number_text, digits_number, AreDigitsOf}
+use Rattle.thr_base.specs.Number.{Fits, number_text, digits_number, AreDigitsOf}
 use Rattle.thr_base.proofs.Numbers.{IsTextOf-number_text, number_text-IsTextOf}
-use Rattle.threader_cli.proofs.ReadingSteps.{left_true, right_true, false_of_not}
+use Rattle.threader_cli.proofs.ReadingSteps.{left_true, right_true}
 use Rattle.threader_cli.proofs.WordLemmas.{list_all-digits}
 use Rattle.threader_cli.specs.Form.{value_of}
 use Rattle.threader_cli.specs.Word.{is_number}
@@ -49,8 +49,7 @@ is_number-digits text h =
     let all : all_ascii_digits text ≡ true = sym (list_all-digits text) ∙ right_true (not (eqb (length text) 0)) _ front in
     let rest = right_true (not (eqb (length text) 0) && list_all is_ascii_digit text) _ h in
     let digits = tested.to text all in
-    let value : digits_number text ≡ digits_value 10 text = tested.same text digits in
-    (
+    let value : digits_number text ≡ digits_value 10 text = tested.same text digits in (
       record {
         digits = indexed.from text digits;
         some = some_from (length text) some;
@@ -116,13 +115,6 @@ value_read text z e = by_cases (is_number text) e
     by_cases : (b : Bool) → Some z ≡ (if b then Some (value_of text) else None) → (b ≡ true) × (z ≡ value_of text)
     by_cases true h = (refl, cc)
     by_cases false h = cc
-
-pub value_missing : (text : List ℕ) → None ≡ (if is_number text then Some (value_of text) else None) → is_number text ≡ false
-value_missing text e = by_cases (is_number text) e
-  where
-    by_cases : (b : Bool) → None ≡ (if b then Some (value_of text) else None) → b ≡ false
-    by_cases true h = cc
-    by_cases false h = refl
 
 -- the text of a number that is not negative has digits alone
 pub number_digits : (n : ℕ) → Fits (pos n) → list_all is_ascii_digit (number_text (pos n)) ≡ true

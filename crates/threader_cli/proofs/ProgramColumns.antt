@@ -1,9 +1,9 @@
 -- The columns of the program of a text that was accepted.
-use Rattle.std.proofs.Common.{◌≡◌, ◌≢◌, ◌↔◌, ℕ, zero, suc, ◌+◌, ◌-◌, ◌*◌, ◌^◌, ◌<◌, ◌≤◌, ℤ, pos, Bool, true, false, not, ◌&&◌, List, [], ◌∷◌, ◌++◌, codes, map, length, take, replicate, bytes_eq, slice_get, Option, Some, None, refl, sym, ap, subst, ◌∙◌, inl, inr, arith}
-use Rattle.std.specs.List.{list_any, list_all, AllByRecursion}
-use Rattle.std.proofs.lemmas.List.{length-map, length-append, take_at, map-append, append_assoc}
+use Rattle.std.proofs.Common.{◌≡◌, ◌≢◌, ℕ, zero, suc, ◌+◌, ◌<◌, ◌≤◌, pos, true, false, List, [], ◌∷◌, ◌++◌, codes, map, length, slice_get, Option, Some, None, refl, sym, ap, subst, ◌∙◌, arith}
+use Rattle.std.specs.List.{list_all, AllByRecursion}
+use Rattle.std.proofs.lemmas.List.{length-map, length-append, map-append}
 use Rattle.std.proofs.lemmas.Slice.Eq.{bytes_eq-Decides}
-use Rattle.lin_rows.proofs.Lists.{AllByRecursion-append, AllByRecursion-map, AllByRecursion-weaken}
+use Rattle.lin_rows.proofs.Lists.{AllByRecursion-append, AllByRecursion-weaken}
 use Rattle.thr_base.specs.Number.{Fits}
 use Rattle.transition_formula.specs.Program.{Column, IsTextOf, StartFits, IsOwner, StartsWhereShared, IsCounter}
 use Rattle.threader_cli.proofs.NumberLemmas.{Fits-value_of}
@@ -12,7 +12,7 @@ use Rattle.threader_cli.proofs.TextLemmas.{Apart, Apart-append, variable_text, o
 use Rattle.threader_cli.specs.Data.{start_of, variable_column, own_text, local_column, counter_column, local_columns, counter_columns, count_locals}
 use Rattle.threader_cli.specs.Form.{is_called}
 use Rattle.threader_cli.specs.Proper.{is_proper_variable, is_proper_start}
-use Rattle.threader_cli.specs.Scope.{IsNotAmong, AreApart}
+use Rattle.threader_cli.specs.Scope.{AreApart}
 use Rattle.threader_cli.specs.Tree.{Variable, Function}
 use Rattle.threader_cli.specs.Word.{is_name}
 
@@ -235,12 +235,12 @@ pub texts-apart : (vs : List Variable) (fs : List Function) → length fs ≤ 8 
 texts-apart vs fs few proper named apart locals_apart =
     let names = map (λ (v : Variable). v.name) vs in
     let own = Apart-append (local_texts 1 fs) (counter_texts 1 fs) (local_texts-apart 1 fs (omega arith) named locals_apart) (counter_texts-apart 1 fs (omega arith))
-            (crossed (IsLocal 1) (IsCounterText 1) local-no-counter (local_texts 1 fs) (counter_texts 1 fs) (local_texts-are 1 fs (omega arith) named) (counter_texts-are 1 fs (omega arith))) in
+    (crossed (IsLocal 1) (IsCounterText 1) local-no-counter (local_texts 1 fs) (counter_texts 1 fs) (local_texts-are 1 fs (omega arith) named) (counter_texts-are 1 fs (omega arith))) in
     let far_locals = crossed (λ name. is_name name ≡ true) (IsLocal 1) (λ x y n l same. name_not_own x l.number l.name n (same ∙ l.is)) names (local_texts 1 fs) (names-of vs proper) (local_texts-are 1 fs (omega arith) named) in
     let far_counters = crossed (λ name. is_name name ≡ true) (IsCounterText 1) (λ x y n c same. name_not_own x c.number (codes "$pc") n (same ∙ c.is)) names (counter_texts 1 fs) (names-of vs proper) (counter_texts-are 1 fs (omega arith)) in
     let texts : map (λ (c : Column). c.text) (map variable_column vs ++ (local_columns 1 fs ++ counter_columns 1 fs)) ≡ names ++ (local_texts 1 fs ++ counter_texts 1 fs) =
-        map-append (λ (c : Column). c.text) (map variable_column vs) (local_columns 1 fs ++ counter_columns 1 fs)
-        ∙ (λ k. texts-of-variables vs k ++ (map-append (λ (c : Column). c.text) (local_columns 1 fs) (counter_columns 1 fs) ∙ (λ j. texts-of-locals 1 fs j ++ texts-of-counters 1 fs j)) k) in
+    map-append (λ (c : Column). c.text) (map variable_column vs) (local_columns 1 fs ++ counter_columns 1 fs)
+    ∙ (λ k. texts-of-variables vs k ++ (map-append (λ (c : Column). c.text) (local_columns 1 fs) (counter_columns 1 fs) ∙ (λ j. texts-of-locals 1 fs j ++ texts-of-counters 1 fs j)) k) in
     subst Apart (sym texts) (Apart-append names (local_texts 1 fs ++ counter_texts 1 fs) apart own (both_far (local_texts 1 fs) (counter_texts 1 fs) names far_locals far_counters))
 
 -- names that no two columns have differ

@@ -1,5 +1,5 @@
 -- How many columns a function's text is over.
-use Rattle.std.proofs.Common.{◌≡◌, ◌+◌, ◌-◌, length, sym, arith}
+use Rattle.std.proofs.Common.{◌≡◌, ◌+◌, ◌-◌, length, arith}
 use Rattle.threader_cli.proofs.PlaceLemmas.{length-seen}
 use Rattle.threader_cli.specs.Scope.{columns_of, HasRoom}
 use Rattle.threader_cli.specs.declared.scope.Scope.{Scope}

@@ -1,21 +1,19 @@
 -- The texts of columns.
-use Rattle.std.proofs.Common.{◌≡◌, ◌≢◌, ℕ, zero, suc, ◌+◌, ◌^◌, ◌<◌, ◌≤◌, pos, Bool, true, false, not, ◌&&◌, ◌||◌, List, [], ◌∷◌, ◌++◌, codes, map, length, get_or, bytes_eq, nat_eq, AllPairs, Option, Some, None, refl, sym, ap, subst, ◌∙◌, inl, inr, arith}
-use Rattle.std.specs.Char.{is_ascii_digit, is_ascii_alphanumeric}
-use Rattle.std.specs.List.{list_any, list_all, AllByRecursion}
+use Rattle.std.proofs.Common.{◌≡◌, ◌≢◌, ℕ, zero, suc, ◌<◌, pos, Bool, true, false, ◌&&◌, ◌||◌, List, [], ◌∷◌, ◌++◌, codes, length, get_or, AllPairs, Some, None, refl, sym, ap, subst, ◌∙◌, inl, inr, arith}
+use Rattle.std.specs.Char.{is_ascii_digit}
+use Rattle.std.specs.List.{list_all, AllByRecursion}
 use Rattle.std.proofs.lemmas.Bool.{cases_Bool}
 use Rattle.std.proofs.lemmas.Bool.Decides.{nat_tests}
-use Rattle.std.proofs.lemmas.Slice.Eq.{bytes_eq-Decides}
 use Rattle.c_lex.specs.Bytes.{is_letter, is_word_byte}
-use Rattle.lin_rows.proofs.Lists.{AllByRecursion-at, AllByRecursion-append, AllByRecursion-map, AllByRecursion-weaken}
+use Rattle.lin_rows.proofs.Lists.{AllByRecursion-at, AllByRecursion-append}
 use Rattle.thr_base.specs.Number.{Fits, number_text, digits_number, AreDigitsOf}
 use Rattle.thr_base.proofs.Numbers.{IsTextOf-number_text}
-use Rattle.transition_formula.specs.Program.{Column, IsColumnText, IsTextOf, TellsOwner, is_text_byte, is_name_byte}
+use Rattle.transition_formula.specs.Program.{IsTextOf, is_text_byte, is_name_byte}
 use Rattle.threader_cli.proofs.NameLemmas.{list_all_append, all_right}
 use Rattle.threader_cli.proofs.NumberLemmas.{number_digits}
 use Rattle.threader_cli.proofs.ReadingSteps.{left_true, right_true}
-use Rattle.threader_cli.specs.Data.{own_text, local_column, counter_column, local_columns, counter_columns}
-use Rattle.threader_cli.specs.Tree.{Function}
-use Rattle.threader_cli.specs.Word.{is_word, is_name, reserved}
+use Rattle.threader_cli.specs.Data.{own_text}
+use Rattle.threader_cli.specs.Word.{is_word, is_name}
 
 -- ---- bytes
 

@@ -1,5 +1,5 @@
 -- Which texts are programs of the narrow language.
-use Rattle.std.specs.Prelude.{◌≡◌, ℕ, ◌+◌, Bool, true, false, not, ◌&&◌, List, [], ◌∷◌, ◌++◌, map, length, find, is_some, Option, Some, None, bytes_eq, nat_le, IsTrue}
+use Rattle.std.specs.Prelude.{◌≡◌, ℕ, Bool, true, not, ◌&&◌, List, [], ◌∷◌, ◌++◌, map, length, find, is_some, Option, Some, bytes_eq, nat_le, IsTrue}
 use Rattle.std.specs.List.{list_any, list_all}
 use Rattle.c_lex.specs.Tokens.{Lexeme}
 use Rattle.threader_cli.specs.Graph.{locations}

@@ -1,5 +1,5 @@
 -- The rows of comparisons, over columns that are known by their names.
-use Rattle.std.specs.Prelude.{ℕ, ℤ, pos, negsuc, neg_ℤ, ◌+ℤ◌, ◌-ℤ◌, Bool, ◌&&◌, List, [], ◌∷◌, map}
+use Rattle.std.specs.Prelude.{ℕ, ℤ, pos, negsuc, neg_ℤ, ◌+ℤ◌, ◌-ℤ◌, Bool, List, [], ◌∷◌, map}
 use Rattle.std.specs.List.{list_all}
 use Rattle.thr_base.specs.Number.{fits}
 use Rattle.lin_rows.specs.Row.{Row}
@@ -7,7 +7,6 @@ use Rattle.lin_rows.specs.Atom.{inequality}
 use Rattle.transition_formula.specs.Rows.{equality}
 use Rattle.threader_cli.specs.Form.{Columns, at_name, signed, value_of}
 use Rattle.threader_cli.specs.Tree.{Mark, Equal, Unequal, Less, LessOrEqual, Greater, GreaterOrEqual, Comparison}
-use Rattle.threader_cli.specs.Word.{is_number}
 use Rattle.threader_cli.specs.declared.limit.Limit.{Limit}
 use Rattle.threader_cli.specs.declared.limit.Limit.TheVariants.{Is, AtMost, AtLeast}
 

@@ -142,7 +142,11 @@ fn text_declares(alloc: Global, program: &Program) -> Result<bool, AllocError>
 }
 
 /// Whether a function uses what it may.
-fn function_is_usable(alloc: Global, variables: &Names, function: &Function) -> Result<bool, AllocError>
+fn function_is_usable(
+    alloc: Global,
+    variables: &Names,
+    function: &Function,
+) -> Result<bool, AllocError>
     ensures { IfOk result (λ yes. yes ≡ is_usable variables.now (function_of function.now)) }
 {
     let none = Names::new(alloc);
@@ -159,11 +163,7 @@ fn function_is_usable(alloc: Global, variables: &Names, function: &Function) -> 
     are_allowed(alloc, variables, &own, &function.body)
 }
 
-fn are_usable(
-    alloc: Global,
-    variables: &Names,
-    functions: &[Function],
-) -> Result<bool, AllocError>
+fn are_usable(alloc: Global, variables: &Names, functions: &[Function]) -> Result<bool, AllocError>
     ensures { IfOk result (λ yes. yes ≡ list_all (is_usable variables.now) (map function_of functions.now)) }
 {
     for function in functions {
@@ -176,10 +176,8 @@ fn are_usable(
 
 /// Whether functions use what they may.
 fn uses_are_allowed(alloc: Global, program: &Program) -> Result<bool, AllocError>
-    ensures {
-        let p = program_of program.now in
-        IfOk result (λ yes. yes ≡ specs.are_new [] (specs.variable_names p) && list_all (is_usable (specs.variable_names p)) p.functions)
-    }
+    ensures { let p = program_of program.now in
+        IfOk result (λ yes. yes ≡ specs.are_new [] (specs.variable_names p) && list_all (is_usable (specs.variable_names p)) p.functions) }
 {
     let mut variables = Names::new(alloc);
     if !add_variables(alloc, &mut variables, &program.variables)? {

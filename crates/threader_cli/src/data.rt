@@ -71,11 +71,7 @@ fn own_text(alloc: Global, i: ThreadNo, name: &[u8]) -> Result<Vec<u8>, AllocErr
     Ok(text)
 }
 
-fn push_locals(
-    columns: &mut Vec<Column>,
-    i: ThreadNo,
-    locals: &[Vec<u8>],
-) -> Result<(), AllocError>
+fn push_locals(columns: &mut Vec<Column>, i: ThreadNo, locals: &[Vec<u8>]) -> Result<(), AllocError>
     ensures { OnOk result (map column_of columns.new.items ≡ map column_of columns.old.items ++ map (specs.local_column i.0) (map (λ name. name.items) locals.now)) }
 {
     let alloc = *columns.allocator();
@@ -188,11 +184,9 @@ fn push_thread(
     requires runs { CanRun variables.now (function_of function.now) }
     requires room { length variables.now + before + length (function_of function.now).locals ≤ width }
     requires few { width ≤ 2 ^ 12 }
-    ensures {
-        let f = function_of function.now in
+    ensures { let f = function_of function.now in
         let behind = width - (length variables.now + before + length f.locals) in
-        OnOk result (map graph_of threads.new.items ≡ map graph_of threads.old.items ++ specs.thread_of (specs.seen variables.now before f.locals behind) counter f ∷ [])
-    }
+        OnOk result (map graph_of threads.new.items ≡ map graph_of threads.old.items ++ specs.thread_of (specs.seen variables.now before f.locals behind) counter f ∷ []) }
 {
     let alloc = *threads.allocator();
     let locals = local_names(alloc, &function.locals)?;
@@ -216,10 +210,8 @@ fn threads(
     requires run { AllByRecursion (CanRun variables.now) (map (λ f. function_of f.now) functions.now) }
     requires width { width ≡ length variables.now + specs.count_locals (map (λ f. function_of f.now) functions.now) + length functions.now }
     requires few { width ≤ 2 ^ 12 }
-    ensures {
-        let fs = map (λ f. function_of f.now) functions.now in
-        IfOk result (λ made. map graph_of made.items ≡ specs.threads_from variables.now 0 (length fs) (length variables.now + specs.count_locals fs) fs)
-    }
+    ensures { let fs = map (λ f. function_of f.now) functions.now in
+        IfOk result (λ made. map graph_of made.items ≡ specs.threads_from variables.now 0 (length fs) (length variables.now + specs.count_locals fs) fs) }
 {
     let mut threads = Vec::new(alloc);
     let mut before = 0;

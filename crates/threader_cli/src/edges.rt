@@ -93,7 +93,13 @@ fn limit_row(
 {
     match limit {
         Limit::Is(bound) => row(alloc, scope, true, &multiple(alloc, scope, name, 1)?, bound),
-        Limit::AtMost(bound) => row(alloc, scope, false, &multiple(alloc, scope, name, 1)?, bound),
+        Limit::AtMost(bound) => row(
+            alloc,
+            scope,
+            false,
+            &multiple(alloc, scope, name, 1)?,
+            bound,
+        ),
         Limit::AtLeast(bound) => {
             let coefficients = multiple(alloc, scope, name, -1)?;
             row(alloc, scope, false, &coefficients, opposite(bound))
@@ -141,11 +147,9 @@ pub fn push_assignment(
     requires few { scope.now.width < 2 ^ 32 }
     requires apart { AreApart (columns_of scope.now) }
     requires fits { use_fits (columns_of scope.now) (Assigns assignment.now.name.items (signed_of assignment.now.first ∷ map signed_of assignment.now.more.items)) ≡ true }
-    ensures {
-        let columns = columns_of scope.now in
+    ensures { let columns = columns_of scope.now in
         let terms = signed_of assignment.now.first ∷ map signed_of assignment.now.more.items in
-        OnOk result (map edge_of edges.new.items ≡ map edge_of edges.old.items ++ specs.edge from to [] ((place_of columns assignment.now.name.items, form_of columns terms) ∷ []) ∷ [])
-    }
+        OnOk result (map edge_of edges.new.items ≡ map edge_of edges.old.items ++ specs.edge from to [] ((place_of columns assignment.now.name.items, form_of columns terms) ∷ []) ∷ []) }
 {
     let alloc = *edges.allocator();
     let place = scope.place(&assignment.name) as u32;

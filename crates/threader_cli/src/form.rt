@@ -104,11 +104,9 @@ pub fn form(
 ) -> Result<Option<Line>, AllocError>
     requires room { HasRoom scope.now }
     requires apart { AreApart (columns_of scope.now) }
-    ensures {
-        let terms = signed_of assignment.now.first ∷ map signed_of assignment.now.more.items in
+    ensures { let terms = signed_of assignment.now.first ∷ map signed_of assignment.now.more.items in
         let columns = columns_of scope.now in
-        IfOk result (λ made. option_map line_of made ≡ (if specs.sums_fit columns terms then Some (specs.form_of columns terms) else None))
-    }
+        IfOk result (λ made. option_map line_of made ≡ (if specs.sums_fit columns terms then Some (specs.form_of columns terms) else None)) }
 {
     let mut line = Line {
         coefficients: zeros(alloc, scope.width)?,

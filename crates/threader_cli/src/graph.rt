@@ -117,7 +117,13 @@ fn push_edges_each(
     let mut here = at;
     for statement in body {
         let behind = here + actions(statement);
-        push_edges(edges, scope, statement, here, entry(end - behind, behind, next))?;
+        push_edges(
+            edges,
+            scope,
+            statement,
+            here,
+            entry(end - behind, behind, next),
+        )?;
         here = behind;
     }
     Ok(())
@@ -135,10 +141,8 @@ pub fn thread(
     requires few { scope.now.width < 2 ^ 32 }
     requires apart { AreApart (columns_of scope.now) }
     requires fits { list_all (use_fits (columns_of scope.now)) (uses_each (statements_of body.now)) ≡ true }
-    ensures {
-        let seen = statements_of body.now in
-        IfOk result (λ made. thread_of made ≡ record { counter = counter; locations = specs.locations seen; edges = specs.thread_edges (columns_of scope.now) seen })
-    }
+    ensures { let seen = statements_of body.now in
+        IfOk result (λ made. thread_of made ≡ record { counter = counter; locations = specs.locations seen; edges = specs.thread_edges (columns_of scope.now) seen }) }
 {
     let count = actions_each(body);
     let mut edges = Vec::new(alloc);

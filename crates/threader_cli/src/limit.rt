@@ -58,10 +58,8 @@ pub fn signed(negative: bool, number: i128) -> i128
 /// What a comparison says where it holds. Nothing where a number of it does not fit.
 fn sides_of(mark: Mark, number: i128) -> Option<Limits>
     requires { Fits number }
-    ensures {
-        let sides = specs.limits (mark_of mark) number in
-        option_map limits_in result ≡ (if specs.limits_fit sides then Some sides else None)
-    }
+    ensures { let sides = specs.limits (mark_of mark) number in
+        option_map limits_in result ≡ (if specs.limits_fit sides then Some sides else None) }
 {
     match mark {
         Mark::Equal => Some(Limits::one(Limit::Is(number))),
@@ -96,11 +94,9 @@ fn opposite(mark: Mark) -> Mark
 
 /// The limits of a mark at the number of a comparison.
 fn limits_by(mark: Mark, comparison: &Comparison) -> Option<Limits>
-    ensures {
-        let seen = comparison_of comparison.now in
+    ensures { let seen = comparison_of comparison.now in
         let sides = specs.limits (mark_of mark) (specs.right_of seen) in
-        option_map limits_in result ≡ (if is_number seen.digits && specs.limits_fit sides then Some sides else None)
-    }
+        option_map limits_in result ≡ (if is_number seen.digits && specs.limits_fit sides then Some sides else None) }
 {
     let number = value_of(&comparison.digits)?;
     sides_of(mark, signed(comparison.negative, number))
@@ -108,30 +104,24 @@ fn limits_by(mark: Mark, comparison: &Comparison) -> Option<Limits>
 
 /// What a comparison says where it holds. Nothing where a number of it does not fit.
 pub fn true_limits(comparison: &Comparison) -> Option<Limits>
-    ensures {
-        let seen = comparison_of comparison.now in
-        option_map limits_in result ≡ (if is_number seen.digits && specs.limits_fit (specs.true_limits seen) then Some (specs.true_limits seen) else None)
-    }
+    ensures { let seen = comparison_of comparison.now in
+        option_map limits_in result ≡ (if is_number seen.digits && specs.limits_fit (specs.true_limits seen) then Some (specs.true_limits seen) else None) }
 {
     limits_by(comparison.mark, comparison)
 }
 
 /// What a comparison says where it does not hold. Nothing where a number of it does not fit.
 pub fn false_limits(comparison: &Comparison) -> Option<Limits>
-    ensures {
-        let seen = comparison_of comparison.now in
-        option_map limits_in result ≡ (if is_number seen.digits && specs.limits_fit (specs.false_limits seen) then Some (specs.false_limits seen) else None)
-    }
+    ensures { let seen = comparison_of comparison.now in
+        option_map limits_in result ≡ (if is_number seen.digits && specs.limits_fit (specs.false_limits seen) then Some (specs.false_limits seen) else None) }
 {
     limits_by(opposite(comparison.mark), comparison)
 }
 
 /// Whether the numbers of a comparison fit on its true side.
 pub fn true_fits(comparison: &Comparison) -> bool
-    ensures {
-        let seen = comparison_of comparison.now in
-        result ≡ is_number seen.digits && specs.limits_fit (specs.true_limits seen)
-    }
+    ensures { let seen = comparison_of comparison.now in
+        result ≡ is_number seen.digits && specs.limits_fit (specs.true_limits seen) }
 {
     true_limits(comparison).is_some()
 }
@@ -139,10 +129,8 @@ pub fn true_fits(comparison: &Comparison) -> bool
 /// Whether the numbers of a comparison fit on both sides.
 #[tactic(auto, using(crate::proofs::UseLemmas::both_sides))]
 pub fn both_fit(comparison: &Comparison) -> bool
-    ensures {
-        let seen = comparison_of comparison.now in
-        result ≡ is_number seen.digits && specs.limits_fit (specs.true_limits seen) && specs.limits_fit (specs.false_limits seen)
-    }
+    ensures { let seen = comparison_of comparison.now in
+        result ≡ is_number seen.digits && specs.limits_fit (specs.true_limits seen) && specs.limits_fit (specs.false_limits seen) }
 {
     true_fits(comparison) && false_limits(comparison).is_some()
 }

@@ -41,6 +41,7 @@ impl Names {
     {
         self.set.contains(name)
     }
+
     pub fn len(&self) -> usize
         ensures { result ≡ length self.now }
     {

@@ -75,10 +75,8 @@ fn count_reads(variables: &Names, terms: &[Signed]) -> usize
 /// Whether each name in an assignment is known.
 #[tactic(auto, using(crate::proofs::NameLemmas::list_any_append))]
 fn is_declared(variables: &Names, own: &Scope<'_>, assignment: &Assignment) -> bool
-    ensures {
-        let terms = signed_of assignment.now.first ∷ map signed_of assignment.now.more.items in
-        result ≡ specs.uses_only (variables.now ++ own.now.locals.now) (specs.Assigns assignment.now.name.items terms)
-    }
+    ensures { let terms = signed_of assignment.now.first ∷ map signed_of assignment.now.more.items in
+        result ≡ specs.uses_only (variables.now ++ own.now.locals.now) (specs.Assigns assignment.now.name.items terms) }
 {
     is_known(variables, own, &assignment.name)
         && reads_known(variables, own, &assignment.first.term)
@@ -87,10 +85,8 @@ fn is_declared(variables: &Names, own: &Scope<'_>, assignment: &Assignment) -> b
 
 /// Whether an assignment reads or assigns variables once at most.
 fn has_few_accesses(variables: &Names, assignment: &Assignment) -> bool
-    ensures {
-        let terms = signed_of assignment.now.first ∷ map signed_of assignment.now.more.items in
-        result ≡ nat_le (specs.accesses variables.now (specs.Assigns assignment.now.name.items terms)) 1
-    }
+    ensures { let terms = signed_of assignment.now.first ∷ map signed_of assignment.now.more.items in
+        result ≡ nat_le (specs.accesses variables.now (specs.Assigns assignment.now.name.items terms)) 1 }
 {
     let assigned = one_if(variables.contains(&assignment.name));
     let first = one_if(reads_variable(variables, &assignment.first.term));
@@ -101,15 +97,14 @@ fn has_few_accesses(variables: &Names, assignment: &Assignment) -> bool
 /// Whether an assignment uses what it may, and its sums fit.
 fn assignment_is_allowed(
     alloc: Global,
-    variables: &Names, own: &Scope<'_>,
+    variables: &Names,
+    own: &Scope<'_>,
     assignment: &Assignment,
 ) -> Result<bool, AllocError>
     requires room { HasRoom own.now }
     requires apart { AreApart (columns_of own.now) }
-    ensures {
-        let terms = signed_of assignment.now.first ∷ map signed_of assignment.now.more.items in
-        IfOk result (λ yes. yes ≡ allows variables.now own.now.locals.now (columns_of own.now) (specs.Assigns assignment.now.name.items terms))
-    }
+    ensures { let terms = signed_of assignment.now.first ∷ map signed_of assignment.now.more.items in
+        IfOk result (λ yes. yes ≡ allows variables.now own.now.locals.now (columns_of own.now) (specs.Assigns assignment.now.name.items terms)) }
 {
     if !is_declared(variables, own, assignment) {
         return Ok(false);
@@ -149,7 +144,8 @@ fn condition_is_allowed(variables: &Names, own: &Scope<'_>, condition: &Conditio
 #[tactic(auto, using(crate::proofs::NameLemmas::list_all_append, crate::proofs::UseLemmas::uses_of_block))]
 fn is_allowed(
     alloc: Global,
-    variables: &Names, own: &Scope<'_>,
+    variables: &Names,
+    own: &Scope<'_>,
     statement: &Statement,
 ) -> Result<bool, AllocError>
     requires room { HasRoom own.now }
@@ -192,7 +188,8 @@ fn is_allowed(
 #[tactic(auto, using(crate::proofs::NameLemmas::list_all_append))]
 pub fn are_allowed(
     alloc: Global,
-    variables: &Names, own: &Scope<'_>,
+    variables: &Names,
+    own: &Scope<'_>,
     body: &[Statement],
 ) -> Result<bool, AllocError>
     requires room { HasRoom own.now }

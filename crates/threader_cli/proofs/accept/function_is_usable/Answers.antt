@@ -1,13 +1,11 @@
-use Rattle.std.proofs.Common.{rules, ◌≡◌, ◌+◌, ◌-◌, [], List, ℕ, Bool, true, length, map, Some, IfOk, Vec, Global, sym, ap, subst, ◌∙◌, arith}
+use Rattle.std.proofs.Common.{rules, ◌≡◌, [], ℕ, Bool, true, map, Some, IfOk, Vec, Global, sym, ap, subst, ◌∙◌}
 use Rattle.std.specs.List.{list_all}
 use Rattle.threader_cli.proofs.AllowedLemmas.{are_new-apart, own_columns, with_new}
 use Rattle.threader_cli.specs.Accepted.{are_new}
 use Rattle.threader_cli.specs.Checks.{allows}
-use Rattle.threader_cli.specs.Data.{seen}
 use Rattle.threader_cli.specs.Scope.{AreApart}
 use Rattle.threader_cli.specs.Seen.{statements_of, function_of}
 use Rattle.threader_cli.specs.Uses.{uses_each}
-use Rattle.threader_cli.specs.declared.tree.Statement.{Statement}
 use Rattle.threader_cli.proofs.accept.function_is_usable.Goals as goal
 
 pub are_allowed-requires-clause-apart : goal.are_allowed-requires-clause-apart

@@ -1,6 +1,5 @@
-use Rattle.std.proofs.Common.{rules, ◌≡◌, ◌&&◌, [], Bool, true, false, IfOk, length, map, subst, arith}
+use Rattle.std.proofs.Common.{rules, ◌≡◌, ◌&&◌, [], Bool, true, false, IfOk, length, subst, arith}
 use Rattle.std.specs.List.{list_all}
-use Rattle.std.proofs.lemmas.Bool.Decides.{nat_tests}
 use Rattle.std.proofs.lemmas.List.{length-map}
 use Rattle.threader_cli.proofs.AllowedLemmas.{not_usable, usable_main, few_enough}
 use Rattle.threader_cli.specs.Accepted as specs

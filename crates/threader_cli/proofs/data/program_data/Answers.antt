@@ -1,14 +1,13 @@
-use Rattle.std.proofs.Common.{rules, ◌≡◌, ◌+◌, ◌-◌, ◌≤◌, ◌^◌, min, [], ℕ, List, true, length, map, sym, ap, subst, ◌∙◌, arith}
+use Rattle.std.proofs.Common.{rules, ◌≡◌, ◌+◌, ◌-◌, ◌^◌, min, ℕ, List, length, map, sym, ap, subst, ◌∙◌, arith}
 use Rattle.std.specs.List.{AllByRecursion}
-use Rattle.transition_formula.specs.Program.{Column, Thread, Program as Data, IsProgram}
+use Rattle.transition_formula.specs.Program.{IsProgram}
 use Rattle.transition_formula.specs.Stored.{program_of as stored_program, thread_of}
 use Rattle.std.proofs.lemmas.List.{length-map}
 use Rattle.threader_cli.proofs.DataLemmas.{allowed-parts, created-are, created-few, data-is}
-use Rattle.threader_cli.specs.Accepted.{variable_names, are_new, is_allowed}
+use Rattle.threader_cli.specs.Accepted.{variable_names}
 use Rattle.threader_cli.specs.Checks.{CanRun}
 use Rattle.threader_cli.specs.Data.{created, count_locals, threads_from, threads_of, data_of}
-use Rattle.threader_cli.specs.Proper.{is_proper_program}
-use Rattle.threader_cli.specs.Seen.{program_of, function_of, variable_of}
+use Rattle.threader_cli.specs.Seen.{program_of, function_of}
 use Rattle.threader_cli.specs.Tree.{Function}
 use Rattle.threader_cli.proofs.data.program_data.Goals as goal
 
@@ -41,7 +40,7 @@ new-requires c =
     let variables : c.in_ok-variables.variables ≡ variable_names p = search rules in
     let fs : map (λ f. function_of f.now) c.deref-4.result.now ≡ created p = search rules in
     let threads : map thread_of c.in_ok-threads.threads.items ≡ threads_of p =
-        c.in_ok-threads.ensures ∙ (λ i. threads_from (variables i) 0 (length (fs i)) (length (variables i) + count_locals (fs i)) (fs i)) in
+    c.in_ok-threads.ensures ∙ (λ i. threads_from (variables i) 0 (length (fs i)) (length (variables i) + count_locals (fs i)) (fs i)) in
     let same : data_of p ≡ stored_program c.in_ok-columns.columns.items c.in_ok-threads.threads.items = λ i. record { columns = sym c.in_ok-columns.ensures i; threads = sym threads i } in
     let counted : map (λ f. function_of f.now) c.deref-2.result.now ≡ created p = search rules in
     let n_variables : c.len.result ≡ length (variable_names p) = c.len.ensures ∙ ap length variables in

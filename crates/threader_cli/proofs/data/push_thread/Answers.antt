@@ -1,4 +1,4 @@
-use Rattle.std.proofs.Common.{rules, ◌≡◌, ◌+◌, ◌-◌, true, List, ℕ, length, sym, ap, subst}
+use Rattle.std.proofs.Common.{rules, ◌≡◌, ◌+◌, ◌-◌, true, List, ℕ, length, sym, subst}
 use Rattle.std.specs.List.{list_all}
 use Rattle.threader_cli.proofs.ColumnLemmas.{seen_apart, uses_fit}
 use Rattle.threader_cli.specs.Data.{seen}

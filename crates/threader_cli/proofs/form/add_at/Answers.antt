@@ -1,4 +1,4 @@
-use Rattle.std.proofs.Common.{rules, ◌≡◌, ◌<◌, ◌+ℤ◌, ℤ, pos, true, false, Some, None, length, get_or, sym, ◌∙◌, arith}
+use Rattle.std.proofs.Common.{rules, ◌≡◌, ◌<◌, ◌+ℤ◌, pos, Some, None, length, get_or, sym, ◌∙◌}
 use Rattle.lin_rows.specs.Exact.{fitting}
 use Rattle.threader_cli.proofs.FormLemmas.{fits-set, fits_if_some, none_fits}
 use Rattle.threader_cli.proofs.form.add_at.Goals as goal

@@ -1,8 +1,8 @@
-use Rattle.std.proofs.Common.{rules, ◌≡◌, ℕ, List, Option, Bool, ℤ, pos, ◌+ℤ◌, true, false, Some, None, IsTrue, if◌then◌else◌, refl, sym, ap, ◌∙◌, subst}
+use Rattle.std.proofs.Common.{rules, ◌≡◌, ℤ, pos, ◌+ℤ◌, Some, None, IsTrue, if◌then◌else◌, refl, sym, ap, ◌∙◌, subst}
 use Rattle.std.specs.List.{list_all}
 use Rattle.thr_base.specs.Number.{fits}
 use Rattle.transition_formula.specs.Stored.{form_of as line_of}
-use Rattle.threader_cli.specs.Form.{is_called, signed, value_of, place_of}
+use Rattle.threader_cli.specs.Form.{signed, value_of, place_of}
 use Rattle.threader_cli.specs.Seen.{signed_of, term_of}
 use Rattle.threader_cli.specs.Scope.{columns_of}
 use Rattle.threader_cli.specs.Sums.{AddsWhereFits, added_at}

@@ -1,4 +1,4 @@
-use Rattle.std.proofs.Common.{rules, ◌≡◌, if◌then◌else◌, Some, None, ℤ, pos, ◌≤ℤ◌, ◌<ℤ◌}
+use Rattle.std.proofs.Common.{rules, ◌≡◌, if◌then◌else◌, Some, None, pos, ◌≤ℤ◌, ◌<ℤ◌}
 use Rattle.threader_cli.specs.Form.{value_of}
 use Rattle.threader_cli.specs.Word.{is_number}
 use Rattle.threader_cli.proofs.NumberLemmas.{value-kept, value-dropped, value-missing}

@@ -1,7 +1,6 @@
-use Rattle.std.proofs.Common.{◌≡◌, ℕ, List, Vec, Global, length, bytes_eq, map, sym, ap, ◌∙◌}
+use Rattle.std.proofs.Common.{◌≡◌, ℕ, List, Vec, Global, length, bytes_eq, ap, ◌∙◌}
 use Rattle.std.specs.List.{position, position_or_len}
 use Rattle.std.specs.Option.{unwrap_or}
-use Rattle.std.proofs.lemmas.List.{length-map}
 use Rattle.threader_cli.proofs.PlaceLemmas.{place-map, unwrap-position}
 use Rattle.threader_cli.proofs.names.Names.place.Goals as goal
 
