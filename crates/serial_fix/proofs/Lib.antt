@@ -7,3 +7,4 @@ pub mod Rounds
 pub mod Order
 pub mod Tables
 pub mod Bare
+pub mod WorkedSets

@@ -5,3 +5,4 @@ pub mod Laws
 pub mod Lines
 pub mod Found
 pub mod Run
+pub mod Worked

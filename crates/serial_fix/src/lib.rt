@@ -12,3 +12,8 @@ mod step;
 pub use fixpoint::{LeastAnswer, least};
 pub use laws::{tables_are_unique, without_predicates_each_instance_gives_its_home};
 pub use lines::table;
+
+#[cfg(test)]
+mod tests;
+#[cfg(test)]
+mod worked;
