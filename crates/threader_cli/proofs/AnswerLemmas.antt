@@ -1,11 +1,10 @@
 -- How answers follow from those of the parts.
-use Rattle.std.proofs.Common.{◌≡◌, ◌<◌, ◌≤◌, ◌↔◌, ℕ, zero, suc, ◌+◌, ◌-◌, min, List, [], length, map, slice_get, Any, Option, Some, None, option_map, Result, Ok, Err, IfOk, IsTrue, sym, ap, subst, ◌∙◌, arith}
+use Rattle.std.proofs.Common.{◌≡◌, ◌<◌, ◌≤◌, ℕ, zero, suc, ◌+◌, ◌-◌, min, List, [], length, map, slice_get, Option, Some, None, option_map, Result, Ok, Err, IfOk, IsTrue, sym, ap, subst, ◌∙◌, arith}
 use Rattle.std.proofs.lemmas.List.{length-map}
 use Rattle.std.proofs.lemmas.Option.{slice_get-map, get_or_from_slice_get}
 use Rattle.thr_base.specs.Outside.{StoreMeaning, SinkMeaning, Files, Lacks, Rose, count_end}
 use Rattle.thr_base.specs.Reading.{IsFileNamed, IsLonger, StopsReading, KeepsFiles}
 use Rattle.thr_base.specs.declared.names.Fact.{Fact as StoredFact}
-use Rattle.thr_base.specs.declared.names.RuleName.TheVariants.{Rg}
 use Rattle.thr_base.specs.declared.stops.ReadStop.{ReadStop}
 use Rattle.thr_base.specs.declared.stops.ReadStop.TheVariants.{Fault, TooLong, Memory}
 use Rattle.thr_base.specs.declared.stops.Refusal.{Refusal}
@@ -13,14 +12,12 @@ use Rattle.lin_rows.specs.Row.{Row}
 use Rattle.transition_formula.specs.Program.{Program, numbered}
 use Rattle.predicate_sets.specs.Sets.{set_at}
 use Rattle.horn_rules.specs.Home.{Home, homes}
-use Rattle.horn_rules.specs.Fact.{Fact, IsSetOf}
-use Rattle.horn_rules.specs.Least.{Least}
+use Rattle.horn_rules.specs.Fact.{IsSetOf}
 use Rattle.horn_rules.specs.Stored.{sets_of, AreStoredSetsOf}
 use Rattle.annotation_form.specs.BadLine.{IsReadAs}
 use Rattle.annotation_form.specs.Predicates.{atoms_at}
 use Rattle.serial_fix.specs.Least.{AreLeast}
-use Rattle.serial_fix.specs.Stored.{StandsFor}
-use Rattle.serial_fix.specs.Table.{IsTableOf}
+use Rattle.serial_fix.specs.Table.{IsTable}
 use Rattle.threader_cli.specs.Answer.{NamesFiles, refusal_text, no_predicates, AnswersProgram, table, HasProgram, AnswersSecond, predicates_fault, predicates_long, predicates_read, AnswersFiles, refused, alone, second_thread, with_second, Answers, named, Ends, whole, write_fault, Wrote, all, front}
 use Rattle.threader_cli.specs.ProgramText.{text_limit, IsProgramText, Refuses}
 use Rattle.threader_cli.specs.Refusals.{not_built}
@@ -96,22 +93,10 @@ IsReadAs-stored program bytes lists read =
 
 -- ---- tables
 
--- the table of facts of which one thing is said, where another says the same
-IsTableOf-same : (One Other : Fact → Type 0) (text : List ℕ) → ((fact : Fact) → One fact ↔ Other fact) → IsTableOf One text → IsTableOf Other text
-IsTableOf-same One Other text same written = record {
-  facts = written.facts;
-  rising = written.rising;
-  exact = λ fact. (λ there. (same fact).0 ((written.exact fact).0 there), λ said. (written.exact fact).1 ((same fact).1 said));
-  written = written.written;
-}
-
--- the table of what stands for the least set
+-- the table of the least set
 pub table-answers : (program : Program) (lists : List (List Row)) (facts held : List StoredFact) (text : List ℕ) → AreLeast program lists facts
-    → held ≡ facts → IsTableOf (λ fact. Any (λ stored. StandsFor program stored fact) held) text → AnswersProgram program lists 0 text
-table-answers program lists facts held text least are written =
-    table text
-    (IsTableOf-same (λ fact. Any (λ stored. StandsFor program stored fact) facts) (Least program Rg (sets_of program lists)) text (λ fact. (least.sound fact, least.complete fact))
-    (subst (λ (stored : List StoredFact). IsTableOf (λ fact. Any (λ one. StandsFor program one fact) stored) text) are written))
+    → held ≡ facts → ((of : List (List Row)) → AreLeast program of held → IsTable program (sets_of program of) text) → AnswersProgram program lists 0 text
+table-answers program lists facts held text least are written = table text (written lists (subst (AreLeast program lists) (sym are) least))
 
 -- ---- files
 

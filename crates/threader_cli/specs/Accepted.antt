@@ -1,10 +1,7 @@
 -- Which texts are programs of the narrow language.
-use Rattle.std.specs.Prelude.{◌≡◌, ℕ, Bool, true, not, ◌&&◌, List, [], ◌∷◌, ◌++◌, map, length, find, is_some, Option, Some, bytes_eq, nat_le, IsTrue}
+use Rattle.std.specs.Prelude.{ℕ, Bool, true, not, ◌&&◌, List, [], ◌∷◌, ◌++◌, map, length, find, is_some, Option, Some, bytes_eq, nat_le}
 use Rattle.std.specs.List.{list_any, list_all}
-use Rattle.c_lex.specs.Tokens.{Lexeme}
 use Rattle.threader_cli.specs.Graph.{locations}
-use Rattle.threader_cli.specs.Proper.{is_proper_program, is_shallow}
-use Rattle.threader_cli.specs.Spelling.{spell_program}
 use Rattle.threader_cli.specs.Tree.{Function, Creation, Program}
 use Rattle.threader_cli.specs.Uses.{Use, uses_each, is_among, uses_only, accesses, use_fits}
 

@@ -3,17 +3,15 @@ use Rattle.std.specs.Prelude.{◌≡◌, ◌<◌, ◌≤◌, ℕ, Bool, true, no
 use Rattle.std.specs.List.{list_all}
 use Rattle.thr_base.specs.Outside.{StoreMeaning, SinkMeaning, Appends, WritesFront}
 use Rattle.thr_base.specs.Reading.{IsFileNamed, StopsReading}
-use Rattle.thr_base.specs.declared.names.RuleName.TheVariants.{Rg}
 use Rattle.thr_base.specs.declared.stops.ReadStop.TheVariants.{Fault, TooLong}
 use Rattle.thr_base.specs.declared.stops.Refusal.{Refusal}
 use Rattle.lin_rows.specs.Row.{Row}
 use Rattle.transition_formula.specs.Program.{Program}
 use Rattle.horn_rules.specs.Home.{homes}
-use Rattle.horn_rules.specs.Least.{Least}
 use Rattle.horn_rules.specs.Stored.{sets_of}
 use Rattle.annotation_form.specs.BadLine.{IsReadAs, IsBadLine}
 use Rattle.serial_fix.specs.Least.{Leaves}
-use Rattle.serial_fix.specs.Table.{IsTableOf}
+use Rattle.serial_fix.specs.Table.{IsTable}
 use Rattle.threader_cli.specs.ProgramText.{text_limit, IsProgramText, Refuses}
 use Rattle.threader_cli.specs.Refusals.{not_built}
 
@@ -53,7 +51,7 @@ no_predicates program = replicate (length (homes program)) []
 
 -- The status and the text that follow from a program and the predicates of its homes, a list for each in the order of homes.
 pub data AnswersProgram (program : Program) (lists : List (List Row)) : ℕ → List ℕ → Type 0 where
-  table : (text : List ℕ) → IsTableOf (Least program Rg (sets_of program lists)) text → AnswersProgram program lists 0 text
+  table : (text : List ℕ) → IsTable program (sets_of program lists) text → AnswersProgram program lists 0 text
   -- The elimination leaves a system undecided that the least set asks for.
   leaves : Leaves program lists → AnswersProgram program lists 4 (codes "UNKNOWN leaves\n")
 

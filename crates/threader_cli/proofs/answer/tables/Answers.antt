@@ -8,7 +8,7 @@ pub returns-in_ok-table-in-Facts : goal.returns-in_ok-table-in-Facts
 returns-in_ok-table-in-Facts c =
     let least = subst (IsLeastAnswer c.args.program.now c.args.sets.now) c.in-Facts.is c.in_ok-facts.ensures in
     table-answers c.args.program.now c.args.sets.now c.in-Facts.facts.items c.deref.result.now c.in_ok-table-in-Facts.field-0.items least c.deref.ensures.value
-    c.in_ok-table-in-Facts.ensures
+    c.in_ok-table-in-Facts.ensures.least
 
 pub returns-in-Leaves : goal.returns-in-Leaves
 returns-in-Leaves c =
