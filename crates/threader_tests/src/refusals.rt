@@ -55,7 +55,6 @@ an increment => int x; void *f(void *a) { x++; } MAIN
 an addition to a variable => int x; void *f(void *a) { x += 1; } MAIN
 a failing call => void *f(void *a) { reach_error(); } MAIN
 an assumption of a number => void *f(void *a) { __VERIFIER_assume(0); } MAIN
-an assumption of a choice => void *f(void *a) { __VERIFIER_assume(?); } MAIN
 an atomic block => void *f(void *a) { __VERIFIER_atomic_begin(); __VERIFIER_atomic_end(); } MAIN
 two programs => void *f(void *a) { } MAIN MAIN
 a `main` without parameters => int main(void) { return 0; }
