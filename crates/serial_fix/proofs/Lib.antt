@@ -8,3 +8,4 @@ pub mod Order
 pub mod Tables
 pub mod Bare
 pub mod WorkedSets
+pub mod AssertingProgram

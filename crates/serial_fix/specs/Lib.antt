@@ -6,3 +6,4 @@ pub mod Lines
 pub mod Found
 pub mod Run
 pub mod Worked
+pub mod Asserting

@@ -14,6 +14,8 @@ pub use laws::{tables_are_unique, without_predicates_each_instance_gives_its_hom
 pub use lines::table;
 
 #[cfg(test)]
+mod asserting;
+#[cfg(test)]
 mod tests;
 #[cfg(test)]
 mod worked;

@@ -3,6 +3,7 @@ ghost use Rattle.horn_rules.specs.Stored.{AreStoredSetsOf, home_of};
 ghost use Rattle.serial_fix.specs.Worked.{is_env};
 
 use super::*;
+use crate::asserting::asserting_one;
 use crate::worked::worked;
 use horn_rules::{home_count, named};
 use predicate_sets::Sets;
@@ -124,6 +125,21 @@ fn facts_of_a_home_are_in_the_order_of_their_positions(rt: HostRuntime) -> Resul
     let found = table_of(alloc, &program, &sets)?;
     let text =
         b"s 1 1 :\ns 1 1 : 1 2\ns 1 1 : 2\ns 1 2 :\ns 2 1 :\ns 2 2 :\ne 1 1 :\ne 2 1 : 1\nend\n";
+    assert!(rt; is_text(&found, text));
+    Ok(())
+}
+
+#[test]
+fn an_assertion_holds_by_a_predicate(rt: HostRuntime) -> Result<(), Fail> {
+    let alloc = rt.alloc();
+    let program = asserting_one(alloc)?;
+    let mut sets = no_predicates(alloc, &program)?;
+    let found = table_of(alloc, &program, &sets)?;
+    let text = b"s 1 0 :\ns 1 1 :\ns 1 2 :\ns 1 3 :\ne 1 1 :\ne 1 2 :\ne 1 3 :\ne 1 4 :\nend\n";
+    assert!(rt; is_text(&found, text));
+    add(alloc, &program, &mut sets, 3, b"-x <= -1")?;
+    let found = table_of(alloc, &program, &sets)?;
+    let text = b"s 1 0 :\ns 1 1 :\ns 1 2 : 1\ns 1 3 :\ne 1 1 :\ne 1 2 :\ne 1 4 :\nend\n";
     assert!(rt; is_text(&found, text));
     Ok(())
 }
