@@ -9,7 +9,7 @@ use Rattle.transition_formula.specs.Program.{Program, numbered}
 use Rattle.horn_rules.specs.Fact.{Sets, Fact}
 use Rattle.horn_rules.specs.Instance.{Case}
 use Rattle.horn_rules.specs.Least.{IsFactOf, IsDerivation, Least}
-use Rattle.serial_fix.specs.Laws.{EachInstanceGivesItsHome}
+use Rattle.serial_fix.specs.Laws.{EachInstanceGivesItsHome, bare_at}
 use Rattle.serial_fix.proofs.Members.{first, nothing}
 use Rattle.serial_fix.proofs.Steps.{all-weaker}
 
@@ -17,7 +17,7 @@ no-number : (k : ℕ) (atom : Row) → numbered [] k ≡ Some atom → ⊥
 no-number zero atom e = cc
 no-number (suc k) atom e = cc
 
-bare-fact : (sets : Sets) (given : Case) → sets given.target ≡ [] → (¬ IsRefuted given.system) → IsFactOf sets given (record { home = given.target; held = [] })
+bare-fact : (sets : Sets) (given : Case) → sets given.target ≡ [] → (¬ IsRefuted given.system) → IsFactOf sets given (bare_at given.target)
 bare-fact sets given none open_ = record {
   open_system = open_;
   at_target = refl;
@@ -51,10 +51,13 @@ together program rule sets (f ∷ fs) all =
     )
 
 pub each-gives-its-home : EachInstanceGivesItsHome
-each-gives-its-home program rule sets premises given bare is open_ all =
-    let (facts, derived, stand) = together program rule sets premises all in
-    let fact : Fact = record { home = given.target; held = [] } in (
-      record { home = given.target; held = [] } ∷ facts,
+each-gives-its-home program rule sets premises given bare is open_ = (
+  bare-fact sets given (bare given.target) open_,
+  λ all. (
+    let (facts, derived, stand) = together program rule sets premises all in (
+      bare_at given.target ∷ facts,
       (record { premises = premises; given = given; is_case = is; stand_earlier = stand; is_post = bare-fact sets given (bare given.target) open_ }, derived),
-      first (record { home = given.target; held = [] }) facts,
+      first (bare_at given.target) facts,
     )
+  ),
+)

@@ -218,7 +218,6 @@ looked-at program lists n one old mid found at begun on own_done pairs_done stor
     (own-all-last program lists (fact_of program one) mid found on own_done, pairs-of program lists (fact_of program one) n old mid found begun (omega arith) pairs_done)
 
 -- ---- all instances over the first facts
-
 take-at : {A : Type 0} (xs : List A) (n : ℕ) (x : A) → Contains (take n xs) x → (k : ℕ) × (k < n) × (slice_get xs k ≡ Some x)
 take-at xs zero x c = absurd (nothing x c)
 take-at [] (suc n) x c = absurd (nothing x c)
@@ -333,7 +332,6 @@ all-none program lists found starts premises given is all = of-case Rg premises 
     of-case rule premises given (inter k l i e other thread edge f g apart there at home_f home_g) all = absurd (nothing f all.0)
 
 -- ---- at the end
-
 derived-there : (program : Program) (lists : List (List Row)) (found : List StoredFact) (n : ℕ) → length found ≤ n → AllAreSettled program lists n found
     → (facts : List Fact) → IsDerivation program Rg (sets_of program lists) facts → AllByRecursion (Contains (facts_of program found)) facts
 derived-there program lists found n whole done [] is = tt
@@ -370,7 +368,6 @@ are-least program lists found n run whole done = record {
 }
 
 -- ---- loops
-
 pub Extends-length : (earlier later : List StoredFact) → Extends earlier later → length earlier ≤ length later
 Extends-length earlier later on = omega (arith, ap length on.is, length-append earlier on.more)
 
@@ -396,8 +393,7 @@ starts-all program lists n threads found count upto done i thread at = done i th
 pub thread-here : (program : Program) (i threads : ℕ) → threads ≡ length program.threads → i < threads → IsSome (numbered program.threads (i + 1))
 thread-here program i threads count below =
     let (thread, at) = slice-there program.threads i (omega arith) in
-    let number : i + 1 ≡ suc i = omega arith in
-    subst (λ o. IsSome o) (sym (ap (numbered program.threads) number ∙ at)) refl
+    subst (λ o. IsSome o) (sym (ap (numbered program.threads) (let number : i + 1 ≡ suc i = omega arith in number) ∙ at)) refl
 
 pub all-done : (program : Program) (lists : List (List Row)) (n : ℕ) (found : List StoredFact) → n ≤ length found → length found ≤ n → AllAreSettled program lists n found → AllAreSettled program lists (length found) found
 all-done program lists n found one other done = let same : n ≡ length found = omega arith in subst (λ k. AllAreSettled program lists k found) same done

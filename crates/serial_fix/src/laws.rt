@@ -5,7 +5,7 @@ pub fn tables_are_unique()
     ensures { TablesAreUnique }
 {}
 
-/// Where no home has predicates, each instance over the least set that is not refuted gives the bare fact of its home: a law, and
+/// Where no home has predicates, each instance that is not refuted gives exactly the bare fact of its home: a law, and
 /// no code.
 pub fn without_predicates_each_instance_gives_its_home()
     ensures { EachInstanceGivesItsHome }
