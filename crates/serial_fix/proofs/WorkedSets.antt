@@ -1,12 +1,12 @@
 -- The predicates of the tests are those of their homes.
-use Rattle.std.proofs.Common.{◌≡◌, ◌≢◌, ◌⊎◌, ℕ, zero, suc, ◌+◌, ◌-◌, ◌<◌, ◌≤◌, Bool, List, [], ◌∷◌, ◌++◌, length, replicate, get_or, Some, IsSome, Result, Ok, Err, IfOk, refl, sym, ap, subst, ◌∙◌, arith, inl, inr}
+use Rattle.std.proofs.Common.{◌≡◌, ◌≢◌, ℕ, zero, suc, ◌-◌, ◌<◌, ◌≤◌, Bool, List, [], ◌∷◌, ◌++◌, length, replicate, get_or, Some, Result, Ok, Err, IfOk, refl, sym, ap, subst, ◌∙◌, arith, inl, inr}
 use Rattle.std.specs.List.{AllByRecursion}
 use Rattle.std.proofs.lemmas.Bool.Decides.{eqb_tells}
 use Rattle.std.proofs.lemmas.List.{length-set, length-replicate, get_or-set_same, get_or-set_other}
 use Rattle.std.proofs.lemmas.List.Quantifiers.{all_pairs_push}
 use Rattle.lin_rows.specs.Row.{Row}
 use Rattle.predicate_sets.specs.HomeSet.{Lacks}
-use Rattle.predicate_sets.specs.Sets.{HasHome, set_at, with_set, Takes, IsAddAnswer}
+use Rattle.predicate_sets.specs.Sets.{HasHome, set_at, with_set, IsAddAnswer}
 use Rattle.predicate_sets.specs.declared.sets.Added.{Added}
 use Rattle.predicate_sets.specs.declared.sets.Added.TheVariants.{New, Known}
 use Rattle.predicate_sets.specs.declared.sets.AddStop.{AddStop}
@@ -17,7 +17,6 @@ use Rattle.transition_formula.proofs.Lookups.{numbered-within}
 use Rattle.horn_rules.specs.Home.{Home, State, Env, homes, home_width}
 use Rattle.horn_rules.specs.Fact.{IsAtomOf, IsSetOf}
 use Rattle.horn_rules.specs.Stored.{AreStoredSetsOf}
-use Rattle.horn_rules.proofs.WorkedProgram.{numbered-there}
 use Rattle.serial_fix.specs.Worked.{is_env}
 
 none-at : (n i : ℕ) → get_or (replicate n (let e : List Row = [] in e)) i [] ≡ []

@@ -1,7 +1,7 @@
 -- The program of a test: one thread sets x to 1, and fails where x is not 1 then. No public clause cites this file.
 use Rattle.std.specs.Prelude.{ℕ, pos, negsuc, List, [], ◌∷◌, true, false, Some, None}
 use Rattle.lin_rows.specs.Row.{Row}
-use Rattle.transition_formula.specs.Program.{Form, Column, Edge, Thread, Program}
+use Rattle.transition_formula.specs.Program.{Column, Edge, Thread, Program}
 
 abbrev pub x_column : Column
 x_column = record { text = 120 ∷ []; owner = None; start = Some (pos 0) }
