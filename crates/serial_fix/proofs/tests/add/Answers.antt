@@ -1,4 +1,4 @@
-use Rattle.std.proofs.Common.{◌<◌, ◌≤◌, length, arith}
+use Rattle.std.proofs.Common.{arith}
 use Rattle.horn_rules.specs.Home.{homes}
 use Rattle.horn_rules.specs.Stored.{home_of}
 use Rattle.horn_rules.proofs.WorkedProgram.{numbered-there}
