@@ -54,10 +54,10 @@ pub each-gives-its-home : EachInstanceGivesItsHome
 each-gives-its-home program rule sets premises given bare is open_ = (
   bare-fact sets given (bare given.target) open_,
   λ all. (
-    let (facts, derived, stand) = together program rule sets premises all in (
-      bare_at given.target ∷ facts,
-      (record { premises = premises; given = given; is_case = is; stand_earlier = stand; is_post = bare-fact sets given (bare given.target) open_ }, derived),
-      first (bare_at given.target) facts,
-    )
-  ),
+      let (facts, derived, stand) = together program rule sets premises all in (
+        bare_at given.target ∷ facts,
+        (record { premises = premises; given = given; is_case = is; stand_earlier = stand; is_post = bare-fact sets given (bare given.target) open_ }, derived),
+        first (bare_at given.target) facts,
+      )
+      ),
 )
