@@ -81,5 +81,9 @@ pub fn run_bytes(alloc: Global, bytes: &[u8]) -> Result<(u8, String), Fail> {
 
 /// The status, and what is written, where the file `x.c` has this text, and the file `x.pred` these predicates.
 pub fn run_with(alloc: Global, text: &str, predicates: &str) -> Result<(u8, String), Fail> {
-    run_files(alloc, "tables x.c x.pred", two_files(alloc, text, predicates)?)
+    run_files(
+        alloc,
+        "tables x.c x.pred",
+        two_files(alloc, text, predicates)?,
+    )
 }
