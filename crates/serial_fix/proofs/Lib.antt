@@ -1,9 +1,14 @@
 pub mod Positions
 pub mod Members
 pub mod Index
+pub mod Gives
 pub mod Steps
 pub mod Instances
 pub mod Rounds
+pub mod Derivations
+pub mod Points
+pub mod Covering
+pub mod AtEnd
 pub mod Order
 pub mod Tables
 pub mod Bare

@@ -1,8 +1,8 @@
 -- What is settled when steps follow each other.
-use Rattle.std.proofs.Common.{◌≡◌, ◌⊎◌, ℕ, zero, suc, ◌+◌, ◌^◌, ◌<◌, ◌≤◌, ◌==◌, Bool, true, false, not, List, [], ◌∷◌, ◌++◌, length, map, take, unwrap_or, option_map, Option, Some, None, Result, Ok, Err, IsSome, IfOk, refl, sym, ap, subst, ◌∙◌, arith, inl, inr, append_assoc}
+use Rattle.std.proofs.Common.{◌≡◌, ◌⊎◌, ℕ, zero, suc, ◌+◌, ◌^◌, ◌<◌, ◌≤◌, ◌==◌, Bool, true, false, not, List, [], ◌∷◌, ◌++◌, length, map, take, option_map, Some, None, Result, Ok, Err, IsSome, IfOk, refl, sym, ap, subst, ◌∙◌, arith, inl, inr, append_assoc}
 use Rattle.std.specs.List.{AllByRecursion, Contains, slice_get}
 use Rattle.std.proofs.lemmas.Bool.{eqb-true, eq-eqb, cases_lt}
-use Rattle.std.proofs.lemmas.List.{length-map, length-append, take_all}
+use Rattle.std.proofs.lemmas.List.{length-map, length-append}
 use Rattle.std.proofs.lemmas.Option.{slice_get_within}
 use Rattle.std.proofs.lemmas.List.Elements.{Contains-append_left}
 use Rattle.horn_rules.proofs.Places.{slice_get-append_left}
@@ -17,19 +17,15 @@ use Rattle.transition_formula.proofs.Lookups.{numbered-within}
 use Rattle.horn_rules.specs.Home.{Home, State, Env, homes}
 use Rattle.horn_rules.specs.Fact.{Fact}
 use Rattle.horn_rules.specs.Instance.{Case, IsCase, init_case, own_case, guar_case, env_case, init, own, guar, env, inter}
-use Rattle.horn_rules.specs.Least.{IsDerivation}
 use Rattle.horn_rules.specs.Stored.{sets_of}
 use Rattle.horn_rules.proofs.Numbers.{state_home-place}
 use Rattle.horn_rules.proofs.WorkedProgram.{home-numbered}
-use Rattle.serial_fix.specs.Stored.{HasItsHome, stood_for}
-use Rattle.horn_rules.specs.Job.{positions}
-use Rattle.serial_fix.specs.Least.{AreLeast}
 use Rattle.serial_fix.specs.Found.{FoundFacts}
-use Rattle.serial_fix.specs.Run.{fact_of, facts_of, IsStored, IsRun, Extends, IsSettled, StartIsSettled, HasEdge, IsFrom, OwnIsSettled, GuarIsSettled, EdgeIsSettled, OwnAreSettled, PairIsSettled, PairsAreSettled, IsLookedAt, StartsAreSettled, AllAreSettled, IsStep}
+use Rattle.serial_fix.specs.Run.{fact_of, facts_of, IsRun, Extends, IsSettled, StartIsSettled, HasEdge, IsFrom, OwnIsSettled, GuarIsSettled, EdgeIsSettled, OwnAreSettled, PairIsSettled, PairsAreSettled, IsLookedAt, StartsAreSettled, AllAreSettled, IsStep}
 use Rattle.serial_fix.specs.declared.step.Step.{Step}
 use Rattle.serial_fix.specs.declared.step.Step.TheVariants.{Done, Left}
-use Rattle.serial_fix.proofs.Members.{later, first-or-later, nothing, Contains-map, Contains-unmap}
-use Rattle.serial_fix.proofs.Steps.{all-at, all-weaker, found-least, Extends-Contains}
+use Rattle.serial_fix.proofs.Members.{later, first-or-later, nothing}
+use Rattle.serial_fix.proofs.Steps.{Extends-Contains}
 use Rattle.serial_fix.proofs.Instances.{found-number, some-is}
 
 -- ---- what is found stays found, and what is settled stays settled
@@ -38,20 +34,25 @@ pub Extends-trans : (a b c : List StoredFact) → Extends a b → Extends b c �
 Extends-trans a b c one two = record { more = one.more ++ two.more; is = two.is ∙ ap (λ l. l ++ two.more) one.is ∙ append_assoc a one.more two.more }
 
 pub settled-lasts : (program : Program) (lists : List (List Row)) (given : Case) → (earlier later : List StoredFact) → Extends earlier later → IsSettled program lists earlier given → IsSettled program lists later given
-settled-lasts program lists given earlier later on settled fact of = Extends-Contains program earlier later fact on (settled fact of)
+settled-lasts program lists given earlier later on settled = record {
+  there = λ fact of. Extends-Contains program earlier later fact on (settled.there fact of);
+  gives = settled.gives;
+}
 
 pub own-lasts : (program : Program) (lists : List (List Row)) (i e : ℕ) (f : Fact) → (earlier later : List StoredFact) → Extends earlier later → OwnIsSettled program lists i e f earlier → OwnIsSettled program lists i e f later
-own-lasts program lists i e f earlier later on settled thread edge is from fact of = Extends-Contains program earlier later fact on (settled thread edge is from fact of)
+own-lasts program lists i e f earlier later on settled thread edge is from =
+    settled-lasts program lists (own_case program (sets_of program lists) i thread edge f) earlier later on (settled thread edge is from)
 
 pub guar-lasts : (program : Program) (lists : List (List Row)) (i e : ℕ) (f : Fact) → (earlier later : List StoredFact) → Extends earlier later → GuarIsSettled program lists i e f earlier → GuarIsSettled program lists i e f later
-guar-lasts program lists i e f earlier later on settled thread edge is from fact of = Extends-Contains program earlier later fact on (settled thread edge is from fact of)
+guar-lasts program lists i e f earlier later on settled thread edge is from =
+    settled-lasts program lists (guar_case program (sets_of program lists) i e thread edge f) earlier later on (settled thread edge is from)
 
 pub edge-lasts : (program : Program) (lists : List (List Row)) (i e : ℕ) (f : Fact) → (earlier later : List StoredFact) → Extends earlier later → EdgeIsSettled program lists i e f earlier → EdgeIsSettled program lists i e f later
 edge-lasts program lists i e f earlier later on settled = (own-lasts program lists i e f earlier later on settled.0, guar-lasts program lists i e f earlier later on settled.1)
 
 pub pair-lasts : (program : Program) (lists : List (List Row)) (f t : Fact) → (earlier later : List StoredFact) → Extends earlier later → PairIsSettled program lists f t earlier → PairIsSettled program lists f t later
-pair-lasts program lists f t earlier later on settled k l i e other thread edge apart there at home_f home_t fact of =
-    Extends-Contains program earlier later fact on (settled k l i e other thread edge apart there at home_f home_t fact of)
+pair-lasts program lists f t earlier later on settled k l i e other thread edge apart there at home_f home_t =
+    settled-lasts program lists (env_case program (sets_of program lists) k l other thread edge f t) earlier later on (settled k l i e other thread edge apart there at home_f home_t)
 
 pub Extends-there : (earlier later : List StoredFact) (x : StoredFact) → Extends earlier later → Contains earlier x → Contains later x
 Extends-there earlier later x on c = subst (λ l. Contains l x) (sym on.is) (Contains-append_left earlier on.more x c)
@@ -330,42 +331,6 @@ all-none program lists found starts premises given is all = of-case Rg premises 
     of-case rule premises given (guar i e thread edge f at home) all = absurd (nothing f all.0)
     of-case rule premises given (env k l i e other thread edge f t apart there at home_f home_t) all = absurd (nothing f all.0)
     of-case rule premises given (inter k l i e other thread edge f g apart there at home_f home_g) all = absurd (nothing f all.0)
-
--- ---- at the end
-derived-there : (program : Program) (lists : List (List Row)) (found : List StoredFact) (n : ℕ) → length found ≤ n → AllAreSettled program lists n found
-    → (facts : List Fact) → IsDerivation program Rg (sets_of program lists) facts → AllByRecursion (Contains (facts_of program found)) facts
-derived-there program lists found n whole done [] is = tt
-derived-there program lists found n whole done (fact ∷ earlier) is =
-    let rest = derived-there program lists found n whole done earlier is.1 in
-    let comes = is.0 in
-    let all : take n (facts_of program found) ≡ facts_of program found = take_all n (facts_of program found) (omega (arith, length-map found (fact_of program))) in
-    let stand = all-weaker (Contains earlier) (Contains (take n (facts_of program found)))
-    (λ f there. subst (λ l. Contains l f) (sym all) (all-at (Contains (facts_of program found)) earlier f rest there)) comes.premises comes.stand_earlier in
-    (done comes.premises comes.given comes.is_case stand fact comes.is_post, rest)
-
-stood-is : (program : Program) (stored : StoredFact) → HasItsHome program stored → stood_for program stored ≡ Some (fact_of program stored)
-stood-is program stored has = of-option (numbered (homes program) stored.home.0) has
-  where
-    of-option : (o : Option Home) → IsSome o → option_map {U = Fact} (λ (home : Home). record { home = home; held = positions stored.held }) o ≡ Some (record { home = unwrap_or o (State 0 0); held = positions stored.held })
-    of-option None h = cc
-    of-option (Some home) h = refl
-
-pub are-least : (program : Program) (lists : List (List Row)) (found : FoundFacts) (n : ℕ) → IsRun program lists found → length found.facts ≤ n → AllAreSettled program lists n found.facts → AreLeast program lists found.facts
-are-least program lists found n run whole done = record {
-  have_homes = all-weaker (IsStored program lists) (HasItsHome program) (λ stored is. is.has_home) found.facts run.facts_are;
-  none_twice = run.none_twice;
-  sound = λ fact (k, stored, within, at, stands).
-      let there : Contains found.facts stored = (k, within, at) in
-      let kept = all-at (IsStored program lists) found.facts stored run.facts_are there in
-      let both : Some (fact_of program stored) ≡ Some fact = sym (stood-is program stored kept.has_home) ∙ stands in
-      let same : fact_of program stored ≡ fact = cc in
-      found-least program lists found fact run (subst (Contains (facts_of program found.facts)) same (Contains-map (fact_of program) found.facts stored there));
-  complete = λ fact (facts, is, has).
-      let there = all-at (Contains (facts_of program found.facts)) facts fact (derived-there program lists found.facts n whole done facts is) has in
-      let (stored, (k, within, at), same) = Contains-unmap (fact_of program) found.facts fact there in
-      let kept = all-at (IsStored program lists) found.facts stored run.facts_are (k, within, at) in
-      (k, stored, within, at, stood-is program stored kept.has_home ∙ ap Some same);
-}
 
 -- ---- loops
 pub Extends-length : (earlier later : List StoredFact) → Extends earlier later → length earlier ≤ length later

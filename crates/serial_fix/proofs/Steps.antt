@@ -29,10 +29,12 @@ use Rattle.horn_rules.proofs.Jobs.{jobs-are-cases}
 use Rattle.horn_rules.proofs.StoredSets.{sets_of-numbered}
 use Rattle.abstract_post.specs.Left.{IsLeft}
 use Rattle.serial_fix.specs.Least.{Leaves}
+use Rattle.serial_fix.specs.Laws.{bare_at}
 use Rattle.serial_fix.specs.Found.{FoundFacts, IsInserted}
 use Rattle.serial_fix.specs.Run.{fact_of, facts_of, IsStored, IsRun, Extends, IsSettled, IsInstance, InstanceIsSettled}
 use Rattle.serial_fix.proofs.Members.{first, later, first-or-later, nothing, Contains-map}
 use Rattle.serial_fix.proofs.Positions.{held-within}
+use Rattle.serial_fix.proofs.Gives.{not-refuted, no-number, bare-fact}
 
 -- ---- lists
 
@@ -105,10 +107,6 @@ nothing-held : (sets : Sets) (given : Case) (fact : Fact) → IsFactOf sets give
 nothing-held sets given fact is none = empty fact.held (λ k there.
     let (atom, at, entails) = (is.entailed k).0 there in
     no-number k atom (ap (λ l. numbered l k) (sym none) ∙ at))
-  where
-    no-number : (k : ℕ) (atom : Row) → numbered [] k ≡ Some atom → ⊥
-    no-number zero atom e = cc
-    no-number (suc k) atom e = cc
 
 stood-alone : (program : Program) (lists : List (List Row)) (home : HomeNo) (target : Home) (stored : StoredFact) → numbered (homes program) home.0 ≡ Some target
     → set_at lists home.0 ≡ [] → stored.home.0 ≡ home.0 → stored.held < 2 ^ length (set_at lists stored.home.0) → fact_of program stored ≡ record { home = target; held = [] }
@@ -122,14 +120,19 @@ stood-alone program lists home target stored at none same within =
 
 pub skipped : (program : Program) (lists : List (List Row)) (found : FoundFacts) (home : HomeNo) (given : Case) → IsRun program lists found
     → numbered (homes program) home.0 ≡ Some given.target → set_at lists home.0 ≡ [] → Any (λ (f : StoredFact). f.home.0 ≡ home.0) found.facts → IsSettled program lists found.facts given
-skipped program lists found home given run at none (k, stored, within, is, same) fact of =
-    let there : Contains found.facts stored = (k, within, is) in
-    let kept : IsStored program lists stored = all-at (IsStored program lists) found.facts stored run.facts_are there in
-    let held : fact.held ≡ [] = nothing-held (sets_of program lists) given fact of (target-set program lists home.0 given.target run.lists_are at ∙ none) in
+skipped program lists found home given run at none (k, stored, within, is, same) =
+    let bare : sets_of program lists given.target ≡ [] = target-set program lists home.0 given.target run.lists_are at ∙ none in
+    let stands : Contains found.facts stored = (k, within, is) in
+    let kept : IsStored program lists stored = all-at (IsStored program lists) found.facts stored run.facts_are stands in
     let one : fact_of program stored ≡ record { home = given.target; held = [] } = stood-alone program lists home given.target stored at none same kept.within in
-    let other : fact ≡ record { home = given.target; held = [] } =
-    ap (λ (target : Home). record { home = target; held = fact.held }) of.at_target ∙ ap (λ (l : List ℕ). record { home = given.target; held = l }) held in
-    subst (Contains (facts_of program found.facts)) (one ∙ sym other) (Contains-map (fact_of program) found.facts stored there)
+    record {
+      there = λ fact of.
+          let held : fact.held ≡ [] = nothing-held (sets_of program lists) given fact of bare in
+          let other : fact ≡ record { home = given.target; held = [] } =
+          ap (λ (target : Home). record { home = target; held = fact.held }) of.at_target ∙ ap (λ (l : List ℕ). record { home = given.target; held = l }) held in
+          subst (Contains (facts_of program found.facts)) (one ∙ sym other) (Contains-map (fact_of program) found.facts stored stands);
+      gives = λ z point. (bare_at given.target, bare-fact (sets_of program lists) given bare (not-refuted given.system z point));
+    }
 
 -- ---- an instance that is posted
 
@@ -140,14 +143,20 @@ Outcome program lists instance first second home held =
     → sets_of program lists given.target ≡ set_at lists home → IsPost (sets_of program lists) given (posted given.target held)
 
 settled-nothing : (program : Program) (lists : List (List Row)) (found : List StoredFact) (given : Case) → IsRefuted given.system → IsSettled program lists found given
-settled-nothing program lists found given refuted fact of = absurd (of.open_system refuted)
+settled-nothing program lists found given refuted = record {
+  there = λ fact of. absurd (of.open_system refuted);
+  gives = λ z point. absurd (not-refuted given.system z point refuted);
+}
 
 settled-fact : (program : Program) (lists : List (List Row)) (found : List StoredFact) (given : Case) (one : Fact) → IsFactOf (sets_of program lists) given one
     → Contains (facts_of program found) one → IsSettled program lists found given
-settled-fact program lists found given one is there fact of =
-    let both : Some one ≡ Some fact = posts-unique (sets_of program lists) given (Some one) (Some fact) is of in
-    let same : one ≡ fact = cc in
-    subst (Contains (facts_of program found)) same there
+settled-fact program lists found given one is there = record {
+  there = λ fact of.
+      let both : Some one ≡ Some fact = posts-unique (sets_of program lists) given (Some one) (Some fact) is of in
+      let same : one ≡ fact = cc in
+      subst (Contains (facts_of program found)) same there;
+  gives = λ z point. (one, is);
+}
 
 -- the facts with one more
 module _ (program : Program) (lists : List (List Row)) (old : FoundFacts) (instance : Instance) (one two : Option Premise) (home : HomeNo) (held : ℕ)

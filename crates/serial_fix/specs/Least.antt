@@ -12,15 +12,17 @@ use Rattle.horn_rules.specs.Least.{Least}
 use Rattle.horn_rules.specs.Stored.{sets_of}
 use Rattle.abstract_post.specs.Left.{IsLeft}
 use Rattle.serial_fix.specs.Stored.{HasItsHome, StandsFor}
+use Rattle.serial_fix.specs.Runs.{Covers}
 use Rattle.serial_fix.specs.declared.fixpoint.LeastAnswer.{LeastAnswer}
 use Rattle.serial_fix.specs.declared.fixpoint.LeastAnswer.TheVariants.{Facts, Leaves as LeavesAnswer}
 
--- These are the facts of the least set, each once.
+-- These are the facts of the least set, each once; and that covers all runs.
 pub record AreLeast (program : Program) (lists : List (List Row)) (stored : List StoredFact) : Type 0 where
   pub have_homes : AllByRecursion (HasItsHome program) stored
   pub none_twice : AllPairs (λ a b. a ≢ b) stored
   pub sound : (fact : Fact) → Any (λ one. StandsFor program one fact) stored → Least program Rg (sets_of program lists) fact
   pub complete : (fact : Fact) → Least program Rg (sets_of program lists) fact → Any (λ one. StandsFor program one fact) stored
+  pub covers : Covers program (sets_of program lists)
 
 -- The elimination leaves on a system that decides an instance over the least set: that of its rows, or it with the negation of a
 -- predicate of the home of its fact.

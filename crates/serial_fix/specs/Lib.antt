@@ -1,5 +1,6 @@
 pub mod Stored
 pub mod Table
+pub mod Runs
 pub mod Least
 pub mod Laws
 pub mod Lines

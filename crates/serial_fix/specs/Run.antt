@@ -1,10 +1,11 @@
 -- A run of the rules on one thread, as far as it has come. No public clause cites this file but for what it gives at the end.
-use Rattle.std.specs.Prelude.{◌≡◌, ◌≢◌, ℕ, ◌^◌, ◌<◌, ◌==◌, Bool, false, not, List, ◌++◌, length, map, reverse, take, unwrap_or, slice_get, AllPairs, Option, Some}
+use Rattle.std.specs.Prelude.{◌≡◌, ◌≢◌, ℕ, ℤ, ◌^◌, ◌<◌, ◌==◌, Bool, false, not, List, ◌++◌, length, map, reverse, take, unwrap_or, slice_get, AllPairs, Option, Some}
 use Rattle.std.specs.List.{AllByRecursion, Contains}
 use Rattle.thr_base.specs.declared.names.RuleName.TheVariants.{Rg}
 use Rattle.thr_base.specs.declared.names.Instance.{Instance}
 use Rattle.thr_base.specs.declared.names.Fact.{Fact as StoredFact}
 use Rattle.lin_rows.specs.Row.{Row}
+use Rattle.lin_rows.specs.System.{IsPoint}
 use Rattle.predicate_sets.specs.Sets.{set_at}
 use Rattle.transition_formula.specs.Program.{Program, Thread, Edge, numbered, IsProgram, IsThreadOf, IsEdgeOf}
 use Rattle.horn_rules.specs.declared.job.Premise.{Premise}
@@ -46,9 +47,10 @@ pub record Extends (earlier later : List StoredFact) : Type 0 where
   pub more : List StoredFact
   pub is : later ≡ earlier ++ more
 
--- What the instance gives is there.
-abbrev pub IsSettled : Program → List (List Row) → List StoredFact → Case → Type 0
-IsSettled program lists found given = (fact : Fact) → IsFactOf (sets_of program lists) given fact → Contains (facts_of program found) fact
+-- What the instance gives is there, and where some whole point allows it, it gives a fact.
+pub record IsSettled (program : Program) (lists : List (List Row)) (found : List StoredFact) (given : Case) : Type 0 where
+  pub there : (fact : Fact) → IsFactOf (sets_of program lists) given fact → Contains (facts_of program found) fact
+  pub gives : (z : List ℤ) → IsPoint given.system z → (fact : Fact) × IsFactOf (sets_of program lists) given fact
 
 -- The instance is one over facts that are there, and gives facts at the home of this number.
 pub record IsInstance (program : Program) (lists : List (List Row)) (found : List StoredFact) (instance : Instance) (first second : Option Premise) (home : ℕ) : Type 0 where

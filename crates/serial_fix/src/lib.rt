@@ -10,7 +10,10 @@ mod run;
 mod step;
 
 pub use fixpoint::{LeastAnswer, least};
-pub use laws::{tables_are_unique, without_predicates_each_instance_gives_its_home};
+pub use laws::{
+    runs_are_covered, tables_are_unique, where_no_fact_fails_no_run_does,
+    without_predicates_each_instance_gives_its_home,
+};
 pub use lines::table;
 
 #[cfg(test)]

@@ -148,4 +148,6 @@ fn an_assertion_holds_by_a_predicate(rt: HostRuntime) -> Result<(), Fail> {
 fn laws_are_called() {
     tables_are_unique();
     without_predicates_each_instance_gives_its_home();
+    runs_are_covered();
+    where_no_fact_fails_no_run_does();
 }

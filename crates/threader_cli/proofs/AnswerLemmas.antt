@@ -96,7 +96,7 @@ IsReadAs-stored program bytes lists read =
 -- the table of the least set
 pub table-answers : (program : Program) (lists : List (List Row)) (facts held : List StoredFact) (text : List ℕ) → AreLeast program lists facts
     → held ≡ facts → ((of : List (List Row)) → AreLeast program of held → IsTable program (sets_of program of) text) → AnswersProgram program lists 0 text
-table-answers program lists facts held text least are written = table text (written lists (subst (AreLeast program lists) (sym are) least))
+table-answers program lists facts held text least are written = table text (written lists (subst (AreLeast program lists) (sym are) least)) least.covers
 
 -- ---- files
 

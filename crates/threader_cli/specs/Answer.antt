@@ -11,6 +11,7 @@ use Rattle.horn_rules.specs.Home.{homes}
 use Rattle.horn_rules.specs.Stored.{sets_of}
 use Rattle.annotation_form.specs.BadLine.{IsReadAs, IsBadLine}
 use Rattle.serial_fix.specs.Least.{Leaves}
+use Rattle.serial_fix.specs.Runs.{Covers}
 use Rattle.serial_fix.specs.Table.{IsTable}
 use Rattle.threader_cli.specs.ProgramText.{text_limit, IsProgramText, Refuses}
 use Rattle.threader_cli.specs.Refusals.{not_built}
@@ -51,7 +52,8 @@ no_predicates program = replicate (length (homes program)) []
 
 -- The status and the text that follow from a program and the predicates of its homes, a list for each in the order of homes.
 pub data AnswersProgram (program : Program) (lists : List (List Row)) : ℕ → List ℕ → Type 0 where
-  table : (text : List ℕ) → IsTable program (sets_of program lists) text → AnswersProgram program lists 0 text
+  -- The table is that of the least set, and that covers all runs.
+  table : (text : List ℕ) → IsTable program (sets_of program lists) text → Covers program (sets_of program lists) → AnswersProgram program lists 0 text
   -- The elimination leaves a system undecided that the least set asks for.
   leaves : Leaves program lists → AnswersProgram program lists 4 (codes "UNKNOWN leaves\n")
 

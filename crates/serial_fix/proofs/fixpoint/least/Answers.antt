@@ -1,6 +1,6 @@
 use Rattle.std.proofs.Common.{subst, sym, length, arith}
 use Rattle.serial_fix.specs.Least.{AreLeast}
-use Rattle.serial_fix.proofs.Rounds.{are-least}
+use Rattle.serial_fix.proofs.AtEnd.{are-least}
 use Rattle.serial_fix.proofs.fixpoint.least.Goals as goal
 
 pub returns-in-Done-finished : goal.returns-in-Done-finished
