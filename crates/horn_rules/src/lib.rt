@@ -1,6 +1,6 @@
 //! The rules of compositional verification over a program, with facts as what they are over: homes, predicates, facts, the
 //! instances of rely-guarantee and of Owicki and Gries with their rows, what an instance gives, and the least set of facts. The
-//! layers above learn that the rows of a job are exactly those of its instance.
+//! layers above learn that the rows of a job are exactly those of its instance, and that what is posted of it is its post.
 #![tactic(auto)]
 
 mod home_text;
