@@ -1,6 +1,6 @@
 -- The rows that a program holds: what stands behind the coefficients of each, and the coefficients of all, one row behind the
 -- other. No public clause cites this file.
-use Rattle.std.specs.Prelude.{◌≡◌, ◌<◌, ◌-◌, ◌*◌, ◌^◌, ℕ, ℤ, pos, negsuc, List, [], ◌∷◌, length, take, drop, ⊤}
+use Rattle.std.specs.Prelude.{◌≡◌, ◌<◌, ◌-◌, ◌*◌, ◌^◌, ℕ, ℤ, pos, negsuc, List, [], ◌∷◌, length, take, drop}
 use Rattle.std.specs.List.{AllByRecursion}
 use Rattle.std.specs.Coded.{×_prop, Unit-prop, le_prop}
 use Rattle.thr_base.specs.Number.{Fits}
@@ -17,7 +17,7 @@ abbrev pub rows_of : ℕ → List RightSide → List ℤ → List Row
 rows_of columns [] numbers = []
 rows_of columns (side ∷ sides) numbers = stored_row (take columns numbers) side ∷ rows_of columns sides (drop columns numbers)
 
-unfoldable pub stored_system : ℕ → List RightSide → List ℤ → System
+abbrev pub stored_system : ℕ → List RightSide → List ℤ → System
 stored_system columns sides numbers = record { columns = columns; rows = rows_of columns sides numbers }
 
 abbrev pub BoundFits : RightSide → Type 0
@@ -25,11 +25,15 @@ BoundFits side = Fits side.bound
 
 -- Each row has its coefficients, all numbers fit, and no count is too great.
 pub record IsStored (columns : ℕ) (sides : List RightSide) (numbers : List ℤ) : Type 0 where
-  pub columns_fit : columns < 2 ^ 32
   pub count : length sides < 2 ^ 32 - 1
   pub size : length numbers ≡ length sides * columns
   pub numbers_fit : AllByRecursion Fits numbers
   pub bounds_fit : AllByRecursion BoundFits sides
+
+-- What is known of all that is held.
+pub record IsHeld (columns : ℕ) (sides : List RightSide) (numbers : List ℤ) : Type 0 where
+  pub columns_fit : columns < 2 ^ 32
+  pub stored : IsStored columns sides numbers
 
 -- ---- each of these facts has one proof
 Fits-prop : (z : ℤ) → IsProp (Fits z)

@@ -4,7 +4,7 @@ ghost use Rattle.lin_rows.specs.Sum.{sum_overflow, sum_in_order};
 
 /// A part of a part is a part, and the part of all rows is the whole: laws, and no code.
 pub fn parts_of_systems()
-    ensures part { (system : System) (from to first last : ℕ) → from + last ≤ to → part_of first last (part_of from to system) ≡ part_of (from + first) (from + last) system }
+    ensures part { (system : System) (from to first last : ℕ) → first ≤ last → from + last ≤ to → part_of first last (part_of from to system) ≡ part_of (from + first) (from + last) system }
     ensures whole { (system : System) → part_of 0 (length system.rows) system ≡ system }
 {}
 

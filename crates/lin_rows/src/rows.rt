@@ -26,11 +26,11 @@ impl Model for Rows {
 
     ghost Value = { System };
 
-    ghost use Rattle.lin_rows.specs.Stored.{stored_system, IsStored};
+    ghost use Rattle.lin_rows.specs.Stored.{stored_system, IsHeld};
 
     ghost view = { λ inside. stored_system inside.columns inside.sides.items inside.numbers.items };
 
-    ghost invariant = { λ inside. IsStored inside.columns inside.sides.items inside.numbers.items };
+    ghost invariant = { λ inside. IsHeld inside.columns inside.sides.items inside.numbers.items };
 }
 
 impl Rows {
@@ -87,6 +87,7 @@ impl Rows {
         self.push(row.equal, row.coefficients, row.bound)
     }
 
+    #[tactic(auto, unfolding(crate::specs::View::system_of))]
     /// Appends all rows of a system over as many columns.
     pub fn push_rows(&mut self, more: &RowsView<'_>) -> Result<(), AllocError>
         requires columns { (system_of more.now).columns ≡ self.old.columns }
@@ -97,6 +98,7 @@ impl Rows {
         self.append(more.sides, more.numbers)
     }
 
+    #[tactic(auto, unfolding(crate::specs::View::system_of))]
     pub fn view(&self) -> RowsView<'_>
         ensures { system_of result ≡ self.now }
     {

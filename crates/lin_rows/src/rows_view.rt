@@ -12,6 +12,7 @@ pub struct RowsView<'a> {
     pub(crate) columns: u32,
     pub(crate) sides: &'a [RightSide],
     pub(crate) numbers: &'a [i128],
+    ghost columns_fit: { columns < 2 ^ 32 },
     ghost count: { length sides.now < 2 ^ 32 - 1 },
     ghost size: { length numbers.now ≡ length sides.now * columns },
     ghost numbers_fit: { AllByRecursion Fits numbers.now } by { AllFit-prop numbers.now },
@@ -23,6 +24,7 @@ impl<'a> RowsView<'a> {
     ghost use Rattle.lin_rows.specs.System.{IsWellFormed, IsRowOver, part_of};
     ghost use Rattle.lin_rows.specs.View.{row_of, system_of};
 
+    #[tactic(auto, unfolding(crate::specs::View::system_of))]
     pub fn columns(&self) -> u32
         ensures columns { result ≡ (system_of self.now).columns }
         ensures well_formed { IsWellFormed (system_of self.now) }
@@ -30,6 +32,7 @@ impl<'a> RowsView<'a> {
         self.columns
     }
 
+    #[tactic(auto, unfolding(crate::specs::View::system_of))]
     /// The number of rows.
     pub fn count(&self) -> u32
         ensures count { result ≡ length (system_of self.now).rows }
@@ -48,6 +51,7 @@ impl<'a> RowsView<'a> {
         &self.numbers[from as usize * columns..to as usize * columns]
     }
 
+    #[tactic(auto, unfolding(crate::specs::View::system_of))]
     /// The row at a place from 0.
     pub fn row(&self, n: u32) -> RowView<'a>
         requires { n < length (system_of self.now).rows }
@@ -62,6 +66,7 @@ impl<'a> RowsView<'a> {
         }
     }
 
+    #[tactic(auto, unfolding(crate::specs::View::system_of))]
     /// The rows from a place on up to another, without copying.
     pub fn part(&self, from: u32, to: u32) -> RowsView<'a>
         requires order { from ≤ to }
