@@ -17,7 +17,7 @@ use Rattle.lin_rows.specs.Gcd.{gcd_of}
 use Rattle.farkas_cert.specs.Line.{all_fit, combination, combination_fits, made_line}
 use Rattle.farkas_cert.proofs.Linear.{sum-none}
 use Rattle.farkas_cert.proofs.Divisors.{divided-same}
-use Rattle.plain_elim.specs.Combined.{combined_number, combined, in_front}
+use Rattle.plain_elim.specs.inside.Combined.{combined_number, combined, in_front}
 
 -- ---- what is done, and what is left
 

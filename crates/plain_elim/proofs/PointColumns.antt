@@ -12,7 +12,7 @@ use Rattle.lin_rows.proofs.Numbers.{fits-true, true-fits}
 use Rattle.farkas_cert.proofs.Integers.{mul-positive_ℤ}
 use Rattle.plain_elim.proofs.PointFractions.{fitting_is}
 use Rattle.farkas_cert.specs.Line.{all_fit}
-use Rattle.plain_elim.specs.PointParts.{IsPoint}
+use Rattle.plain_elim.specs.inside.PointParts.{IsPoint}
 use Rattle.farkas_cert.specs.BackSubstitution.{RationalPoint, assigned_by}
 
 -- ---- a list of which the first i numbers are multiplied by k

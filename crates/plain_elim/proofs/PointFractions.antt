@@ -12,7 +12,7 @@ use Rattle.farkas_cert.specs.BackSubstitution.{Fraction, fraction, is_below}
 use Rattle.farkas_cert.proofs.Divisors.{over-exact}
 use Rattle.farkas_cert.proofs.Eliminates.{gcd_positive, positive_abs}
 use Rattle.farkas_cert.proofs.Fractions.{positive_over}
-use Rattle.plain_elim.specs.PointParts.{IsFraction}
+use Rattle.plain_elim.specs.inside.PointParts.{IsFraction}
 
 -- what a number that is given where it fits says
 pub fitting_is : (z x : ℤ) → Some x ≡ fitting z → (x ≡ z) × Fits x

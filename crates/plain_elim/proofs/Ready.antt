@@ -19,8 +19,8 @@ use Rattle.farkas_cert.proofs.Derived.{made_is}
 use Rattle.farkas_cert.proofs.Fuel.{all_open, all_within}
 use Rattle.farkas_cert.proofs.Lists.{all_filter, filter_all, all_both, all_from, all_map, all_flat_map, all_every, found}
 use Rattle.farkas_cert.proofs.OpenColumns.{lowest_is, lowest_of_open}
-use Rattle.plain_elim.specs.Held.{BoundsColumn, BoundsItsColumn, IsOpen, IsReady, IsReadyNext}
-use Rattle.plain_elim.specs.Stages.{IsWide, IsWideWork, IsWideNext, KeepsOneMore}
+use Rattle.plain_elim.specs.inside.Held.{BoundsColumn, BoundsItsColumn, IsOpen, IsReady, IsReadyNext}
+use Rattle.plain_elim.specs.inside.Stages.{IsWide, IsWideWork, IsWideNext, KeepsOneMore}
 
 -- ---- given lines
 
