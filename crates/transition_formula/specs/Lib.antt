@@ -1,9 +1,12 @@
+pub mod ColumnText
 pub mod Program
 pub mod Step
 pub mod Run
 pub mod Rows
 pub mod AtomText
-pub mod AtomReading
 pub mod Stored
+pub mod StoredStep
+pub mod StoredRun
 pub mod Laws
 pub mod Worked
+pub mod inside

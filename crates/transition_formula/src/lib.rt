@@ -11,6 +11,8 @@ mod laws;
 mod program;
 mod read_term;
 mod reading;
+mod schedule;
+mod schedule_step;
 
 pub use atom_text::push_atom;
 pub use edges::{edge_rows, seen_rows};
@@ -19,6 +21,8 @@ pub use initial::init_rows;
 pub use laws::{edge_rows_are_exact, init_rows_are_exact, runs_end_in_reached_states};
 pub use program::Program;
 pub use reading::read_atom;
+pub use schedule::{Schedule, ScheduleSteps};
+pub use schedule_step::{ScheduleStep, Values};
 
 #[cfg(test)]
 mod tests;

@@ -1,7 +1,7 @@
 use Rattle.std.proofs.Common.{◌≡◌, ◌<◌, [], ℕ, List, Some, length, slice_get, Result, Ok, Err, OnOk, sym, subst, arith}
 use Rattle.std.proofs.lemmas.Option.{slice_get-get_or}
 use Rattle.transition_formula.specs.AtomText.{column_texts}
-use Rattle.transition_formula.specs.AtomReading.{IsWord}
+use Rattle.transition_formula.specs.inside.AtomReading.{IsWord}
 use Rattle.transition_formula.proofs.AtomTexts.{length-column_texts}
 use Rattle.transition_formula.proofs.ColumnTexts.{column_texts-words}
 use Rattle.transition_formula.proofs.Lookups.{AllByRecursion-slice_get}
