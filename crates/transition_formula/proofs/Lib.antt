@@ -15,3 +15,4 @@ pub mod ColumnTexts
 pub mod ReadTerms
 pub mod NormalAtoms
 pub mod Runs
+pub mod FittingLists

@@ -3,6 +3,7 @@ pub mod Program
 pub mod Step
 pub mod Run
 pub mod Rows
+pub mod Forms
 pub mod AtomText
 pub mod Stored
 pub mod StoredStep

@@ -1,1 +1,2 @@
 pub mod AtomReading
+pub mod FormParts

@@ -8,6 +8,7 @@ mod edges;
 mod graph;
 mod initial;
 mod laws;
+mod lines;
 mod program;
 mod read_term;
 mod reading;
