@@ -16,3 +16,5 @@ pub mod ReadTerms
 pub mod NormalAtoms
 pub mod Runs
 pub mod FittingLists
+pub mod FormValues
+pub mod FormSteps

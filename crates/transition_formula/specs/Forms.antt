@@ -2,7 +2,9 @@
 use Rattle.std.specs.Prelude.{ℕ, ℤ, pos, ◌+ℤ◌, ◌*ℤ◌, Bool, ◌&&◌, if◌then◌else◌, List, [], ◌∷◌, Option, Some, None, option_and_then}
 use Rattle.std.specs.List.{list_all}
 use Rattle.thr_base.specs.Number.{fits}
+use Rattle.lin_rows.specs.Exact.{fitting}
 use Rattle.lin_rows.specs.Row.{scaled, sum_of}
+use Rattle.lin_rows.specs.Sum.{sum_in_order}
 use Rattle.transition_formula.specs.Program.{Form}
 use Rattle.transition_formula.specs.Rows.{zeros, unit}
 
@@ -61,3 +63,9 @@ with_multiples sum (k ∷ ks) (form ∷ forms) = option_and_then (λ more. with_
 abbrev pub composed : ℕ → Form → List Form → Option Form
 composed width form forms =
     option_and_then (λ sum. added sum (constant_form width form.constant)) (with_multiples (constant_form width (pos 0)) form.coefficients forms)
+
+-- ---- values
+
+-- the form's value at z: products and sums go over the columns in order, the constant comes last, and each of them fits
+abbrev pub value_if_fits : Form → List ℤ → Option ℤ
+value_if_fits form z = option_and_then (λ sum. fitting (sum +ℤ form.constant)) (sum_in_order form.coefficients z)

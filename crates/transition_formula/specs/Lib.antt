@@ -9,5 +9,6 @@ pub mod Stored
 pub mod StoredStep
 pub mod StoredRun
 pub mod Laws
+pub mod FormLaws
 pub mod Worked
 pub mod inside

@@ -1,8 +1,9 @@
-ghost use Rattle.std.specs.Prelude.{◌≡◌, ◌<◌, ◌+ℤ◌, ◌*ℤ◌, ℤ, List, pos, length, map, slice_index_or, option_map, IfOk, IfSome};
+ghost use Rattle.std.specs.Prelude.{◌≡◌, ◌<◌, ◌+◌, ◌*ℤ◌, ◌++◌, pos, length, map, slice_index_or, option_map, IfOk, IfSome};
 ghost use Rattle.std.specs.List.{AllByRecursion};
 ghost use Rattle.lin_rows.specs.Exact.{fitting};
 ghost use Rattle.lin_rows.specs.Row.{scaled, sum_of};
-ghost use Rattle.transition_formula.specs.Forms.{added, column_form, composed, constant_form, multiplied, with_multiple, with_multiples};
+ghost use Rattle.lin_rows.specs.Sum.{summed, sum_in_order};
+ghost use Rattle.transition_formula.specs.Forms.{added, column_form, composed, constant_form, multiplied, value_if_fits, with_multiple, with_multiples};
 ghost use Rattle.transition_formula.specs.Stored.{form_of};
 ghost use Rattle.transition_formula.specs.inside.FormParts.{fitting_list, form_of_both};
 
@@ -12,7 +13,7 @@ use lin_rows::{product_if_fits, sum_if_fits};
 use std::alloc::{AllocError, Global};
 
 /// The sum of the numbers at a place, where it fits.
-fn sum_at(one: &[i128], other: &[i128], place: usize) -> Option<i128>
+fn sum_of_both(one: &[i128], other: &[i128], place: usize) -> Option<i128>
     requires lengths { length one.now ≡ length other.now }
     requires within { place < length one.now }
     ensures { result ≡ fitting (slice_index_or (sum_of one.now other.now) place (pos 0)) }
@@ -27,12 +28,56 @@ fn sums_of(alloc: Global, one: &[i128], other: &[i128]) -> Result<Option<Vec<i12
 {
     let mut sums = Vec::with_capacity(alloc, one.len())?;
     'places: for place in 0..one.len() {
-        match sum_at(one, other, place) {
+        match sum_of_both(one, other, place) {
             Some(sum) => sums.push(sum)?,
             None => return Ok(None),
         }
     }
     Ok(Some(sums))
+}
+
+/// The number at a place of a state with inputs behind it.
+fn number_at(state: &[i128], inputs: &[i128], place: usize) -> i128
+    requires { place < length state.now + length inputs.now }
+    ensures { result ≡ slice_index_or (state.now ++ inputs.now) place (pos 0) }
+{
+    if place < state.len() {
+        state[place]
+    } else {
+        inputs[place - state.len()]
+    }
+}
+
+/// The sum with the product at a place, where both fit.
+fn plus_product(
+    coefficients: &[i128],
+    state: &[i128],
+    inputs: &[i128],
+    place: usize,
+    sum: i128,
+) -> Option<i128>
+    requires lengths { length coefficients.now ≡ length state.now + length inputs.now }
+    requires within { place < length coefficients.now }
+    ensures { result ≡ summed sum (slice_index_or coefficients.now place (pos 0) *ℤ slice_index_or (state.now ++ inputs.now) place (pos 0)) }
+{
+    let product = product_if_fits(coefficients[place], number_at(state, inputs, place))?;
+    sum_if_fits(sum, product)
+}
+
+/// The sum of coefficients times the values of a state and inputs, from left to right. It is given where each product
+/// and each sum fits.
+pub fn sum_at(coefficients: &[i128], state: &[i128], inputs: &[i128]) -> Option<i128>
+    requires { length coefficients.now ≡ length state.now + length inputs.now }
+    ensures { result ≡ sum_in_order coefficients.now (state.now ++ inputs.now) }
+{
+    let mut sum = 0;
+    'places: for place in 0..coefficients.len() {
+        match plus_product(coefficients, state, inputs, place, sum) {
+            Some(more) => sum = more,
+            None => return None,
+        }
+    }
+    Some(sum)
 }
 
 /// A number times the one at a place, where it fits.
@@ -124,23 +169,6 @@ impl Line {
         Ok(line_of(coefficients, product_if_fits(k, self.constant)))
     }
 
-    /// The sum with a number times a line, where both fit.
-    fn plus_multiple(
-        &self,
-        alloc: Global,
-        k: i128,
-        line: &Line,
-    ) -> Result<Option<Line>, AllocError>
-        requires { length (form_of self.now).coefficients ≡ length (form_of line.now).coefficients }
-        ensures { IfOk result (λ made. option_map form_of made ≡ with_multiple (form_of self.now) k (form_of line.now)) }
-    {
-        let product = line.times(alloc, k)?;
-        match product {
-            Some(product) => self.plus(alloc, &product),
-            None => Ok(None),
-        }
-    }
-
     /// The line with its columns replaced by lines of one width: the multiples are summed in column order, and the
     /// line's own constant comes last. It is given where each product and each sum fits.
     pub fn compose(
@@ -159,6 +187,35 @@ impl Line {
             None => Ok(None),
         }
     }
+
+    /// The line's value at a state and inputs. It is given where each product and each sum fits, in order, the constant last.
+    pub fn value_at(&self, state: &[i128], inputs: &[i128]) -> Option<i128>
+        requires { length (form_of self.now).coefficients ≡ length state.now + length inputs.now }
+        ensures { result ≡ value_if_fits (form_of self.now) (state.now ++ inputs.now) }
+    {
+        let sum = sum_at(self.coefficients.as_slice(), state, inputs)?;
+        sum_if_fits(sum, self.constant)
+    }
+}
+
+/// The sum with the multiple of the line at a place, where both fit.
+fn plus_multiple(
+    alloc: Global,
+    sum: &Line,
+    numbers: &[i128],
+    lines: &[Line],
+    place: usize,
+) -> Result<Option<Line>, AllocError>
+    requires one_each { length lines.now ≡ length numbers.now }
+    requires within { place < length numbers.now }
+    requires widths { AllByRecursion (λ form. length form.coefficients ≡ length (form_of sum.now).coefficients) (map form_of lines.now) }
+    ensures { IfOk result (λ made. option_map form_of made ≡ with_multiple (form_of sum.now) (slice_index_or numbers.now place (pos 0)) (slice_index_or (map form_of lines.now) place (constant_form 0 (pos 0)))) }
+{
+    let product = lines[place].times(alloc, numbers[place])?;
+    match product {
+        Some(product) => sum.plus(alloc, &product),
+        None => Ok(None),
+    }
 }
 
 /// The sum of the multiples of lines, in order, where each product and each sum fits.
@@ -175,7 +232,7 @@ fn multiples_of(
 {
     let mut sum = Line::constant(alloc, width, 0)?;
     'places: for place in 0..numbers.len() {
-        let more = sum.plus_multiple(alloc, numbers[place], &lines[place])?;
+        let more = plus_multiple(alloc, &sum, numbers, lines, place)?;
         match more {
             Some(more) => sum = more,
             None => return Ok(None),

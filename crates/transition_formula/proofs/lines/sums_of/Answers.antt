@@ -1,4 +1,4 @@
-use Rattle.std.proofs.Common.{◌≡◌, ◌<◌, ℕ, length, sym, subst, arith}
+use Rattle.std.proofs.Common.{◌≡◌, ◌<◌, ◌++◌, ◌∷◌, [], ℕ, length, sym, subst, arith, rules}
 use Rattle.lin_rows.specs.Row.{sum_of}
 use Rattle.transition_formula.proofs.FittingLists.{AreFirst, first-next, first-ends, length-sum_of}
 use Rattle.transition_formula.proofs.lines.sums_of.Goals as goal
@@ -7,7 +7,8 @@ pub places-preserved : goal.places-preserved
 places-preserved c =
     let xs = sum_of c.args.one.now c.args.other.now in
     let within : c.places.place < length xs = omega (arith, length-sum_of c.args.one.now c.args.other.now c.requires) in
-    first-next c.places.place xs _ _ _ within c.places.invariant (sym c.in-Some.ensures) c.push.ensures.items
+    let pushed : c.push.new.self.items ≡ c.places.sums.items ++ c.in-Some.sum ∷ [] = search rules in
+    first-next c.places.place xs _ _ _ within c.places.invariant (sym c.in-Some.ensures) pushed
 
 pub returns : goal.returns
 returns c =

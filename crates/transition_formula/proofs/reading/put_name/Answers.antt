@@ -4,7 +4,7 @@ use Rattle.transition_formula.specs.AtomText.{column_texts}
 use Rattle.transition_formula.specs.inside.AtomReading.{IsWord}
 use Rattle.transition_formula.proofs.AtomTexts.{length-column_texts}
 use Rattle.transition_formula.proofs.ColumnTexts.{column_texts-words}
-use Rattle.transition_formula.proofs.Lookups.{AllByRecursion-slice_get}
+use Rattle.lin_rows.proofs.Lists.{AllByRecursion-slice_get}
 use Rattle.transition_formula.proofs.reading.put_name.Goals as goal
 
 -- what follows where a call succeeds
