@@ -10,5 +10,4 @@ pub mod StoredStep
 pub mod StoredRun
 pub mod Laws
 pub mod FormLaws
-pub mod Worked
 pub mod inside

@@ -1,2 +1,3 @@
 pub mod AtomReading
 pub mod FormParts
+pub mod Worked

@@ -29,4 +29,6 @@ pub use schedule::{Schedule, ScheduleSteps};
 pub use schedule_step::{ScheduleStep, Values};
 
 #[cfg(test)]
+mod form_tests;
+#[cfg(test)]
 mod tests;

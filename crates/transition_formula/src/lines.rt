@@ -89,11 +89,7 @@ fn product_at(k: i128, numbers: &[i128], place: usize) -> Option<i128>
 }
 
 /// A number times each number of a list, where each product fits.
-fn products_of(
-    alloc: Global,
-    k: i128,
-    numbers: &[i128],
-) -> Result<Option<Vec<i128>>, AllocError>
+fn products_of(alloc: Global, k: i128, numbers: &[i128]) -> Result<Option<Vec<i128>>, AllocError>
     ensures { IfOk result (λ made. option_map (λ products. products.items) made ≡ fitting_list (scaled k numbers.now)) }
 {
     let mut products = Vec::with_capacity(alloc, numbers.len())?;
@@ -155,10 +151,7 @@ impl Line {
             self.coefficients.as_slice(),
             other.coefficients.as_slice(),
         )?;
-        Ok(line_of(
-            coefficients,
-            sum_if_fits(self.constant, other.constant),
-        ))
+        Ok(line_of(coefficients, sum_if_fits(self.constant, other.constant)))
     }
 
     /// The line times a number, where each number of it fits.

@@ -112,12 +112,7 @@ fn read_candidate(
 }
 
 /// Whether the text is the atom's.
-fn has_text(
-    alloc: Global,
-    program: &Program,
-    atom: &Atom,
-    text: &[u8],
-) -> Result<bool, AllocError>
+fn has_text(alloc: Global, program: &Program, atom: &Atom, text: &[u8]) -> Result<bool, AllocError>
     requires { length atom.now.coefficients ≤ length program.now.columns + length program.now.columns }
     ensures { IfOk result (λ same. IsTrue same ↔ (text.now ≡ atom_text program.now.columns atom.now)) }
 {
