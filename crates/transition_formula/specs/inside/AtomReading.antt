@@ -1,7 +1,12 @@
 -- What the parts of the reader of atoms say. No public clause cites this file.
-use Rattle.std.specs.Prelude.{◌≡◌, ◌≢◌, ℕ, ◌<◌, ℤ, pos, negsuc, Bool, true, false, List, [], ◌∷◌, ◌++◌, length, codes}
-use Rattle.std.specs.List.{AllByRecursion}
+use Rattle.std.specs.Prelude.{◌≡◌, ◌≢◌, ℕ, ◌<◌, ℤ, pos, negsuc, Bool, true, false, ◌||◌, ◌==◌, List, [], ◌∷◌, ◌++◌, length, codes}
+use Rattle.std.specs.Char.{is_ascii_alphanumeric}
+use Rattle.std.specs.List.{AllByRecursion, list_any}
 use Rattle.transition_formula.specs.AtomText.{terms_text}
+
+-- what stands in the texts of columns: letters, digits and _ . $ #
+abbrev pub is_text_byte : ℕ → Bool
+is_text_byte b = is_ascii_alphanumeric b || list_any (λ c. b == c) (codes "_.$#")
 
 -- Neither a blank, a `*` nor a `-`.
 pub record IsPlain (b : ℕ) : Type 0 where
