@@ -129,28 +129,28 @@ module _ {M E : Type 0} (history : M → List E) where
       let w : View E = resting more in
       ⊎_elim (λ (f : IsFree history log s). not_both v v refl (f.idle id v at) has)
       (λ (t : IsTaken history log s).
-          let here : id ≡ t.holder = t.alone id v at has in
-          let same : v ≡ t.view = some-injective v t.view (sym at ∙ (ap (get_elem? s.views) here ∙ t.there)) in
-          let longer' : IsPrefix log more = subst (λ (l : List E). IsPrefix l more) (ap (λ u. u.seen) same ∙ t.seen) grown in (
-            w,
-            gives,
-            tt,
-            (
-              more,
-              record {
-                known = known_set s.views more id w (known_longer s.views log more kept.1.known longer') (prefix_self more) (more, refl);
-                turn = inl record {
-                  word = ap (λ (ws : List ℕ). set ws 0 new) t.word ∙ ap (λ (k : ℕ). k ∷ []) is;
-                  value = value;
-                  home = set_only s.homes (some (Some value)) (sized ∙ one);
-                  recorded = refl;
-                  idle = λ seat u there. ⊎_elim (λ (x : (seat ≡ id) × (w ≡ u)). subst (λ (y : View E). y.has_turn ≡ false) x.1 refl)
-                      (λ (x : (seat ≢ id) × (get_elem? s.views seat ≡ some u)). others u.has_turn refl (λ yes. x.0 (t.alone seat u x.1 yes ∙ sym here))) (at_set s.views id seat w u there);
-                };
-              },
-            ),
-            λ value' slot. (let e = slot_value value value' slot in ap (λ (x : M). (resting (history x), [])) e),
-          ))
+      let here : id ≡ t.holder = t.alone id v at has in
+      let same : v ≡ t.view = some-injective v t.view (sym at ∙ (ap (get_elem? s.views) here ∙ t.there)) in
+      let longer' : IsPrefix log more = subst (λ (l : List E). IsPrefix l more) (ap (λ u. u.seen) same ∙ t.seen) grown in (
+        w,
+        gives,
+        tt,
+        (
+          more,
+          record {
+            known = known_set s.views more id w (known_longer s.views log more kept.1.known longer') (prefix_self more) (more, refl);
+            turn = inl record {
+              word = ap (λ (ws : List ℕ). set ws 0 new) t.word ∙ ap (λ (k : ℕ). k ∷ []) is;
+              value = value;
+              home = set_only s.homes (some (Some value)) (sized ∙ one);
+              recorded = refl;
+              idle = λ seat u there. ⊎_elim (λ (x : (seat ≡ id) × (w ≡ u)). subst (λ (y : View E). y.has_turn ≡ false) x.1 refl)
+                  (λ (x : (seat ≢ id) × (get_elem? s.views seat ≡ some u)). others u.has_turn refl (λ yes. x.0 (t.alone seat u x.1 yes ∙ sym here))) (at_set s.views id seat w u there);
+            };
+          },
+        ),
+        λ value' slot. (let e = slot_value value value' slot in ap (λ (x : M). (resting (history x), [])) e),
+      ))
       kept.1.turn
     where
       others : (b : Bool) {c : Bool} → c ≡ b → (c ≡ true → ⊥) → c ≡ false

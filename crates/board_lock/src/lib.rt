@@ -11,3 +11,6 @@ mod view;
 pub use held::Held;
 pub use seat::Seat;
 pub use turn::Turn;
+
+#[cfg(test)]
+mod tests;

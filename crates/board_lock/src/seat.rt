@@ -1,6 +1,4 @@
 //! A seat between turns.
-ghost use Rattle.std.specs.Prelude.{◌≡◌, [], false};
-
 use crate::view::View;
 use atomic_table::Badge;
 use std::marker::Model;

@@ -1,5 +1,5 @@
 //! The turn at a value, which one thread at a time has.
-ghost use Rattle.std.specs.Prelude.{◌≡◌, ◌⊎◌, ◌∷◌, [], true, length, IfOk, Some, None};
+ghost use Rattle.std.specs.Prelude.{◌≡◌, ◌⊎◌, ◌∷◌, [], true, IfOk};
 ghost use mathlib.Core.List.{IsPrefix};
 ghost use Rattle.board_lock.specs.Turns.{board_of, taken_of, value_of};
 
@@ -86,9 +86,9 @@ impl<M: Recorded + Send + Drop> Turn<M> {
         } = held;
         let Grip { mut place } = grip;
         let shared = &self.table.shared;
-        let word = 2 * value.recorded();
+        let given = 2 * value.recorded();
         shared.exchange(&mut place, 0, Some(value));
-        shared.store::<Give>(&mut place, 0, word);
+        shared.store::<Give>(&mut place, 0, given);
         shared.wake_one(0);
         Seat {
             badge: place.into_badge(),

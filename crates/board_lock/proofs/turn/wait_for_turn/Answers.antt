@@ -11,5 +11,5 @@ exchange-requires g c =
     let before = c.loop.place.me in
     let after = c.compare_exchange-found.new.seat.me in
     let won : Takes g.M.Recorded.history before after =
-        took g.M.Recorded.history c.args.shared.now.table_id.slots c.peek-word.result c.compare_exchange-found.result before after c.compare_exchange-found.ensures.2 (search rules) in
+    took g.M.Recorded.history c.args.shared.now.table_id.slots c.peek-word.result c.compare_exchange-found.result before after c.compare_exchange-found.ensures.2 (search rules) in
     (search rules, took_slot g.M.Recorded.history before after won)
