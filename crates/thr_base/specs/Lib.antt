@@ -1,3 +1,4 @@
+pub mod ColumnText
 pub mod Held
 pub mod InMemory
 pub mod inside
