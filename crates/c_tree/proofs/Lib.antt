@@ -43,3 +43,5 @@ pub mod Refusals
 pub mod Deepening
 pub mod DeepeningStmt
 pub mod DeepeningItem
+pub mod View
+pub mod Starts

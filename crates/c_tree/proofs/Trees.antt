@@ -1,5 +1,5 @@
 -- The tree of a text is that of its tokens, and of nothing else.
-use Rattle.std.proofs.Common.{◌≡◌, ℕ, zero, suc, rules, Bool, true, false, List, [], ◌∷◌, map, length, bytes_eq, cond, Result, Ok, Err, IfOk, refl, sym, ap, subst, ◌∙◌}
+use Rattle.std.proofs.Common.{◌≡◌, ℕ, zero, suc, rules, Bool, true, false, List, [], ◌∷◌, ◌++◌, map, length, bytes_eq, cond, Result, Ok, Err, IfOk, refl, sym, ap, subst, ◌∙◌}
 use Rattle.thr_base.specs.declared.stops.Refusal.{Refusal}
 use Rattle.thr_base.specs.declared.stops.Stop.{Stop}
 use Rattle.c_lex.specs.declared.token.Kind.{Kind}
@@ -7,7 +7,7 @@ use Rattle.c_lex.specs.declared.token.Kind.TheVariants as kinds
 use Rattle.c_lex.specs.Tokens.{Lexeme, lexed, Gives}
 use Rattle.c_tree.specs.declared.term.Term.{Term}
 use Rattle.c_tree.specs.declared.term.Term.TheVariants as terms
-use Rattle.c_tree.specs.declared.term.TheConstants.{WORDS, MARKS}
+use Rattle.c_tree.specs.Words.{words, refused_words, marks}
 use Rattle.c_tree.specs.declared.item.Tree.{Tree}
 use Rattle.c_tree.specs.Term.{same_term, lookup, word_term, mark_term, kind_term}
 use Rattle.c_tree.specs.Input.{Input, Outcome, Parser, peek, sees, term_at, refusal}
@@ -45,10 +45,10 @@ lookup_no_end [] text otherwise none other = other
 lookup_no_end (e ∷ es) text otherwise none other = lookup_by (bytes_eq e.0 text) e.1 (lookup es text otherwise) none.0 (lookup_no_end es text otherwise none.1 other)
 
 kind_no_end : (kind : Kind) (text : List ℕ) → is_end (kind_term kind text) ≡ false
-unfolding word_term mark_term
-kind_no_end kinds.Word text = lookup_no_end (map (λ e. (e.0.now, e.1)) WORDS) text terms.Name (search rules) refl
+unfolding word_term mark_term words refused_words marks
+kind_no_end kinds.Word text = lookup_no_end (words ++ map (λ word. (word, terms.Refused)) refused_words) text terms.Name (search rules) refl
 kind_no_end kinds.Number text = refl
-kind_no_end kinds.Mark text = lookup_no_end (map (λ e. (e.0.now, e.1)) MARKS) text terms.Refused (search rules) refl
+kind_no_end kinds.Mark text = lookup_no_end marks text terms.Refused (search rules) refl
 kind_no_end kinds.Foreign text = refl
 
 at_end : (ts : List Lexeme) → term_at ts ≡ terms.End → ts ≡ []

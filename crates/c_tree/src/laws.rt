@@ -3,12 +3,17 @@
 ghost use Rattle.std.specs.Prelude.{◌≡◌, ◌<◌, ℕ, List, Ok, Err, length};
 ghost use Rattle.c_lex.specs.Tokens.{Lexeme, lexed};
 ghost use Rattle.c_tree.specs.Expr as spec;
-ghost use Rattle.c_tree.specs.Grammar.{IsExpr, binds};
+ghost use Rattle.c_tree.specs.Grammar.{IsExpr, StartsAt, binds};
 ghost use Rattle.c_tree.specs.GrammarItem.{IsTree, IsTreeOf};
+ghost use Rattle.c_tree.specs.GrammarStmt.{IsStmt};
 ghost use Rattle.c_tree.specs.Input.{Input, term_at};
 ghost use Rattle.c_tree.specs.Item.{parsed};
+ghost use Rattle.c_tree.specs.Plain.{expr_place, stmt_place};
+ghost use Rattle.c_tree.specs.Seen.{plain_expr, plain_stmt};
 ghost use Rattle.c_tree.specs.Refused.{IsRefusedWith};
 ghost use Rattle.c_tree.specs.declared.expr.Expr.{Expr};
+ghost use Rattle.c_tree.specs.declared.stmt.Around.{Around};
+ghost use Rattle.c_tree.specs.declared.stmt.Stmt.{Stmt};
 ghost use Rattle.c_tree.specs.declared.item.Tree.{Tree};
 ghost use Rattle.thr_base.specs.declared.stops.Refusal.{Refusal};
 
@@ -22,6 +27,12 @@ pub fn expressions_are_read_exactly()
         → spec.expr levels (record { tokens = ts; end = end }) ≡ Ok (e, record { tokens = rest; end = end }) }
     // No other expression stands there.
     ensures one { (levels : ℕ) (e f : Expr) (ts rest : List Lexeme) → IsExpr levels e ts rest → IsExpr levels f ts rest → binds (term_at rest) < 1 → e ≡ f }
+{}
+
+/// An expression and a statement begin at the places that their plain trees have.
+pub fn places_are_those_of_first_tokens()
+    ensures exprs { (levels : ℕ) (e : Expr) (ts rest : List Lexeme) → IsExpr levels e ts rest → StartsAt (expr_place (plain_expr e)) ts }
+    ensures stmts { (levels : ℕ) (around : Around) (s : Stmt) (ts rest : List Lexeme) → IsStmt levels around s ts rest → StartsAt (stmt_place (plain_stmt s)) ts }
 {}
 
 /// A text has the tree that is read exactly where its tokens, all of them, stand for it; and they stand for no two.

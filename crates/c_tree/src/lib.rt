@@ -27,7 +27,8 @@ pub use item::{
     Untyped,
 };
 pub use laws::{
-    expressions_are_read_exactly, refusals_are_at_the_first_wrong_token, trees_are_read_exactly,
+    expressions_are_read_exactly, places_are_those_of_first_tokens,
+    refusals_are_at_the_first_wrong_token, trees_are_read_exactly,
 };
 pub use reader::parse;
 pub use simple::{
