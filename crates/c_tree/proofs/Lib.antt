@@ -45,3 +45,6 @@ pub mod DeepeningStmt
 pub mod DeepeningItem
 pub mod View
 pub mod Starts
+pub mod Sitting
+pub mod SittingParts
+pub mod SittingText

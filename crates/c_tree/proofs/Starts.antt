@@ -22,7 +22,7 @@ use Rattle.c_tree.specs.declared.stmt.Stmt.TheOpen.{Stmt-F}
 use Rattle.std.proofs.Common.{Some, None}
 use Rattle.c_tree.specs.Plain as plain
 use Rattle.c_tree.specs.Plain.{expr_place, assign_place, call_place, stmt_place}
-use Rattle.c_tree.specs.Seen.{joined, or_mark, and_mark, equality_mark, relation_mark, sum_mark, product_mark, plain_unary, plain_product, plain_sum, plain_relation, plain_equality, plain_conjunction, plain_expr, plain_assign, plain_call, plain_stmt}
+use Rattle.c_tree.specs.Seen.{left_to_right, or_mark, and_mark, equality_mark, relation_mark, sum_mark, product_mark, plain_unary, plain_product, plain_sum, plain_relation, plain_equality, plain_conjunction, plain_expr, plain_assign, plain_call, plain_stmt}
 use Rattle.c_tree.specs.Grammar.{Is, StartsAt, IsLayer, IsUnary, IsProduct, IsSum, IsRelation, IsEquality, IsConjunction, IsExprOver, IsExpr}
 use Rattle.c_tree.specs.Sequence.{Part}
 use Rattle.c_tree.specs.GrammarSimple.{IsAssign, IsCall}
@@ -38,7 +38,7 @@ starts_at : (from other : ℕ) (ts : List Lexeme) → other ≡ from → StartsA
 starts_at from other ts same is = subst (λ (p : ℕ). StartsAt p ts) (sym same) is
 
 -- marks do not change where an expression begins
-joined_place : {M : Type 0} (mark : M → plain.Expr → plain.Expr → plain.Expr) → ((m : M) (l r : plain.Expr) → expr_place (mark m l r) ≡ expr_place l) → (left : plain.Expr) (more : List (M × plain.Expr)) → expr_place (joined mark left more) ≡ expr_place left
+joined_place : {M : Type 0} (mark : M → plain.Expr → plain.Expr → plain.Expr) → ((m : M) (l r : plain.Expr) → expr_place (mark m l r) ≡ expr_place l) → (left : plain.Expr) (more : List (M × plain.Expr)) → expr_place (left_to_right mark left more) ≡ expr_place left
 joined_place mark keeps left [] = refl
 joined_place mark keeps left (m ∷ more) = joined_place mark keeps (mark m.0 left m.1) more ∙ keeps m.0 left m.1
 
@@ -83,7 +83,7 @@ expr_starts levels e ts rest is =
 
 -- ---- statements
 
-assign_starts : (levels : ℕ) (a : Assign) (ts rest : List Lexeme) → IsAssign levels a ts rest → StartsAt (assign_place (plain_assign a)) ts
+pub assign_starts : (levels : ℕ) (a : Assign) (ts rest : List Lexeme) → IsAssign levels a ts rest → StartsAt (assign_place (plain_assign a)) ts
 assign_starts levels (assigns.Set x e) ts rest is = starts _ _ ts _ is.1.0
 assign_starts levels (assigns.Add x e) ts rest is = starts _ _ ts _ is.1.0
 assign_starts levels (assigns.Subtract x e) ts rest is = starts _ _ ts _ is.1.0
@@ -92,7 +92,7 @@ assign_starts levels (assigns.Decrement x) ts rest is = starts _ _ ts _ is.1.0
 assign_starts levels (assigns.IncrementFirst from x) ts rest is = starts _ _ ts _ is.1
 assign_starts levels (assigns.DecrementFirst from x) ts rest is = starts _ _ ts _ is.1
 
-call_starts : (levels : ℕ) (c : Call) (ts rest : List Lexeme) → IsCall levels c ts rest → StartsAt (call_place (plain_call c)) ts
+pub call_starts : (levels : ℕ) (c : Call) (ts rest : List Lexeme) → IsCall levels c ts rest → StartsAt (call_place (plain_call c)) ts
 call_starts levels (calls.Assert from e) ts rest is = starts _ _ ts _ is.1
 call_starts levels (calls.Assume from e) ts rest is = starts _ _ ts _ is.1
 call_starts levels (calls.ReachError from) ts rest is = starts _ _ ts _ is.1

@@ -23,7 +23,7 @@ use Rattle.c_tree.specs.declared.simple.Handles.{Handles}
 use Rattle.c_tree.specs.declared.stmt.First.{First}
 use Rattle.c_tree.specs.declared.stmt.Block.{Block, out-Block, fold_out-Block}
 use Rattle.c_tree.specs.Plain as plain
-use Rattle.c_tree.specs.Seen.{joined, or_mark, and_mark, equality_mark, relation_mark, sum_mark, product_mark, plain_unary, plain_product, plain_sum, plain_relation, plain_equality, plain_conjunction, plain_expr, plain_cond, plain_assign, plain_call, plain_first, plain_locals, plain_names, plain_stmt, plain_stmts, plain_block, if_layer}
+use Rattle.c_tree.specs.Seen.{left_to_right, or_mark, and_mark, equality_mark, relation_mark, sum_mark, product_mark, plain_unary, plain_product, plain_sum, plain_relation, plain_equality, plain_conjunction, plain_expr, plain_cond, plain_assign, plain_call, plain_first, plain_locals, plain_names, plain_stmt, plain_stmts, plain_block, if_layer}
 
 -- operands behind marks
 abbrev pub behind : {M A : Type 0} → (A → plain.Expr) → List (M × A) → List (M × plain.Expr)
@@ -32,7 +32,7 @@ behind f more = map (λ m. (m.0, f m.1)) more
 -- ---- expressions
 
 abbrev pub unary_seen : Unary-F Unary Conjunction Equality Expr Product Relation Sum → plain.Expr
-unary_seen (Unary-F.Operator from kind operand) = plain.Expr.Signed from kind (plain_unary operand)
+unary_seen (Unary-F.Operator from kind operand) = plain.Expr.Prefixed from kind (plain_unary operand)
 unary_seen (Unary-F.Paren from inner) = plain.Expr.Parens from (plain_expr inner)
 unary_seen (Unary-F.Number from value) = plain.Expr.Number from value
 unary_seen (Unary-F.Name name) = plain.Expr.Named name
@@ -47,7 +47,7 @@ unary_made (Unary-F.Name name) = fold-roll-Unary _ _ _ _ _ _ _ _ _ _ _ _ _ _ (Un
 pub unary_out : (u : Unary) → plain_unary u ≡ unary_seen (out-Unary u)
 unary_out u = ap plain_unary (sym (roll-out-Unary u)) ∙ unary_made (out-Unary u)
 
-pub operator_is : (from : ℕ) (kind : UnaryKind) (operand : Unary) → plain_unary (unaries.Operator from kind operand) ≡ plain.Expr.Signed from kind (plain_unary operand)
+pub operator_is : (from : ℕ) (kind : UnaryKind) (operand : Unary) → plain_unary (unaries.Operator from kind operand) ≡ plain.Expr.Prefixed from kind (plain_unary operand)
 operator_is from kind operand = ap plain_unary (sym (unaries.rolls-Operator from kind operand)) ∙ unary_made (Unary-F.Operator from kind operand)
 
 pub paren_is : (from : ℕ) (inner : Expr) → plain_unary (unaries.Paren from inner) ≡ plain.Expr.Parens from (plain_expr inner)
@@ -59,27 +59,27 @@ number_is from value = ap plain_unary (sym (unaries.rolls-Number from value)) �
 pub name_is : (name : Name) → plain_unary (unaries.Name name) ≡ plain.Expr.Named name
 name_is name = ap plain_unary (sym (unaries.rolls-Name name)) ∙ unary_made (Unary-F.Name name)
 
-pub product_out : (p : Product) → plain_product p ≡ joined product_mark (plain_unary (out-Product p).first) (behind plain_unary (out-Product p).more)
+pub product_out : (p : Product) → plain_product p ≡ left_to_right product_mark (plain_unary (out-Product p).first) (behind plain_unary (out-Product p).more)
 unfolding plain_product plain_unary
 product_out p = fold_out-Product _ _ _ _ _ _ _ _ _ _ _ _ _ _ p
 
-pub sum_out : (s : Sum) → plain_sum s ≡ joined sum_mark (plain_product (out-Sum s).first) (behind plain_product (out-Sum s).more)
+pub sum_out : (s : Sum) → plain_sum s ≡ left_to_right sum_mark (plain_product (out-Sum s).first) (behind plain_product (out-Sum s).more)
 unfolding plain_sum plain_product
 sum_out s = fold_out-Sum _ _ _ _ _ _ _ _ _ _ _ _ _ _ s
 
-pub relation_out : (r : Relation) → plain_relation r ≡ joined relation_mark (plain_sum (out-Relation r).first) (behind plain_sum (out-Relation r).more)
+pub relation_out : (r : Relation) → plain_relation r ≡ left_to_right relation_mark (plain_sum (out-Relation r).first) (behind plain_sum (out-Relation r).more)
 unfolding plain_relation plain_sum
 relation_out r = fold_out-Relation _ _ _ _ _ _ _ _ _ _ _ _ _ _ r
 
-pub equality_out : (e : Equality) → plain_equality e ≡ joined equality_mark (plain_relation (out-Equality e).first) (behind plain_relation (out-Equality e).more)
+pub equality_out : (e : Equality) → plain_equality e ≡ left_to_right equality_mark (plain_relation (out-Equality e).first) (behind plain_relation (out-Equality e).more)
 unfolding plain_equality plain_relation
 equality_out e = fold_out-Equality _ _ _ _ _ _ _ _ _ _ _ _ _ _ e
 
-pub conjunction_out : (c : Conjunction) → plain_conjunction c ≡ joined and_mark (plain_equality (out-Conjunction c).first) (behind plain_equality (out-Conjunction c).more)
+pub conjunction_out : (c : Conjunction) → plain_conjunction c ≡ left_to_right and_mark (plain_equality (out-Conjunction c).first) (behind plain_equality (out-Conjunction c).more)
 unfolding plain_conjunction plain_equality
 conjunction_out c = fold_out-Conjunction _ _ _ _ _ _ _ _ _ _ _ _ _ _ c
 
-pub expr_out : (e : Expr) → plain_expr e ≡ joined or_mark (plain_conjunction (out-Expr e).first) (behind plain_conjunction (out-Expr e).more)
+pub expr_out : (e : Expr) → plain_expr e ≡ left_to_right or_mark (plain_conjunction (out-Expr e).first) (behind plain_conjunction (out-Expr e).more)
 unfolding plain_expr plain_conjunction
 expr_out e = fold_out-Expr _ _ _ _ _ _ _ _ _ _ _ _ _ _ e
 

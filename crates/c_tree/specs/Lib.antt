@@ -18,3 +18,5 @@ pub mod GrammarItem
 pub mod Refused
 pub mod Plain
 pub mod Seen
+pub mod Beyond
+pub mod Leaves

@@ -24,7 +24,7 @@ pub data Expr : Type 0 where
   Number : ℕ → ℤ → Expr
   Named : Name → Expr
   -- a sign, and what stands behind it
-  Signed : ℕ → UnaryKind → Expr → Expr
+  Prefixed : ℕ → UnaryKind → Expr → Expr
   Parens : ℕ → Expr → Expr
   -- the place is that of the mark
   Binary : Operator → ℕ → Expr → Expr → Expr
@@ -95,9 +95,9 @@ mutual
     End : Stmts
     Then : Stmt → Stmts → Stmts
 
-abbrev pub listed : List Stmt → Stmts
-listed [] = Stmts.End
-listed (s ∷ rest) = Stmts.Then s (listed rest)
+abbrev pub stmt_list : List Stmt → Stmts
+stmt_list [] = Stmts.End
+stmt_list (s ∷ rest) = Stmts.Then s (stmt_list rest)
 
 -- ---- texts
 
@@ -118,8 +118,10 @@ pub data Item : Type 0 where
   -- a prototype of a function of the profile, or a function `reach_error`, at the place of its name
   Profile : ℕ → Item
 
-abbrev pub Tree : Type 0
-Tree = List Item
+-- the items, and the length of the text
+pub record Tree : Type 0 where
+  pub items : List Item
+  pub end : ℕ
 
 -- ---- places
 
@@ -127,7 +129,7 @@ Tree = List Item
 abbrev pub expr_place : Expr → ℕ
 expr_place (Expr.Number from value) = from
 expr_place (Expr.Named name) = name.from
-expr_place (Expr.Signed from kind operand) = from
+expr_place (Expr.Prefixed from kind operand) = from
 expr_place (Expr.Parens from inner) = from
 expr_place (Expr.Binary operator from left right) = expr_place left
 

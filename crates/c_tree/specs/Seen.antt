@@ -55,9 +55,9 @@ use Rattle.c_tree.specs.Plain as plain
 -- ---- expressions
 
 -- an operand, and those behind marks; each mark takes all that stands in front of it on its left
-abbrev pub joined : {M : Type 0} → (M → plain.Expr → plain.Expr → plain.Expr) → plain.Expr → List (M × plain.Expr) → plain.Expr
-joined mark left [] = left
-joined mark left (m ∷ more) = joined mark (mark m.0 left m.1) more
+abbrev pub left_to_right : {M : Type 0} → (M → plain.Expr → plain.Expr → plain.Expr) → plain.Expr → List (M × plain.Expr) → plain.Expr
+left_to_right mark left [] = left
+left_to_right mark left (m ∷ more) = left_to_right mark (mark m.0 left m.1) more
 
 abbrev pub equality_operator : EqualityKind → plain.Operator
 equality_operator equalities.Equal = plain.Operator.Equal
@@ -96,28 +96,28 @@ abbrev Layer : (Type 0 → Type 0 → Type 0 → Type 0 → Type 0 → Type 0 �
 Layer F = F plain.Expr plain.Expr plain.Expr plain.Expr plain.Expr plain.Expr plain.Expr
 
 abbrev pub unary_layer : Layer Unary-F → plain.Expr
-unary_layer (Unary-F.Operator from kind operand) = plain.Expr.Signed from kind operand
+unary_layer (Unary-F.Operator from kind operand) = plain.Expr.Prefixed from kind operand
 unary_layer (Unary-F.Paren from inner) = plain.Expr.Parens from inner
 unary_layer (Unary-F.Number from value) = plain.Expr.Number from value
 unary_layer (Unary-F.Name name) = plain.Expr.Named name
 
 abbrev pub product_layer : Layer Product-F → plain.Expr
-product_layer p = joined product_mark p.first p.more
+product_layer p = left_to_right product_mark p.first p.more
 
 abbrev pub sum_layer : Layer Sum-F → plain.Expr
-sum_layer s = joined sum_mark s.first s.more
+sum_layer s = left_to_right sum_mark s.first s.more
 
 abbrev pub relation_layer : Layer Relation-F → plain.Expr
-relation_layer r = joined relation_mark r.first r.more
+relation_layer r = left_to_right relation_mark r.first r.more
 
 abbrev pub equality_layer : Layer Equality-F → plain.Expr
-equality_layer e = joined equality_mark e.first e.more
+equality_layer e = left_to_right equality_mark e.first e.more
 
 abbrev pub conjunction_layer : Layer Conjunction-F → plain.Expr
-conjunction_layer c = joined and_mark c.first c.more
+conjunction_layer c = left_to_right and_mark c.first c.more
 
 abbrev pub expr_layer : Layer Expr-F → plain.Expr
-expr_layer e = joined or_mark e.first e.more
+expr_layer e = left_to_right or_mark e.first e.more
 
 unfoldable pub plain_unary : Unary → plain.Expr
 plain_unary = fold-Unary _ _ _ _ _ _ _ unary_layer conjunction_layer equality_layer expr_layer product_layer relation_layer sum_layer
@@ -208,17 +208,17 @@ stmt_layer (Stmt-F.For from first c last s) = plain.Stmt.For from (plain_first f
 stmt_layer (Stmt-F.Break from) = plain.Stmt.Break from
 stmt_layer (Stmt-F.Return from value) = plain.Stmt.Return from
 stmt_layer (Stmt-F.Call c) = plain.Stmt.Calls (plain_call c)
-stmt_layer (Stmt-F.Atomic from ss) = plain.Stmt.Atomic from (plain.listed ss)
+stmt_layer (Stmt-F.Atomic from ss) = plain.Stmt.Atomic from (plain.stmt_list ss)
 stmt_layer (Stmt-F.Handles h) = plain.Stmt.Handles h.from (plain_names h)
 
 abbrev pub block_layer : Block-F plain.Stmt plain.Stmt → plain.Stmt
-block_layer b = plain.Stmt.Block b.from (plain.listed b.stmts)
+block_layer b = plain.Stmt.Block b.from (plain.stmt_list b.stmts)
 
 unfoldable pub plain_stmt : Stmt → plain.Stmt
 plain_stmt = fold-Stmt _ _ stmt_layer block_layer
 
 abbrev pub plain_stmts : List Stmt → plain.Stmts
-plain_stmts ss = plain.listed (map plain_stmt ss)
+plain_stmts ss = plain.stmt_list (map plain_stmt ss)
 
 -- the statements of a block
 abbrev pub plain_block : Block → plain.Stmts
@@ -256,5 +256,8 @@ plain_body (bodies.Void from u) = plain_untyped u
 plain_body (bodies.Locks l) = plain.Item.Locks (all_of (λ (m : Mname). m.name) l.first l.more)
 plain_body (bodies.Handles h) = plain.Item.Handles h.from (plain_names h)
 
+abbrev pub plain_items : List Item → List plain.Item
+plain_items items = map (λ (i : Item). plain_body i.body) items
+
 abbrev pub plain_tree : Tree → plain.Tree
-plain_tree t = map (λ (i : Item). plain_body i.body) t.items
+plain_tree t = record { items = plain_items t.items; end = t.end }
