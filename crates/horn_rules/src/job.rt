@@ -2,7 +2,9 @@ ghost use Rattle.std.specs.Prelude.{◌≡◌, ℕ, ◌+◌, ◌^◌, ◌<◌, �
 ghost use Rattle.transition_formula.specs.Program.{Thread, IsProgram, IsThreadOf, numbered};
 ghost use Rattle.transition_formula.specs.Rows.{with_rows};
 ghost use Rattle.horn_rules.specs.Home.{State, Env, homes};
-ghost use Rattle.horn_rules.specs.Job.{IsAtSource, IsAtLocation, IsAtEdge, AreItsPremises, AreStepRows, AreEnvRows, AreInterRows, AreInstanceRows, said_rows};
+ghost use Rattle.horn_rules.specs.Job.{ComesTo, IsJob, premise_says};
+ghost use Rattle.horn_rules.specs.Case.{Case};
+ghost use Rattle.horn_rules.specs.inside.JobRows.{IsAtSource, IsAtLocation, IsAtEdge, AreItsPremises, AreStepRows, AreEnvRows, AreInterRows, said_rows};
 
 use crate::homes::named;
 use crate::premise::{push_held, push_location, push_rows};
@@ -68,7 +70,7 @@ fn push_state(
     ensures program { OnOk result (IsProgram program.now) }
     ensures columns { OnOk result (rows.new.columns ≡ rows.old.columns) }
     ensures few { OnOk result (length rows.new.rows ≤ length rows.old.rows + 129) }
-    ensures rows { OnOk result ((i l : ℕ) (thread : Thread) → numbered (homes program.now) premise.now.fact.home.0 ≡ Some (State i l) → IsThreadOf program.now i thread → rows.new ≡ with_rows rows.old (said_rows (length program.now.columns) rows.old.columns thread l premise.now)) }
+    ensures rows { OnOk result ((i l : ℕ) (thread : Thread) → numbered (homes program.now) premise.now.fact.home.0 ≡ Some (State i l) → IsThreadOf program.now i thread → rows.new ≡ with_rows rows.old (said_rows (length program.now.columns) rows.old.columns thread l (premise_says program.now premise.now).atoms)) }
 {
     let (i, l) = location_of(program, premise);
     push_location(rows, row, program, i, l)?;

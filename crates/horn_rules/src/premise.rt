@@ -5,8 +5,9 @@ ghost use Rattle.lin_rows.specs.System.{IsRowOver, with_row};
 ghost use Rattle.lin_rows.specs.View.{row_of};
 ghost use Rattle.transition_formula.specs.Program.{Thread, IsThreadOf, numbered};
 ghost use Rattle.transition_formula.specs.Rows.{column_is, with_rows};
-ghost use Rattle.horn_rules.specs.Instance.{widened};
-ghost use Rattle.horn_rules.specs.Job.{holds, held_atoms};
+ghost use Rattle.horn_rules.specs.Case.{widened};
+ghost use Rattle.thr_base.specs.Held.{holds, positions};
+ghost use Rattle.horn_rules.specs.Fact.{atoms_at};
 
 use lin_rows::{Atom, RowView, Rows, RowsView};
 use std::alloc::AllocError;
@@ -91,7 +92,7 @@ pub(crate) fn push_held(
     requires one_each { AllByRecursion (λ atom. length atom.coefficients ≡ columns) atoms.now }
     requires room { length rows.old.rows < 2 ^ 31 }
     ensures few { OnOk result (length rows.new.rows ≤ length rows.old.rows + 128) }
-    ensures rows { OnOk result (rows.new ≡ with_rows rows.old (map (widened (rows.old.columns - columns)) (held_atoms atoms.now held))) }
+    ensures rows { OnOk result (rows.new ≡ with_rows rows.old (map (widened (rows.old.columns - columns)) (atoms_at atoms.now (positions held)))) }
 {
     'positions: for position in 1..129 {
         push_if_held(rows, row, columns, atoms, held, position)?;

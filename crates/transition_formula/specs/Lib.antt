@@ -6,3 +6,4 @@ pub mod AtomReading
 pub mod Stored
 pub mod Laws
 pub mod Worked
+pub mod Run
