@@ -1,10 +1,9 @@
-use Rattle.std.proofs.Common.{◌≡◌, ◌≢◌, ℕ, ◌+◌, ◌*◌, ◌-◌, ◌^◌, ◌%◌, ◌<◌, ap, arith}
-use Rattle.std.specs.Prelude.{bit_or, ◌==◌, true}
-use Rattle.std.specs.Int.{bit_at, w128}
+use Rattle.std.proofs.Common.{◌*◌, ◌-◌, ◌^◌, ◌%◌, ◌<◌, ap, arith}
+use Rattle.std.specs.Prelude.{◌==◌}
+use Rattle.std.specs.Int.{w128}
 use Rattle.std.proofs.lemmas.Nat.{or_lt}
 use Rattle.std.proofs.lemmas.Nat.Bits.{bit_at_set_same, bit_at_set_other}
 use Rattle.std.proofs.Math.Pow.{pow-lt}
-use Rattle.thr_base.specs.Held.{holds}
 use Rattle.thr_base.proofs.Positions.{bit-holds, positions-last}
 use Rattle.thr_base.proofs.held.with_position.Goals as goal
 
