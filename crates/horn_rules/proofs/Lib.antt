@@ -12,3 +12,4 @@ pub mod Jobs
 pub mod StoredSets
 pub mod Positions
 pub mod DistinctSets
+pub mod WorkedInstances

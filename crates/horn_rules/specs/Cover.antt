@@ -4,7 +4,7 @@ use Rattle.std.specs.List.{AllByRecursion, Contains}
 use Rattle.thr_base.specs.declared.names.RuleName.{RuleName}
 use Rattle.lin_rows.specs.System.{IsPoint}
 use Rattle.transition_formula.specs.Program.{Program, Thread, IsProgram, IsThreadOf}
-use Rattle.transition_formula.specs.Run.{Reaches}
+use Rattle.transition_formula.specs.Run.{Run, IsRun, Reaches, Fails}
 use Rattle.horn_rules.specs.Home.{State}
 use Rattle.horn_rules.specs.Fact.{Sets, Fact, Statement, AreSetsOf, IsStatementOf, statement_of}
 use Rattle.horn_rules.specs.Instance.{Instance, HasKind, premises_of, map_instance}
@@ -32,6 +32,9 @@ HasNoneFailing Stands i = (statement : Statement) → Stands statement → state
 -- No run comes to a state in which the thread is at location 0.
 abbrev pub NeverFails : Program → Thread → Type 0
 NeverFails program thread = (state : List ℤ) → Reaches program state → slice_get state thread.counter ≢ Some (pos 0)
+
+abbrev pub NoRunFails : Program → Type 0
+NoRunFails program = (run : Run) (last : List ℤ) → IsRun program run last → ¬ Fails program run
 
 -- Each instance of the rule over the least set, whose system some whole point meets, gives its fact.
 abbrev pub GivesFacts : Program → RuleName → Sets → Type 0
@@ -62,3 +65,12 @@ CoveredListsDoNotFail = (program : Program) (statements : List Statement) (i : �
 abbrev pub CoveredLeastDoesNotFail : Type 0
 CoveredLeastDoesNotFail = (program : Program) (rule : RuleName) (sets : Sets) (i : ℕ) (thread : Thread)
     → Covers program (LeastSays program rule sets) → IsThreadOf program i thread → HasNoneFailing (LeastSays program rule sets) i → NeverFails program thread
+
+-- Where it has nothing at location 0 of any thread, no run fails.
+abbrev pub CoveredListsAreSafe : Type 0
+CoveredListsAreSafe = (program : Program) (statements : List Statement)
+    → Covers program (Contains statements) → ((i : ℕ) → HasNoneFailing (Contains statements) i) → NoRunFails program
+
+abbrev pub CoveredLeastIsSafe : Type 0
+CoveredLeastIsSafe = (program : Program) (rule : RuleName) (sets : Sets)
+    → Covers program (LeastSays program rule sets) → ((i : ℕ) → HasNoneFailing (LeastSays program rule sets) i) → NoRunFails program

@@ -1,4 +1,4 @@
-ghost use Rattle.horn_rules.specs.Cover.{ClosedListsCover, ClosedLeastCovers, LeastIsClosed, CoveredListsDoNotFail, CoveredLeastDoesNotFail};
+ghost use Rattle.horn_rules.specs.Cover.{ClosedListsCover, ClosedLeastCovers, LeastIsClosed, CoveredListsDoNotFail, CoveredLeastDoesNotFail, CoveredListsAreSafe, CoveredLeastIsSafe};
 ghost use Rattle.horn_rules.specs.Laws.{CasesAreUnique, JobsHaveOneCase, AtomsArePlaced, PostsAreUnique, FactsAreGiven, GivenAtomsHold, EachInstanceGivesItsHome, InstancesAreExact, TablesAreUnique};
 ghost use Rattle.horn_rules.specs.Steps.{StartsAreDescribed, OwnStepsAreDescribed, OwnStepsAreTold, ToldStepsAreDescribed, InterferingStepsAreDescribed};
 
@@ -70,10 +70,13 @@ pub fn the_least_set_is_closed()
     ensures { LeastIsClosed }
 {}
 
-/// Where what covers all runs has nothing at the failing location of a thread, no run comes there: a law, and no code.
+/// Where what covers all runs has nothing at the failing location of a thread, no run comes there; where it has none of any thread, no
+/// run fails: a law, and no code.
 pub fn where_nothing_fails_no_run_does()
     ensures lists { CoveredListsDoNotFail }
     ensures least { CoveredLeastDoesNotFail }
+    ensures safe_lists { CoveredListsAreSafe }
+    ensures safe_least { CoveredLeastIsSafe }
 {}
 
 /// The list of instances over facts has exactly those that come to a case, each once: a law, and no code.
