@@ -1,7 +1,9 @@
 pub mod Places
 pub mod Numbers
 pub mod Placed
-pub mod Held
+pub mod Lists
+pub mod GivenAtoms
+pub mod Points
 pub mod Described
 pub mod OwnSteps
 pub mod OtherSteps
@@ -10,6 +12,6 @@ pub mod Posts
 pub mod Premises
 pub mod Jobs
 pub mod StoredSets
-pub mod Positions
 pub mod DistinctSets
 pub mod WorkedInstances
+pub mod Covering

@@ -10,7 +10,7 @@ use Rattle.lin_rows.specs.Atom.{IsAtom}
 use Rattle.lin_rows.proofs.Divisors.{gcd-step}
 use Rattle.lin_rows.proofs.Lists.{AllByRecursion-append}
 use Rattle.transition_formula.specs.Rows.{zeros}
-use Rattle.horn_rules.specs.Instance.{widened, moved}
+use Rattle.horn_rules.specs.Case.{widened, moved}
 
 -- ---- zeros change no greatest common divisor
 
