@@ -14,3 +14,4 @@ pub mod Terms
 pub mod ColumnTexts
 pub mod ReadTerms
 pub mod NormalAtoms
+pub mod Runs

@@ -1,5 +1,6 @@
 pub mod Program
 pub mod Step
+pub mod Run
 pub mod Rows
 pub mod AtomText
 pub mod AtomReading

@@ -1,4 +1,4 @@
-ghost use Rattle.transition_formula.specs.Laws.{InitRowsAreExact, EdgeRowsAreExact};
+ghost use Rattle.transition_formula.specs.Laws.{InitRowsAreExact, EdgeRowsAreExact, RunsEndInReachedStates, FailingStatesEndRuns, FailingRunsReach};
 
 /// The rows of the initial states hold at exactly these: a law, and no code.
 pub fn init_rows_are_exact()
@@ -8,4 +8,12 @@ pub fn init_rows_are_exact()
 /// The rows of an edge hold at exactly the steps by it: a law, and no code.
 pub fn edge_rows_are_exact()
     ensures { EdgeRowsAreExact }
+{}
+
+/// A state is reached exactly where a run ends in it, and a run fails exactly where it comes to a state in which a thread is
+/// at location 0: laws, and no code.
+pub fn runs_end_in_reached_states()
+    ensures ends { RunsEndInReachedStates }
+    ensures failing_ends { FailingStatesEndRuns }
+    ensures failing_runs { FailingRunsReach }
 {}

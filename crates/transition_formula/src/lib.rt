@@ -16,7 +16,7 @@ pub use atom_text::push_atom;
 pub use edges::{edge_rows, seen_rows};
 pub use graph::{Column, Edge, Line, ThreadGraph};
 pub use initial::init_rows;
-pub use laws::{edge_rows_are_exact, init_rows_are_exact};
+pub use laws::{edge_rows_are_exact, init_rows_are_exact, runs_end_in_reached_states};
 pub use program::Program;
 pub use reading::read_atom;
 
