@@ -4,7 +4,6 @@ use Rattle.std.specs.List.{slice_get, AllByRecursion, Contains}
 use Rattle.std.proofs.lemmas.Bool.Decides.{eqb_tells}
 use Rattle.thr_base.specs.declared.names.RuleName.{RuleName}
 use Rattle.thr_base.specs.declared.names.RuleName.TheVariants.{Rg, Og}
-use Rattle.lin_rows.proofs.Lists.{AllByRecursion-at}
 use Rattle.transition_formula.specs.Program.{Program, Thread, Edge, IsThreadOf, IsEdgeOf, IsProgram}
 use Rattle.transition_formula.specs.Step.{Steps, IsInitial}
 use Rattle.transition_formula.specs.Run.{Reaches, start, step}
@@ -16,6 +15,7 @@ use Rattle.horn_rules.specs.Case.{Case, IsCaseOf, init_case, own_case, guar_case
 use Rattle.horn_rules.specs.Least.{Least, LeastSays}
 use Rattle.horn_rules.specs.Steps.{Describes}
 use Rattle.horn_rules.specs.Cover.{IsClosed, Covers, HasNoneFailing, NeverFails, NoRunFails, ClosedListsCover, ClosedLeastCovers, CoveredListsDoNotFail, CoveredLeastDoesNotFail, CoveredListsAreSafe, CoveredLeastIsSafe}
+use Rattle.horn_rules.proofs.Lists.{all-contained}
 use Rattle.horn_rules.proofs.GivenAtoms.{statement-is}
 use Rattle.horn_rules.proofs.Described.{stands-at}
 use Rattle.horn_rules.proofs.OwnSteps.{starts-described, own-steps-described, own-steps-told}
@@ -119,9 +119,6 @@ pub closed-covers : (program : Program) (rule : RuleName) (Stands : Statement �
     → IsClosed program rule Stands → Covers program Stands
 closed-covers program rule Stands is are closed state i thread reached at =
     covers program rule Stands (record { program_is = is; are = are; closed = closed }) state reached i thread at
-
-all-contained : {A : Type 0} (P : A → Type 0) (xs : List A) (x : A) → AllByRecursion P xs → Contains xs x → P x
-all-contained P xs x all (k, h, e) = subst P e (AllByRecursion-at P xs k x all h e)
 
 pub closed-lists-cover : ClosedListsCover
 closed-lists-cover program rule statements is are closed =

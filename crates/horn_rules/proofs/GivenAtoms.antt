@@ -15,7 +15,7 @@ use Rattle.horn_rules.specs.Case.{Case, IsCaseOf, init, own, guar, env, inter}
 use Rattle.horn_rules.specs.Post.{EntailsAt, IsGiven}
 use Rattle.horn_rules.specs.Laws.{FactsAreGiven, GivenAtomsHold}
 use Rattle.horn_rules.proofs.Lists.{all-picked}
-use Rattle.horn_rules.proofs.Placed.{IsAtom-widened, IsAtom-moved}
+use Rattle.horn_rules.proofs.WiderAtoms.{IsAtom-widened, IsAtom-moved}
 
 -- what a fact says is made of atoms of its home
 pub statement-is : (program : Program) (sets : Sets) (fact : Fact) → AreSetsOf program sets → IsStatementOf program (statement_of sets fact)

@@ -1,6 +1,6 @@
 pub mod Places
 pub mod Numbers
-pub mod Placed
+pub mod WiderAtoms
 pub mod Lists
 pub mod GivenAtoms
 pub mod Points
@@ -15,3 +15,11 @@ pub mod StoredSets
 pub mod DistinctSets
 pub mod WorkedInstances
 pub mod Covering
+pub mod Derivations
+pub mod Cases
+pub mod ByNumber
+pub mod InstanceLists
+pub mod InstancesExact
+pub mod Order
+pub mod Tables
+pub mod PlacedAtoms

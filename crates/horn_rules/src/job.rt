@@ -4,7 +4,7 @@ ghost use Rattle.transition_formula.specs.Rows.{with_rows};
 ghost use Rattle.horn_rules.specs.Home.{State, Env, homes};
 ghost use Rattle.horn_rules.specs.Job.{ComesTo, IsJob, premise_says};
 ghost use Rattle.horn_rules.specs.Case.{Case};
-ghost use Rattle.horn_rules.specs.inside.JobRows.{IsAtSource, IsAtLocation, IsAtEdge, AreItsPremises, AreStepRows, AreEnvRows, AreInterRows, said_rows};
+ghost use Rattle.horn_rules.specs.inside.JobRows.{IsAtSource, IsAtLocation, IsAtEdge, AreItsPremises, AreStepRows, AreEnvRows, AreInterRows, AreRowsOfKind, said_rows};
 
 use crate::homes::named;
 use crate::premise::{push_held, push_location, push_rows};
@@ -153,12 +153,18 @@ fn env_rows(
     Ok(rows)
 }
 
-/// The rows of an instance: those of its premises in order, and those of its step.
-pub fn instance_rows(alloc: Global, program: &Program, job: &Job<'_>) -> Result<Rows, AllocError>
-    requires { AreItsPremises program.now job.now.instance job.now.first job.now.second }
-    ensures { IfOk result (AreInstanceRows program.now job.now.instance job.now.first job.now.second) }
+/// The rows of an instance with its premises: those of its premises in order, and those of its step.
+fn rows_of_kind(
+    alloc: Global,
+    program: &Program,
+    instance: Instance,
+    first: &Option<Premise>,
+    second: &Option<Premise>,
+) -> Result<Rows, AllocError>
+    requires { AreItsPremises program.now instance first.now second.now }
+    ensures { IfOk result (AreRowsOfKind program.now instance first.now second.now) }
 {
-    match (job.instance, &job.first, &job.second) {
+    match (instance, first, second) {
         (Instance::Init(_), _, _) => init_rows(alloc, program),
         (Instance::Own(_, e), Some(premise), _) => step_rows(alloc, program, premise, e),
         (Instance::Guar(_, e), Some(premise), _) => step_rows(alloc, program, premise, e),
@@ -168,4 +174,12 @@ pub fn instance_rows(alloc: Global, program: &Program, job: &Job<'_>) -> Result<
         }
         _ => unreachable!(),
     }
+}
+
+/// The rows of a job's instance.
+pub fn instance_rows(alloc: Global, program: &Program, job: &Job<'_>) -> Result<Rows, AllocError>
+    requires { IsJob program.now job.now }
+    ensures { IfOk result (λ rows. (given : Case) → ComesTo program.now job.now given → rows ≡ given.system) }
+{
+    rows_of_kind(alloc, program, job.instance, &job.first, &job.second)
 }

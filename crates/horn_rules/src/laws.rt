@@ -2,6 +2,8 @@ ghost use Rattle.horn_rules.specs.Cover.{ClosedListsCover, ClosedLeastCovers, Le
 ghost use Rattle.horn_rules.specs.Laws.{CasesAreUnique, JobsHaveOneCase, AtomsArePlaced, PostsAreUnique, FactsAreGiven, GivenAtomsHold, EachInstanceGivesItsHome, InstancesAreExact, TablesAreUnique};
 ghost use Rattle.horn_rules.specs.Steps.{StartsAreDescribed, OwnStepsAreDescribed, OwnStepsAreTold, ToldStepsAreDescribed, InterferingStepsAreDescribed};
 
+use transition_formula::runs_end_in_reached_states;
+
 /// An instance comes to one case at most, and so does a job: a law, and no code.
 pub fn cases_are_unique()
     ensures instances { CasesAreUnique }
@@ -77,7 +79,9 @@ pub fn where_nothing_fails_no_run_does()
     ensures least { CoveredLeastDoesNotFail }
     ensures safe_lists { CoveredListsAreSafe }
     ensures safe_least { CoveredLeastIsSafe }
-{}
+{
+    runs_end_in_reached_states();
+}
 
 /// The list of instances over facts has exactly those that come to a case, each once: a law, and no code.
 pub fn instances_are_exact()

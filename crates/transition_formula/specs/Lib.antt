@@ -7,4 +7,3 @@ pub mod AtomReading
 pub mod Stored
 pub mod Laws
 pub mod Worked
-pub mod Run
