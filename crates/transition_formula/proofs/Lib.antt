@@ -15,3 +15,6 @@ pub mod ColumnTexts
 pub mod ReadTerms
 pub mod NormalAtoms
 pub mod Runs
+pub mod FittingLists
+pub mod FormValues
+pub mod FormSteps

@@ -1,3 +1,4 @@
+ghost use Rattle.transition_formula.specs.FormLaws.{FormsAreMade, SumsAreExact, MultiplesAreExact, CompositionsAreExact, ValuesAreExact};
 ghost use Rattle.transition_formula.specs.Laws.{InitRowsAreExact, EdgeRowsAreExact, RunsEndInReachedStates, FailingStatesEndRuns, FailingRunsReach};
 
 /// The rows of the initial states hold at exactly these: a law, and no code.
@@ -16,4 +17,14 @@ pub fn runs_end_in_reached_states()
     ensures ends { RunsEndInReachedStates }
     ensures failing_ends { FailingStatesEndRuns }
     ensures failing_runs { FailingRunsReach }
+{}
+
+/// Forms that are made of others, where they are given, are worth what they say over unbounded integers: laws, and no
+/// code.
+pub fn forms_are_exact()
+    ensures made { FormsAreMade }
+    ensures sums { SumsAreExact }
+    ensures multiples { MultiplesAreExact }
+    ensures compositions { CompositionsAreExact }
+    ensures values { ValuesAreExact }
 {}
