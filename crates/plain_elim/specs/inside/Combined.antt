@@ -1,4 +1,4 @@
--- How a combination of two lists is made: number by number, as long as each product and sum fits. No public clause cites this file.
+-- How a combination of two lists is made: number by number, as long as each product and sum fits.
 use Rattle.std.specs.Prelude.{ℤ, pos, ◌+ℤ◌, ◌*ℤ◌, List, [], ◌∷◌, Option, Some}
 use Rattle.std.specs.Option.{option_map, option_and_then}
 use Rattle.std.specs.Global.{Vec}

@@ -1,4 +1,4 @@
--- The numbers of a point and of its fractions, and the single steps in which bounds are found. No public clause cites this file.
+-- The numbers of a point and of its fractions, and the single steps in which bounds are found.
 use Rattle.std.specs.Prelude.{◌<ℤ◌, ℕ, ℤ, pos, ◌-ℤ◌, ◌*ℤ◌, int_lt, List, cond, ◌&&◌, Option, Some, None}
 use Rattle.std.specs.Option.{option_and_then}
 use Rattle.std.specs.List.{AllByRecursion}

@@ -1,4 +1,4 @@
--- What is known of the parts of a line. No public clause cites this file.
+-- What is known of the parts of a line.
 use Rattle.std.specs.Prelude.{◌≡◌, ℕ, ℤ, List}
 use Rattle.std.specs.List.{AllByRecursion, position_or_len}
 use Rattle.thr_base.specs.Number.{Fits}

@@ -1,15 +1,16 @@
 use Rattle.std.proofs.Common.{map, sym, ◌∙◌, ap}
 use Rattle.std.proofs.lemmas.List.{length-reverse, length-map}
 use Rattle.farkas_cert.specs.Elimination as specs
-use Rattle.plain_elim.specs.Held.{kept_of, work_of, next_of}
-use Rattle.plain_elim.proofs.Stages.{has_widths, begun-keeps, outcome-begun, evidence, IfOk-evidence}
-use Rattle.plain_elim.proofs.elimination.decide.Goals as goal
+use Rattle.plain_elim.specs.inside.Held.{kept_of, work_of, next_of}
+use Rattle.farkas_cert.proofs.NamedRowsLemmas.{HasWidths-named}
+use Rattle.plain_elim.proofs.Stages.{begun-keeps, outcome-begun, evidence, IfOk-evidence}
+use Rattle.plain_elim.proofs.elimination.decide_named.Goals as goal
 
 pub stages-requires-clause-widths : goal.stages-requires-clause-widths
-stages-requires-clause-widths c = has_widths c.args.rows.now c.columns-columns.ensures.well_formed
+stages-requires-clause-widths c = HasWidths-named c.args.rows.now c.columns-columns.ensures.named
 
 pub refuted-requires-clause-widths : goal.refuted-requires-clause-widths
-refuted-requires-clause-widths c = has_widths c.args.rows.now c.columns-columns.ensures.well_formed
+refuted-requires-clause-widths c = HasWidths-named c.args.rows.now c.columns-columns.ensures.named
 
 pub stages-requires-clause-fresh : goal.stages-requires-clause-fresh
 stages-requires-clause-fresh c =
@@ -31,10 +32,10 @@ refuted-requires-clause-leads c =
     ∙ ap (λ next. specs.or_ends (specs.stages rows.columns rows) (next_of rows next)) c.in-Refutes.is
 
 pub returns-in-Goes-clause-evidence : goal.returns-in-Goes-clause-evidence
-returns-in-Goes-clause-evidence c = IfOk-evidence c.args.rows.now c.stages.result (has_widths c.args.rows.now c.columns-columns.ensures.well_formed) c.stages.ensures
+returns-in-Goes-clause-evidence c = IfOk-evidence c.args.rows.now c.stages.result (HasWidths-named c.args.rows.now c.columns-columns.ensures.named) c.stages.ensures
 
 pub returns-in-Refutes-clause-evidence : goal.returns-in-Refutes-clause-evidence
-returns-in-Refutes-clause-evidence c = evidence c.args.rows.now c.refuted.result (has_widths c.args.rows.now c.columns-columns.ensures.well_formed) c.refuted.ensures
+returns-in-Refutes-clause-evidence c = evidence c.args.rows.now c.refuted.result (HasWidths-named c.args.rows.now c.columns-columns.ensures.named) c.refuted.ensures
 
 pub returns-in-Leaves-clause-outcome : goal.returns-in-Leaves-clause-outcome
 returns-in-Leaves-clause-outcome c =

@@ -1,16 +1,21 @@
--- How the check of a certificate goes: column by column, since that takes no memory. No public clause cites this file.
+-- How the check of a certificate goes: column by column, since that takes no memory.
 use Rattle.std.specs.Prelude.{◌≡◌, ℕ, ℤ, pos, ◌+ℤ◌, List, [], ◌∷◌, ◌&&◌, Option, Some, None, Result, Ok, Err, length, slice_index_or, nat_lt, if◌then◌else◌}
 use Rattle.std.specs.Option.{option_map_or}
-use Rattle.std.specs.List.{AllByRecursion}
 use Rattle.thr_base.specs.Number.{fits}
 use Rattle.lin_rows.specs.Row.{Row}
 use Rattle.lin_rows.specs.System.{System}
+use Rattle.lin_rows.specs.Atom.{IsAtom}
 use Rattle.farkas_cert.specs.Proof.{numbers_of, denying}
 
 -- the system, with an atom's negation as its last row where there is one
 abbrev pub perhaps_denying : System → Option Row → System
 perhaps_denying system None = system
 perhaps_denying system (Some atom) = denying system atom
+
+-- It is an atom, with one coefficient per column of the system.
+pub record CanBeDenied (system : System) (atom : Row) : Type 0 where
+  pub is_atom : IsAtom atom
+  pub width : length atom.coefficients ≡ system.columns
 
 -- a number of a row, the bound as the last
 abbrev pub number_at : Option Row → ℕ → ℤ

@@ -1,4 +1,4 @@
--- What the program holds while it eliminates. No public clause cites this file.
+-- What the program holds while it eliminates.
 use Rattle.std.specs.Prelude.{◌≡◌, ℕ, suc, ◌+◌, ◌<◌, true, length, map, reverse, if◌then◌else◌, is_none, ⊤}
 use Rattle.std.specs.List.{AllByRecursion}
 use Rattle.lin_rows.specs.System.{System}

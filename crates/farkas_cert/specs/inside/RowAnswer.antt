@@ -1,4 +1,4 @@
--- What the check of a point finds of one row. No public clause cites this file.
+-- What the check of a point finds of one row.
 use Rattle.std.specs.Prelude.{◌≡◌, ℤ, List, Some}
 use Rattle.lin_rows.specs.Row.{Row}
 use Rattle.farkas_cert.specs.Point as point

@@ -1,7 +1,7 @@
--- How the columns are weighed one after another. No public clause cites this file.
+-- How the columns are weighed one after another.
 use Rattle.std.specs.Prelude.{ℕ, zero, suc, ℤ, pos, List, Bool, true, false, ◌&&◌, Option, Some, None, Result, Ok, Err, int_lt}
 use Rattle.std.specs.Ordering.{int_eq}
-use Rattle.farkas_cert.specs.Columns.{column_from, earlier}
+use Rattle.farkas_cert.specs.inside.Columns.{column_from, earlier}
 use Rattle.farkas_cert.specs.declared.columns.Weighed.{Weighed}
 use Rattle.farkas_cert.specs.declared.answers.CertAnswer.{CertAnswer}
 use Rattle.farkas_cert.specs.declared.answers.CertAnswer.TheVariants.{Proves, Fails, Overflow}

@@ -1,4 +1,4 @@
--- How a stage goes in the program. No public clause cites this file.
+-- How a stage goes in the program.
 use Rattle.std.specs.Prelude.{◌≡◌, ℕ, suc, ◌+◌, ◌*◌, List, [], length, map, flat_map, reverse, find, if◌then◌else◌, Option, Some, None, ⊤}
 use Rattle.std.specs.List.{AllByRecursion}
 use Rattle.std.specs.Option.{option_map}
@@ -8,7 +8,7 @@ use Rattle.farkas_cert.specs.Cert.{Pairs}
 use Rattle.farkas_cert.specs.Line.{Line, is_false, refuting, listed}
 use Rattle.farkas_cert.specs.Elimination.{Work, Next, Goes, Ends, every, paired, negatives, are_too_many}
 use Rattle.plain_elim.specs.declared.kept.Kept.{Kept as HeldKept}
-use Rattle.plain_elim.specs.Held.{kept_of, BoundsItsColumn}
+use Rattle.plain_elim.specs.inside.Held.{kept_of, BoundsItsColumn}
 
 -- The line has as many numbers as a line of the system.
 pub record IsWide (system : System) (line : Line) : Type 0 where
