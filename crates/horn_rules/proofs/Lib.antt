@@ -12,7 +12,6 @@ pub mod Posts
 pub mod Premises
 pub mod Jobs
 pub mod StoredSets
-pub mod DistinctSets
 pub mod WorkedInstances
 pub mod Covering
 pub mod Derivations

@@ -1,9 +1,9 @@
 -- The numbers of homes.
-use Rattle.std.proofs.Common.{◌≡◌, ℕ, suc, ◌+◌, ◌-◌, ◌<◌, ◌≤◌, List, length, map, Option, Some, None, refl, sym, ap, ◌∙◌, arith, inl, inr}
+use Rattle.std.proofs.Common.{◌≡◌, ℕ, zero, suc, ◌+◌, ◌-◌, ◌<◌, ◌≤◌, List, [], ◌∷◌, length, map, Option, Some, None, refl, sym, ap, ◌∙◌, arith, inl, inr}
 use Rattle.std.specs.List.{slice_get, range_with_len}
-use Rattle.std.specs.Prelude.{option_map}
+use Rattle.std.specs.Prelude.{option_map, IsSome}
 use Rattle.std.proofs.lemmas.Bool.Decides.{leb_tells}
-use Rattle.std.proofs.lemmas.Option.{slice_get-map, slice_get-get_or}
+use Rattle.std.proofs.lemmas.Option.{slice_get-map, slice_get-get_or, slice_get_within, get_or_from_slice_get}
 use Rattle.std.proofs.lemmas.List.{length-map}
 use Rattle.std.proofs.lemmas.List.FromFn.{length-map-range_with_len}
 use Rattle.transition_formula.specs.Program.{Program, Thread, IsThreadOf, IsProgram, numbered}
@@ -138,3 +138,18 @@ env_home-place program i e is = elim (found program (Env i e) is) [
   | among_states at ↦ absurd (no-env (1 + at.k) i e _ (sym (slice_get-map (State (1 + at.k)) (range_with_len 0 at.thread.locations) at.place) ∙ at.home_is))
   | among_edges at ↦ env-place program i e at
 ]
+
+-- ---- any number up to the length names something
+
+there : {A : Type 0} (xs : List A) (k : ℕ) → k < length xs → IsSome (numbered xs (suc k))
+there [] k h = absurd (omega arith)
+there (x ∷ xs) zero h = refl
+there (x ∷ xs) (suc k) h = there xs k (omega arith)
+
+pub numbered-there : {A : Type 0} (xs : List A) (n : ℕ) → 0 < n → n ≤ length xs → IsSome (numbered xs n)
+numbered-there xs zero h k = absurd (omega arith)
+numbered-there xs (suc n) h k = there xs n (omega arith)
+
+pub home-numbered : (program : Program) (n : ℕ) (home : Home) → numbered (homes program) n ≡ Some home → IsHomeOf program home
+home-numbered program zero home e = cc
+home-numbered program (suc k) home e = (k, slice_get_within (homes program) k home e, get_or_from_slice_get (homes program) k home home e)

@@ -5,10 +5,10 @@ use Rattle.std.proofs.lemmas.List.Elements.{filter-append, filter_map-append}
 use Rattle.std.specs.Prelude.{slice_get, cond, filter_map}
 use Rattle.std.specs.List.{range_with_len, cons_option}
 use Rattle.lin_rows.specs.Row.{Row}
-use Rattle.lin_rows.specs.System.{System, with_row}
-use Rattle.std.specs.Prelude.{IsSome}
+use Rattle.lin_rows.specs.System.{System, with_row, with_rows}
+use Rattle.std.specs.Prelude.{option_map}
 use Rattle.transition_formula.specs.Program.{Program, Thread, Edge, IsProgram, IsThreadOf, IsEdgeOf, numbered}
-use Rattle.transition_formula.specs.Rows.{column_is, edge_rows, edge_system, seen_system, kept_columns, kept_row, is_kept, test_row, set_row, with_rows}
+use Rattle.transition_formula.specs.Rows.{column_is, edge_rows, edge_system, seen_system, kept_columns, kept_row, is_kept, test_row, set_row}
 use Rattle.transition_formula.proofs.Programs.{edge-is, sets-within, few_sets}
 use Rattle.std.proofs.lemmas.List.FromFn.{length-range_with_len}
 use Rattle.std.proofs.lemmas.List.Sums.{length-filter, count_by-le-length}
@@ -21,7 +21,6 @@ use Rattle.horn_rules.specs.Fact.{Statement, IsSetOf, IsAtomOf, atoms_at}
 use Rattle.horn_rules.specs.Case.{widened, state_rows, env_rows, with_edge, behind}
 use Rattle.horn_rules.specs.Job.{premise_says}
 use Rattle.horn_rules.specs.inside.JobRows.{said_rows}
-use Rattle.transition_formula.proofs.Lookups.{take-slice_get}
 
 -- ---- atoms that are held
 
@@ -74,33 +73,13 @@ pub held-room : (w : Row → Row) (g : ℕ → Option Row) (p : ℕ → Bool) (d
     → length done + 1 ≤ n + k → length more + 1 ≤ n + (k + 1)
 held-room w g p done more k n is room = omega (arith, ap length is, length-append done (map w (filter_map g (filter p (k ∷ [])))), one_held w g (p k) k)
 
--- ---- rows that are copied
-
-pub row-next : (initial now more : System) (rows : List Row) (k : ℕ) (row : Row) → slice_get rows k ≡ Some row → now ≡ with_rows initial (take k rows)
-    → more ≡ with_row now row → more ≡ with_rows initial (take (k + 1) rows)
-row-next initial now more rows k row at made is =
-    is ∙ ap (λ system. with_row system row) made
-    ∙ ap (λ l. record { columns = initial.columns; rows = l }) (append_assoc initial.rows (take k rows) (row ∷ []) ∙ ap (λ l. initial.rows ++ l) (sym (take-slice_get rows k row at)))
-
 -- ---- counters
 
-pub counter-is : (program : Program) (i : ℕ) (thread : Thread) (n t : ℕ) → IsProgram program → IsThreadOf program i thread → n ≡ length program.columns → t ≡ length program.threads
-    → n - t + i - 1 ≡ thread.counter
-counter-is program i thread n t is at columns threads = omega (arith, (is.threads_are i thread at).in_order, is.has_counters)
-
-there-within : {A : Type 0} (xs : List A) (k : ℕ) → IsSome (slice_get xs k) → k < length xs
-there-within [] zero there = cc
-there-within [] (suc k) there = cc
-there-within (x ∷ xs) zero there = omega arith
-there-within (x ∷ xs) (suc k) there = omega (arith, there-within xs k there)
-
-named-within : {A : Type 0} (xs : List A) (i : ℕ) → IsSome (numbered xs i) → (0 < i) × (i ≤ length xs)
-named-within xs zero there = cc
-named-within xs (suc k) there = let h = there-within xs k there in (omega arith, omega arith)
-
-pub counter-below : (program : Program) (i n t : ℕ) → IsProgram program → IsSome (numbered program.threads i) → n ≡ length program.columns → t ≡ length program.threads
-    → n - t + i - 1 < length program.columns
-counter-below program i n t is there columns threads = let h = named-within program.threads i there in omega (arith, is.has_counters)
+pub counter-is : (program : Program) (i : ℕ) (thread : Thread) (column : ℕ) → option_map (λ (found : Thread). found.counter) (numbered program.threads i) ≡ Some column → IsThreadOf program i thread
+    → column ≡ thread.counter
+counter-is program i thread column e at =
+    let here : Some thread.counter ≡ Some column = sym (ap (option_map (λ (found : Thread). found.counter)) at) ∙ e in
+    cc
 
 pub length-with_row : (now more : System) (row : Row) → more ≡ with_row now row → length more.rows ≡ length now.rows + 1
 length-with_row now more row is = ap (λ system. length system.rows) is ∙ length-append now.rows (row ∷ [])

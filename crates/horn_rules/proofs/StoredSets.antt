@@ -195,7 +195,7 @@ listed-at (other ∷ others) (list ∷ lists) home = elim (same_home-tells other
 ]
 
 empty-set : (program : Program) (home : Home) → IsSetOf program home []
-empty-set program home = record { are_atoms = tt; none_twice = λ i j d below within e. absurd (omega arith) }
+empty-set program home = record { are_atoms = tt; none_twice = tt }
 
 pub stored-sets-are : (program : Program) (lists : List (List Row)) → AreStoredSetsOf program lists → AreSetsOf program (sets_of program lists)
 stored-sets-are program lists are home = elim (listed-at (homes program) lists home) [

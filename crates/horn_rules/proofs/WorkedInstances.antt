@@ -7,7 +7,7 @@ use Rattle.horn_rules.specs.Fact.{Statement}
 use Rattle.horn_rules.specs.Instance.{Instance, Init, Own, Guar, Env as Environment, Inter}
 use Rattle.horn_rules.specs.Case.{Case, env, env_case, IsCaseOf}
 use Rattle.horn_rules.specs.Instances.{instances_over}
-use Rattle.horn_rules.specs.Worked.{worked_program, first_thread, second_thread, bare_edge}
+use Rattle.horn_rules.specs.inside.Worked.{worked_program, first_thread, second_thread, bare_edge}
 
 abbrev bare : ℕ → ℕ → Statement
 bare i l = record { home = State i l; atoms = [] }

@@ -1,8 +1,9 @@
 -- Predicates, facts, and what facts say. Positions count from 1.
-use Rattle.std.specs.Prelude.{◌≡◌, ◌≢◌, ℕ, List, length, filter_map, AllPairs}
+use Rattle.std.specs.Prelude.{◌≡◌, ℕ, List, length, filter_map}
 use Rattle.std.specs.List.{AllByRecursion}
 use Rattle.lin_rows.specs.Row.{Row}
 use Rattle.lin_rows.specs.Atom.{IsAtom}
+use Rattle.predicate_sets.specs.HomeSet.{AreDistinct}
 use Rattle.transition_formula.specs.Program.{Program, numbered}
 use Rattle.horn_rules.specs.Home.{Home, home_width}
 
@@ -18,7 +19,7 @@ pub record IsAtomOf (program : Program) (home : Home) (atom : Row) : Type 0 wher
 -- The predicates of a home: atoms of it, none of them twice.
 pub record IsSetOf (program : Program) (home : Home) (atoms : List Row) : Type 0 where
   pub are_atoms : AllByRecursion (IsAtomOf program home) atoms
-  pub none_twice : AllPairs (λ a b. a ≢ b) atoms
+  pub none_twice : AreDistinct atoms
 
 -- Each home has predicates of it.
 abbrev pub AreSetsOf : Program → Sets → Type 0

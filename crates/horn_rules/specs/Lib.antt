@@ -13,5 +13,4 @@ pub mod Steps
 pub mod Cover
 pub mod Table
 pub mod Laws
-pub mod Worked
 pub mod inside

@@ -1,13 +1,13 @@
 ghost use Rattle.std.specs.Prelude.{◌≡◌, ℕ, ◌+◌, ◌^◌, ◌<◌, ◌≤◌, Some, length, IfOk, OnOk};
 ghost use Rattle.transition_formula.specs.Program.{Thread, IsProgram, IsThreadOf, numbered};
-ghost use Rattle.transition_formula.specs.Rows.{with_rows};
+ghost use Rattle.lin_rows.specs.System.{with_rows};
 ghost use Rattle.horn_rules.specs.Home.{State, Env, homes};
 ghost use Rattle.horn_rules.specs.Job.{ComesTo, IsJob, premise_says};
 ghost use Rattle.horn_rules.specs.Case.{Case};
 ghost use Rattle.horn_rules.specs.inside.JobRows.{IsAtSource, IsAtLocation, IsAtEdge, AreItsPremises, AreStepRows, AreEnvRows, AreInterRows, AreRowsOfKind, said_rows};
 
 use crate::homes::named;
-use crate::premise::{push_held, push_location, push_rows};
+use crate::premise::{push_held, push_location};
 use lin_rows::Rows;
 use predicate_sets::HomeSet;
 use std::alloc::{AllocError, Global};
@@ -99,7 +99,7 @@ fn step_rows(
     let mut rows = Rows::new(alloc, edge.view().columns());
     let mut row = Vec::new(alloc);
     push_state(&mut rows, &mut row, program, premise)?;
-    push_rows(&mut rows, &edge.view())?;
+    rows.push_rows(&edge.view())?;
     Ok(rows)
 }
 
@@ -121,7 +121,7 @@ fn inter_rows(
     let mut row = Vec::new(alloc);
     push_state(&mut rows, &mut row, program, first)?;
     push_state(&mut rows, &mut row, program, second)?;
-    push_rows(&mut rows, &edge.view())?;
+    rows.push_rows(&edge.view())?;
     Ok(rows)
 }
 
@@ -142,7 +142,7 @@ fn env_rows(
     let mut rows = Rows::new(alloc, columns);
     let mut row = Vec::new(alloc);
     push_state(&mut rows, &mut row, program, first)?;
-    push_rows(&mut rows, &seen.view())?;
+    rows.push_rows(&seen.view())?;
     push_held(
         &mut rows,
         &mut row,
@@ -154,7 +154,7 @@ fn env_rows(
 }
 
 /// The rows of an instance with its premises: those of its premises in order, and those of its step.
-fn rows_of_kind(
+pub(crate) fn rows_of_kind(
     alloc: Global,
     program: &Program,
     instance: Instance,

@@ -1,5 +1,5 @@
 use Rattle.std.proofs.Common.{sym, ◌∙◌, ap, Some, [], arith, length}
-use Rattle.transition_formula.specs.Rows.{with_rows}
+use Rattle.lin_rows.specs.System.{with_rows}
 use Rattle.thr_base.specs.Held.{positions}
 use Rattle.horn_rules.specs.Fact.{atoms_at}
 use Rattle.horn_rules.specs.Job.{premise_says}
@@ -31,7 +31,7 @@ push_held-requires-clause-room c =
     let r = c.requires.second in
     let at = same_seen c.args.program.now _ _ _ _ r.thread r.edge (sym c.edge_of.ensures ∙ r.premise_is.home_is) r.edge_is in
     let few = few_seen c.args.program.now r.thread r.edge _ c.in_ok-push_state.ensures.program (c.in_ok-seen.ensures r.thread r.edge at) in
-    few_after _ _ _ _ _ _ few c.view-2.ensures c.in_ok-push_state.ensures.few c.new-rows.ensures c.in_ok-push_rows.ensures
+    few_after _ _ _ _ _ _ few c.view-2.ensures c.in_ok-push_state.ensures.few c.new-rows.ensures c.in_ok-push_rows.ensures.ok
 
 pub returns : goal.returns
 returns c k l i e other thread edge other_is at home_f home_t =
@@ -41,6 +41,6 @@ returns c k l i e other thread edge other_is at home_f home_t =
     env_is program (premise_says program c.args.first.now) (premise_says program c.args.second.now) l _ other thread edge _ _ _ _ _ _ (c.in_ok-seen.ensures thread edge here)
     (c.new-rows.ensures ∙ ap (λ w. record { columns = w; rows = [] }) width) width
     (c.in_ok-push_state.ensures.rows k l other home_f other_is)
-    (c.in_ok-push_rows.ensures ∙ ap (λ system. with_rows c.push_state.new.rows system.rows) c.view-2.ensures)
+    (c.in_ok-push_rows.ensures.ok ∙ ap (λ system. with_rows c.push_state.new.rows system.rows) c.view-2.ensures)
     (ap (λ set. atoms_at set (positions c.args.second.now.fact.held)) (c.atoms.ensures.atoms ∙ c.deref.ensures))
     c.in_ok-push_held.ensures.rows

@@ -1,5 +1,5 @@
 use Rattle.std.proofs.Common.{sym, ◌∙◌, ap, Some, [], arith}
-use Rattle.transition_formula.specs.Rows.{with_rows}
+use Rattle.lin_rows.specs.System.{with_rows}
 use Rattle.horn_rules.specs.Job.{premise_says}
 use Rattle.horn_rules.proofs.Premises.{same_edge, wide, room, inter_is}
 use Rattle.horn_rules.proofs.job.inter_rows.Goals as goal
@@ -31,4 +31,4 @@ returns c k l i other thread edge other_is at home_f home_g =
     (c.new-rows.ensures ∙ ap (λ w. record { columns = w; rows = [] }) (c.columns.ensures.columns ∙ ap (λ system. system.columns) c.view.ensures))
     (c.in_ok-push_state.ensures.rows k l other home_f other_is)
     (c.in_ok-push_state-2.ensures.rows i edge.from thread home_g at.thread_is)
-    (c.in_ok-push_rows.ensures ∙ ap (λ system. with_rows c.push_state-2.new.rows system.rows) c.view-2.ensures)
+    (c.in_ok-push_rows.ensures.ok ∙ ap (λ system. with_rows c.push_state-2.new.rows system.rows) c.view-2.ensures)

@@ -1,5 +1,5 @@
 use Rattle.std.proofs.Common.{sym, ◌∙◌, ap, Some, [], arith}
-use Rattle.transition_formula.specs.Rows.{with_rows}
+use Rattle.lin_rows.specs.System.{with_rows}
 use Rattle.horn_rules.specs.Job.{premise_says}
 use Rattle.horn_rules.proofs.Premises.{same_edge, wide, room, step_is}
 use Rattle.horn_rules.proofs.job.step_rows.Goals as goal
@@ -23,4 +23,4 @@ returns c i thread edge at home =
     step_is program (premise_says program c.args.premise.now) thread edge _ _ _ _ (c.in_ok-edge.ensures thread edge here)
     (c.new-rows.ensures ∙ ap (λ w. record { columns = w; rows = [] }) (c.columns.ensures.columns ∙ ap (λ system. system.columns) c.view.ensures))
     (c.in_ok-push_state.ensures.rows i edge.from thread home at.thread_is)
-    (c.in_ok-push_rows.ensures ∙ ap (λ system. with_rows c.push_state.new.rows system.rows) c.view-2.ensures)
+    (c.in_ok-push_rows.ensures.ok ∙ ap (λ system. with_rows c.push_state.new.rows system.rows) c.view-2.ensures)
