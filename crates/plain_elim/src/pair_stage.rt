@@ -14,9 +14,7 @@ use crate::pairing::with_all_pairs;
 use crate::work::{Next, Work};
 use farkas_cert::{LeaveKind, NamedRows};
 use std::alloc::{AllocError, Global};
-
-/// So many rows may be given and made by pairs.
-const ROW_LIMIT: u64 = 8192;
+use thr_base::MOST_ELIMINATION_ROWS;
 
 /// The lowest column of all lines.
 #[tactic(auto, unfolding(farkas_cert::specs::Line::lowest_of))]
@@ -55,7 +53,11 @@ fn made_with(rows: &NamedRows<'_>, made: u64, positives: usize, negatives: usize
     let pairs = positives.checked_mul(negatives)?;
     let made = made.checked_add(pairs as u64)?;
     let all = made.checked_add(u64::from(rows.count()))?;
-    if all <= ROW_LIMIT { Some(made) } else { None }
+    if all <= u64::from(MOST_ELIMINATION_ROWS) {
+        Some(made)
+    } else {
+        None
+    }
 }
 
 /// The lines with a column, and those without it.
