@@ -110,7 +110,7 @@ once-by_number give tag n [] tells once = tt
 once-by_number give tag n (x ∷ xs) tells once =
     once-append (give n x) (by_number give (suc n) xs) (once n x) (once-by_number give tag (suc n) xs tells once)
     (λ y here behind.
-        let found = by_number-from give (suc n) xs y behind in
-        let one = tells n x y here in
-        let other = tells (suc n + found.k) found.x y found.gives in
-        omega arith)
+    let found = by_number-from give (suc n) xs y behind in
+    let one = tells n x y here in
+    let other = tells (suc n + found.k) found.x y found.gives in
+    omega arith)

@@ -59,9 +59,12 @@ told-covered program Stands k i e other thread edge f g before inputs after is a
     let l = told_f.l in
     let point = env-point program k l i e other thread edge f t before inputs after is.program_is (is.are f stands_f) there at told_f.stands one steps told_f tells.hold in
     let case = env k l i e other thread edge f t apart there at told_f.stands gives_t.at_target in
-    let (given, stands, gives) = is.closed (Environment f t) (env_case program k l other thread edge f t) (before ++ (after ++ [])) tt case (stands_f, (stands_t, tt)) point in
-    (given, stands, told-steps-described program k l i e other thread edge f t given before inputs after is.program_is apart there at told_f.stands
-    (is.are f stands_f) (is.are t stands_t) (is.are given stands) one told_f tells gives)
+    let (given, stands, gives) = is.closed (Environment f t) (env_case program k l other thread edge f t) (before ++ (after ++ [])) tt case (stands_f, (stands_t, tt)) point in (
+      given,
+      stands,
+      told-steps-described program k l i e other thread edge f t given before inputs after is.program_is apart there at told_f.stands
+          (is.are f stands_f) (is.are t stands_t) (is.are given stands) one told_f tells gives,
+    )
 
 -- the same by interference
 inter-covered : (program : Program) (Stands : Statement → Type 0) (k i e : ℕ) (other thread : Thread) (edge : Edge) (f g : Statement) (before inputs after : List ℤ)
@@ -72,9 +75,12 @@ inter-covered program Stands k i e other thread edge f g before inputs after is 
     let l = told_f.l in
     let point = inter-point program k l i e other thread edge f g before inputs after is.program_is (is.are f stands_f) (is.are g stands_g) there at told_f.stands home_g one steps told_f told_g in
     let case = inter k l i e other thread edge f g apart there at told_f.stands home_g in
-    let (given, stands, gives) = is.closed (Inter f g e) (inter_case program k l other thread edge f g) (before ++ (after ++ inputs)) tt case (stands_f, (stands_g, tt)) point in
-    (given, stands, interfering-steps-described program k l i e other thread edge f g given before inputs after is.program_is apart there at told_f.stands
-    (is.are f stands_f) (is.are g stands_g) (is.are given stands) one steps told_f told_g gives)
+    let (given, stands, gives) = is.closed (Inter f g e) (inter_case program k l other thread edge f g) (before ++ (after ++ inputs)) tt case (stands_f, (stands_g, tt)) point in (
+      given,
+      stands,
+      interfering-steps-described program k l i e other thread edge f g given before inputs after is.program_is apart there at told_f.stands
+          (is.are f stands_f) (is.are g stands_g) (is.are given stands) one steps told_f told_g gives,
+    )
 
 other-covered : (program : Program) (rule : RuleName) (Stands : Statement → Type 0) (k i e : ℕ) (other thread : Thread) (edge : Edge) (f g : Statement) (before inputs after : List ℤ)
     → IsRuled program rule Stands → k ≢ i → IsThreadOf program k other → IsEdgeOf program i e thread edge → length before ≡ length program.columns

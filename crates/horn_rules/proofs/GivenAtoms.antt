@@ -21,7 +21,7 @@ use Rattle.horn_rules.proofs.WiderAtoms.{IsAtom-widened, IsAtom-moved}
 pub statement-is : (program : Program) (sets : Sets) (fact : Fact) → AreSetsOf program sets → IsStatementOf program (statement_of sets fact)
 statement-is program sets fact are = record {
   are_atoms = all-picked (IsAtomOf program fact.home) (sets fact.home) fact.held (λ k there atom at.
-  AllByRecursion-numbered (IsAtomOf program fact.home) (sets fact.home) k atom (are fact.home).are_atoms at);
+      AllByRecursion-numbered (IsAtomOf program fact.home) (sets fact.home) k atom (are fact.home).are_atoms at);
 }
 
 -- a placed atom is an atom
@@ -55,5 +55,5 @@ pub facts-given : FactsAreGiven
 facts-given sets given fact is = record {
   at_target = is.at_target;
   entailed = all-picked (λ atom. Entails given.system (given.place atom)) (sets fact.home) fact.held
-  (λ k there atom here. at-position sets given fact.home k atom is.at_target ((is.entailed.exact k).0 there) here);
+      (λ k there atom here. at-position sets given fact.home k atom is.at_target ((is.entailed.exact k).0 there) here);
 }

@@ -22,9 +22,9 @@ pub use laws::{
     the_least_set_is_closed, told_steps_are_described, where_nothing_fails_no_run_does,
     without_predicates_each_instance_gives_its_home,
 };
+pub use lines::{push_fact, table};
 pub use placing::{in_front, placed};
 pub use posted::{PostAnswer, Posted};
-pub use lines::{push_fact, table};
 
 #[cfg(test)]
 mod tests;
