@@ -141,6 +141,9 @@ apart-is (State k l) (State i m) e = record { k = k; l = l; i = i; m = m; apart 
 apart-is (State k l) (Env i g) e = cc
 apart-is (Env k l) other e = cc
 
+other-number : (k i j : ℕ) → k ≢ i → i ≡ j → k ≢ j
+other-number k i j apart same is = apart (is ∙ sym same)
+
 same-number : (home : Home) (i m j n : ℕ) → home ≡ State i m → home ≡ State j n → i ≡ j
 same-number home i m j n one other = let both : State i m ≡ State j n = sym one ∙ other in cc
 
@@ -232,7 +235,7 @@ from-inter program facts y homes there =
       given = inter_case program are.k are.l place.thread leads.thread leads.edge one.x two.x;
       has_kind = tt;
       resolved = ap₂ (λ a b. Inter a b e) one.x_is two.x_is;
-      is_case = inter are.k are.l leads.i e place.thread leads.thread leads.edge one.x two.x (λ k_is. are.apart (k_is ∙ sym number)) place.thread_is leads.edge_is are.home_is leads.home_is;
+      is_case = inter are.k are.l leads.i e place.thread leads.thread leads.edge one.x two.x (other-number are.k are.i leads.i are.apart number) place.thread_is leads.edge_is are.home_is leads.home_is;
     })
 
 -- ---- and to the list: what the numbers are
