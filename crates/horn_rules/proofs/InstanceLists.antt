@@ -1,10 +1,9 @@
 -- The list of instances over facts has exactly those that come to a case, each once.
-use Rattle.std.proofs.Common.{◌≡◌, ◌≢◌, ◌⊎◌, ℕ, zero, suc, ◌-◌, ◌<◌, Bool, true, false, List, [], ◌∷◌, ◌++◌, map, length, Option, Some, None, refl, sym, ap, ap₂, subst, ◌∙◌, inl, inr, arith}
+use Rattle.std.proofs.Common.{◌≡◌, ◌≢◌, ℕ, zero, suc, Bool, true, false, List, [], ◌∷◌, map, length, Option, Some, None, refl, sym, ap, ap₂, subst, ◌∙◌, inl, inr, arith}
 use Rattle.std.specs.Prelude.{◌==◌, not, if◌then◌else◌}
 use Rattle.std.specs.List.{AllByRecursion, Contains}
 use Rattle.std.proofs.lemmas.Bool.Decides.{eqb_tells}
 use Rattle.std.proofs.lemmas.List.FromFn.{length-map-range_with_len}
-use Rattle.std.proofs.lemmas.List.Elements.{Contains-append_left, Contains-append_right}
 use Rattle.thr_base.specs.declared.names.RuleName.{RuleName}
 use Rattle.thr_base.specs.declared.names.RuleName.TheVariants.{Rg, Og}
 use Rattle.transition_formula.specs.Program.{Program, Thread, Edge, IsThreadOf, IsEdgeOf, numbered}
@@ -12,12 +11,11 @@ use Rattle.transition_formula.proofs.Lookups.{AllByRecursion-numbered}
 use Rattle.horn_rules.specs.Home.{Home, State, Env, IsHomeOf, by_number}
 use Rattle.horn_rules.specs.Fact.{Statement}
 use Rattle.horn_rules.specs.Instance.{Instance, Init, Own, Guar, Env as Environment, Inter, HasKind, map_instance}
-use Rattle.horn_rules.specs.Case.{Case, IsCaseOf, init, own, guar, env, inter, init_case, own_case, guar_case, env_case, inter_case}
-use Rattle.horn_rules.specs.Instances.{edges_of, number_from, edges_from, tells_another, of_another, env_instance, inter_instances, init_instances, own_instances, guar_instances, env_instances, all_inter_instances, instances_over, IsResolved}
-use Rattle.horn_rules.specs.Laws.{IsInstanceOver, AreInstancesOver, InstancesAreExact}
-use Rattle.horn_rules.specs.inside.Kinds.{HasPlace}
+use Rattle.horn_rules.specs.Case.{init, own, guar, env, inter, init_case, own_case, guar_case, env_case, inter_case}
+use Rattle.horn_rules.specs.Instances.{edges_of, number_from, edges_from, tells_another, of_another, env_instance, inter_instances, init_instances, own_instances, guar_instances, env_instances, all_inter_instances}
+use Rattle.horn_rules.specs.Laws.{IsInstanceOver}
 use Rattle.horn_rules.proofs.Lists.{Contains-first, first-or-later, contains-nothing, Contains-map, Contains-unmap}
-use Rattle.horn_rules.proofs.ByNumber.{Contains-append, numbered-there, numbered-from, IsOnce, once-pairs, once-append, once-map, once-by_number}
+use Rattle.horn_rules.proofs.ByNumber.{numbered-there, numbered-from, IsOnce, once-by_number}
 use Rattle.horn_rules.proofs.Numbers.{state_home-place, env_home-place}
 use Rattle.horn_rules.proofs.Places.{slice_get-there}
 

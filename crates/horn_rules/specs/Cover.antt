@@ -1,5 +1,5 @@
 -- Closed sets of statements, and what they say of all runs.
-use Rattle.std.specs.Prelude.{◌≡◌, ◌≢◌, ℕ, ℤ, pos, List, Some, slice_get}
+use Rattle.std.specs.Prelude.{◌≢◌, ℕ, ℤ, pos, List, Some, slice_get}
 use Rattle.std.specs.List.{AllByRecursion, Contains}
 use Rattle.thr_base.specs.declared.names.RuleName.{RuleName}
 use Rattle.lin_rows.specs.System.{IsPoint}

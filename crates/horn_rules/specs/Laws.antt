@@ -10,7 +10,7 @@ use Rattle.predicate_sets.specs.Sets.{set_at}
 use Rattle.transition_formula.specs.Program.{Program, numbered}
 use Rattle.horn_rules.specs.declared.job.Job.{Job}
 use Rattle.horn_rules.specs.Home.{Home, homes, IsHomeOf, home_width}
-use Rattle.horn_rules.specs.Fact.{Sets, Fact, Statement, IsAtomOf, AreSetsOf, IsStatementOf, statement_of}
+use Rattle.horn_rules.specs.Fact.{Sets, Fact, Statement, AreSetsOf, IsStatementOf, statement_of}
 use Rattle.horn_rules.specs.Instance.{Instance, HasKind, premises_of, map_instance}
 use Rattle.horn_rules.specs.Case.{Case, IsCaseOf, placed_at, in_front}
 use Rattle.horn_rules.specs.Post.{IsPost, IsFactOf, IsGiven}
