@@ -1,16 +1,18 @@
 -- Homes have one number each, so the predicates that are stored by number are found by home.
-use Rattle.std.proofs.Common.{◌≡◌, ◌≢◌, ℕ, zero, suc, ◌+◌, ◌-◌, Bool, true, false, List, [], ◌∷◌, length, map, get_or, Option, Some, None, refl, sym, ap, subst, ◌∙◌, arith, inl, inr, ◌⊎◌}
+use Rattle.std.proofs.Common.{◌≡◌, ◌≢◌, ℕ, zero, suc, ◌+◌, ◌-◌, Bool, true, false, List, [], ◌∷◌, length, map, get_or, Option, Some, None, refl, sym, ap, ap₂, subst, ◌∙◌, arith, inl, inr, ◌⊎◌}
 use Rattle.std.specs.List.{slice_get, range_with_len}
-use Rattle.std.specs.Prelude.{option_map, ◌==◌, ◌&&◌}
+use Rattle.std.specs.Prelude.{option_map, IsSome, unwrap_or, ◌==◌, ◌&&◌}
 use Rattle.std.proofs.lemmas.Bool.Decides.{leb_tells, eqb_tells}
 use Rattle.std.proofs.lemmas.Option.{slice_get-map}
 use Rattle.lin_rows.specs.Row.{Row}
 use Rattle.predicate_sets.specs.Sets.{set_at}
 use Rattle.transition_formula.specs.Program.{Program, Thread, numbered}
-use Rattle.horn_rules.specs.Home.{Home, State, Env, by_thread, state_homes, env_homes, homes}
-use Rattle.horn_rules.specs.Fact.{IsSetOf, AreSetsOf}
-use Rattle.horn_rules.specs.Stored.{same_home, list_at, sets_of, AreStoredSetsOf}
-use Rattle.horn_rules.proofs.Places.{slice_get-append_left, slice_get-append_right, range-within, by_thread-found}
+use Rattle.horn_rules.specs.Home.{Home, State, Env, by_number, state_homes, env_homes, homes}
+use Rattle.thr_base.specs.Held.{PositionsTellWords}
+use Rattle.horn_rules.specs.Fact.{Fact, IsSetOf, AreSetsOf}
+use Rattle.horn_rules.specs.Laws.{HomesAreDistinct, StoredFactsTellFacts, StoredSetsAreByNumber}
+use Rattle.horn_rules.specs.Stored.{home_numbered, same_home, list_at, sets_of, AreStoredSetsOf}
+use Rattle.horn_rules.proofs.Places.{slice_get-append_left, slice_get-append_right, range-within, by_number-found}
 
 -- ---- the homes of a kind: each is made of a number
 
@@ -69,15 +71,15 @@ envs-once = record {
 -- ---- the homes of all threads
 
 inside-and_behind : (give : ℕ → Thread → List Home) (states : Bool) (i p q : ℕ) (t : Thread) (threads : List Thread) (home : Home) → GivesOnce give states
-    → slice_get (give i t) p ≡ Some home → slice_get (by_thread give (suc i) threads) q ≡ Some home → ⊥
+    → slice_get (give i t) p ≡ Some home → slice_get (by_number give (suc i) threads) q ≡ Some home → ⊥
 inside-and_behind give states i p q t threads home gives here there =
-    let found = by_thread-found give (suc i) threads q home there in
+    let found = by_number-found give (suc i) threads q home there in
     let one = gives.own i t p home here in
     let other = gives.own (suc i + found.k) found.thread found.place home found.home_is in
     omega arith
 
 one-place : (give : ℕ → Thread → List Home) (states : Bool) (i : ℕ) (threads : List Thread) (p q : ℕ) (home : Home) → GivesOnce give states
-    → slice_get (by_thread give i threads) p ≡ Some home → slice_get (by_thread give i threads) q ≡ Some home → p ≡ q
+    → slice_get (by_number give i threads) p ≡ Some home → slice_get (by_number give i threads) q ≡ Some home → p ≡ q
 one-place give states i [] p q home gives e f = absurd (nothing-at p home e)
   where
     nothing-at : (p : ℕ) (home : Home) → slice_get [] p ≡ Some home → ⊥
@@ -85,7 +87,7 @@ one-place give states i [] p q home gives e f = absurd (nothing-at p home e)
     nothing-at (suc p) home e = cc
 one-place give states i (t ∷ threads) p q home gives e f =
     let here = give i t in
-    let rest = by_thread give (suc i) threads in
+    let rest = by_number give (suc i) threads in
     elim (leb_tells (length here) p) [
       | inr (miss, inside) ↦ elim (leb_tells (length here) q) [
         | inr (miss_q, inside_q) ↦ gives.once i t p q home (sym (slice_get-append_left here rest p inside) ∙ e) (sym (slice_get-append_left here rest q inside_q) ∙ f)
@@ -100,16 +102,16 @@ one-place give states i (t ∷ threads) p q home gives e f =
     ]
 
 kind-at : (give : ℕ → Thread → List Home) (states : Bool) (threads : List Thread) (p : ℕ) (home : Home) → GivesOnce give states
-    → slice_get (by_thread give 1 threads) p ≡ Some home → is_state home ≡ states
+    → slice_get (by_number give 1 threads) p ≡ Some home → is_state home ≡ states
 kind-at give states threads p home gives e =
-    let found = by_thread-found give 1 threads p home e in
+    let found = by_number-found give 1 threads p home e in
     gives.kind (1 + found.k) found.thread found.place home found.home_is
 
 -- a home stands among all at one place
 pub one-number : (program : Program) (p q : ℕ) (home : Home) → slice_get (homes program) p ≡ Some home → slice_get (homes program) q ≡ Some home → p ≡ q
 one-number program p q home e f =
-    let states = by_thread state_homes 1 program.threads in
-    let edges = by_thread env_homes 1 program.threads in
+    let states = by_number state_homes 1 program.threads in
+    let edges = by_number env_homes 1 program.threads in
     elim (leb_tells (length states) p) [
       | inr (miss, inside) ↦
           let e_in = sym (slice_get-append_left states edges p inside) ∙ e in
@@ -195,7 +197,7 @@ listed-at (other ∷ others) (list ∷ lists) home = elim (same_home-tells other
 ]
 
 empty-set : (program : Program) (home : Home) → IsSetOf program home []
-empty-set program home = record { are_atoms = tt; none_twice = λ i j d below within e. absurd (omega arith) }
+empty-set program home = record { are_atoms = tt; none_twice = tt }
 
 pub stored-sets-are : (program : Program) (lists : List (List Row)) → AreStoredSetsOf program lists → AreSetsOf program (sets_of program lists)
 stored-sets-are program lists are home = elim (listed-at (homes program) lists home) [
@@ -204,3 +206,29 @@ stored-sets-are program lists are home = elim (listed-at (homes program) lists h
       let place : suc p - 1 ≡ p = omega arith in
       subst (IsSetOf program home) (ap (λ k. get_or lists k []) place ∙ sym is) (are.sets_are (suc p) home here)
 ]
+
+-- ---- laws
+
+pub homes-distinct : HomesAreDistinct
+homes-distinct program zero m home at there = cc
+homes-distinct program (suc p) zero home at there = cc
+homes-distinct program (suc p) (suc q) home at there = ap suc (one-number program p q home at there)
+
+pub sets-by-number : StoredSetsAreByNumber
+sets-by-number program lists are = record {
+  sets_are = stored-sets-are program lists are;
+  each = λ n home at. sets_of-numbered program lists n home are.one_each at;
+}
+
+known-home : (o : Option Home) → IsSome o → o ≡ Some (unwrap_or o (State 0 0))
+known-home None there = cc
+known-home (Some home) there = refl
+
+pub facts-tell : PositionsTellWords → StoredFactsTellFacts
+facts-tell words program one other small_one small_other has_one has_other same =
+    let at_one = known-home (numbered (homes program) one.home.0) has_one in
+    let at_other = known-home (numbered (homes program) other.home.0) has_other in
+    let home : home_numbered program one.home.0 ≡ home_numbered program other.home.0 = ap (λ (f : Fact). f.home) same in
+    let number : one.home.0 ≡ other.home.0 = homes-distinct program one.home.0 other.home.0 (home_numbered program other.home.0) (at_one ∙ ap (λ h. Some h) home) at_other in
+    let held : one.held ≡ other.held = words one.held other.held small_one small_other (ap (λ (f : Fact). f.held) same) in
+    ap₂ (λ n (word : ℕ). record { home = record { 0 = n }; held = word }) number held
