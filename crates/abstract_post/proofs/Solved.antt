@@ -1,7 +1,7 @@
 -- What is found of the rows of a job, as the post of its case.
-use Rattle.std.proofs.Common.{◌≡◌, ℕ, zero, suc, ◌+◌, ◌-◌, ◌<◌, ◌≤◌, ◌^◌, true, List, [], ◌∷◌, map, length, Option, Some, None, refl, sym, ap, ap₂, subst, ◌∙◌, arith}
+use Rattle.std.proofs.Common.{◌≡◌, ℕ, zero, suc, ◌+◌, ◌<◌, ◌≤◌, ◌^◌, List, [], ◌∷◌, map, length, Some, refl, sym, ap, ap₂, subst, ◌∙◌, arith}
 use Rattle.std.specs.Prelude.{option_map}
-use Rattle.std.specs.List.{slice_get, AllByRecursion, Contains}
+use Rattle.std.specs.List.{AllByRecursion, Contains}
 use Rattle.std.proofs.lemmas.Option.{slice_get_within}
 use Rattle.std.proofs.Math.Pow.{pow_mono}
 use Rattle.thr_base.specs.Held.{positions, ArePositionsOf, WordsAreBelow}
@@ -12,11 +12,10 @@ use Rattle.farkas_cert.specs.Proof.{denying}
 use Rattle.transition_formula.specs.Program.{Program, numbered}
 use Rattle.horn_rules.specs.declared.job.Premise.{Premise}
 use Rattle.horn_rules.specs.declared.job.Job.{Job}
-use Rattle.horn_rules.specs.Home.{home_width}
 use Rattle.horn_rules.specs.Fact.{Statement, IsAtomOf}
 use Rattle.horn_rules.specs.Instance.{Instance, Init, Own, Guar, Env, Inter, map_instance}
 use Rattle.horn_rules.specs.Case.{Case, in_front, placed_at}
-use Rattle.horn_rules.specs.Post.{EntailsAt, AreEntailed, IsPost}
+use Rattle.horn_rules.specs.Post.{EntailsAt, IsPost}
 use Rattle.horn_rules.specs.Stored.{instance_of}
 use Rattle.horn_rules.specs.Job.{premise_says, ComesTo}
 use Rattle.horn_rules.specs.Laws.{AtomsArePlaced, IsPlacedBy}

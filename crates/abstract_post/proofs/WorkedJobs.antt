@@ -1,5 +1,5 @@
 -- The jobs of the tests fit.
-use Rattle.std.proofs.Common.{◌≡◌, ℕ, ◌+◌, ◌^◌, ◌<◌, List, [], ◌∷◌, length, Option, Some, None, refl, sym, ap, ap₂, subst, ◌∙◌, arith}
+use Rattle.std.proofs.Common.{◌≡◌, ℕ, ◌+◌, ◌^◌, ◌<◌, List, length, Option, Some, None, refl, sym, ap, ap₂, subst, ◌∙◌, arith}
 use Rattle.std.specs.Prelude.{IsSome, unwrap_or}
 use Rattle.std.proofs.Math.Pow.{pow-lt}
 use Rattle.thr_base.specs.declared.names.ThreadNo.{ThreadNo}
@@ -15,9 +15,9 @@ use Rattle.horn_rules.specs.declared.job.Premise.{Premise}
 use Rattle.horn_rules.specs.declared.job.Job.{Job}
 use Rattle.horn_rules.specs.Home.{Home, State, Env, homes, home_width}
 use Rattle.horn_rules.specs.Fact.{IsAtomOf, IsSetOf}
-use Rattle.horn_rules.specs.Instance.{Instance, Init, Own, Guar, Env as Environment}
+use Rattle.horn_rules.specs.Instance.{Init, Own, Guar, Env as Environment}
 use Rattle.horn_rules.specs.Case.{init_case, own_case, guar_case, env_case, init, own, guar, env}
-use Rattle.horn_rules.specs.Stored.{home_numbered, instance_of}
+use Rattle.horn_rules.specs.Stored.{instance_of}
 use Rattle.horn_rules.specs.Job.{premise_says, IsPremise, IsJob}
 use Rattle.abstract_post.specs.inside.Worked.{IsAtomSetOver}
 

@@ -1,4 +1,4 @@
-use Rattle.std.proofs.Common.{◌<◌, ◌≤◌, ◌-◌, ◌^◌, ◌∙◌, sym, refl, arith}
+use Rattle.std.proofs.Common.{◌≤◌, ◌-◌, ◌^◌, ◌∙◌, sym, arith}
 use Rattle.std.proofs.Math.Pow.{pow_mono}
 use Rattle.abstract_post.proofs.Decided.{holds-above}
 use Rattle.abstract_post.proofs.deciding.with_next.Goals as goal
