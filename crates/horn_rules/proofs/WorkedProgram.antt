@@ -1,5 +1,5 @@
 -- The program of the tests is one, and what its tests ask of numbers.
-use Rattle.std.proofs.Common.{◌≡◌, ℕ, zero, suc, ◌<◌, ◌≤◌, List, [], ◌∷◌, length, pos, Some, None, refl, subst, arith}
+use Rattle.std.proofs.Common.{◌≡◌, ℕ, zero, suc, ◌<◌, ◌≤◌, List, [], ◌∷◌, length, pos, Some, None, refl, sym, ap, ◌∙◌, subst, arith}
 use Rattle.thr_base.specs.declared.names.ThreadNo.{ThreadNo}
 use Rattle.thr_base.specs.declared.names.Instance.TheVariants as stored
 use Rattle.thr_base.specs.declared.names.Fact.{Fact as StoredFact}
@@ -18,7 +18,7 @@ use Rattle.horn_rules.specs.declared.job.Premise.{Premise}
 use Rattle.horn_rules.specs.declared.job.Job.{Job}
 use Rattle.horn_rules.specs.Instance.{Instance, Init}
 use Rattle.horn_rules.specs.Case.{init_case, init}
-use Rattle.horn_rules.specs.Stored.{HasItsHome}
+use Rattle.horn_rules.specs.Stored.{HasItsHome, instance_of}
 use Rattle.horn_rules.specs.Job.{IsJob, ComesTo}
 use Rattle.horn_rules.specs.inside.JobRows.{IsPremiseAt, IsAtSource, IsAtLocation, IsAtEdge}
 
@@ -139,12 +139,13 @@ second-edge program premise worked home empty = record {
 -- the first thread's start, with no predicates at its home
 pub start-job : (program : Program) (job : Job) (i : ThreadNo) → program ≡ worked_program → i.0 ≡ 1 → job.instance ≡ stored.Init i → job.first ≡ None → job.second ≡ None → job.home.0 ≡ 2
     → job.target.value ≡ [] → IsJob program job
-start-job program job i worked one instance_is first_is second_is home_is empty = (
+start-job program job i worked one instance_is first_is second_is home_is empty =
+    let there : IsThreadOf program 1 first_thread = rw worked refl in (
   init_case program 1,
   record {
     instance = Init 1;
-    instance_is = record { ids_are = rw (instance_is, one) refl; first_is = first_is; second_is = second_is };
-    is_case = rw worked (init {program = worked_program} 1 first_thread refl);
+    instance_is = record { ids_are = sym (ap instance_of instance_is ∙ ap Init one); first_is = first_is; second_is = second_is };
+    is_case = init 1 first_thread there;
     premises_are = tt;
     home_is = rw (worked, home_is) refl;
     target_is = rw empty (record { are_atoms = tt; none_twice = tt });
