@@ -8,7 +8,7 @@ use Rattle.std.proofs.lemmas.List.{length-map, get_or-map, get_or-append_right, 
 use Rattle.lin_rows.proofs.Lists.{AllByRecursion-append, AllByRecursion-map, AllByRecursion-at, AllByRecursion-weaken}
 use Rattle.thr_base.specs.Number.{Fits, number_text}
 use Rattle.thr_base.proofs.Numbers.{IsTextOf-number_text}
-use Rattle.transition_formula.specs.ColumnText.{is_name_start, is_c_name, IsSharedText, variable, started, done, IsOwnName, local, declared_again, temporary, counter, own_text, IsTextOf}
+use Rattle.thr_base.specs.ColumnText.{is_name_start, is_c_name, IsSharedText, variable, started, done, IsOwnName, local, declared_again, temporary, counter, own_text, IsTextOf}
 use Rattle.transition_formula.specs.Program.{Column, IsColumn, IsProgram, Program}
 use Rattle.transition_formula.specs.AtomText.{column_texts}
 use Rattle.transition_formula.specs.inside.AtomReading.{IsPlain, IsWord, is_text_byte}
@@ -107,7 +107,7 @@ no_quotes : (threads : ℕ) (column : Column) → Fits (pos threads) → IsColum
 no_quotes threads column few is =
     AllByRecursion-weaken IsTextByte (λ b. b ≢ 39) (λ b passes. text_byte-is_not b 39 passes refl) column.text (text-bytes threads column.owner column.text few is.text_is)
 
-few-threads : (program : Program) → IsProgram program → Fits (pos (length program.threads))
+pub few-threads : (program : Program) → IsProgram program → Fits (pos (length program.threads))
 few-threads program is = omega (arith, is.few_threads)
 
 IsWord-after : (text : List ℕ) → IsWord text → IsWord (text ++ (39 ∷ []))

@@ -1,4 +1,4 @@
-pub mod ColumnText
+pub use Rattle.thr_base.specs.ColumnText
 pub mod Program
 pub mod Step
 pub mod Run
@@ -10,4 +10,5 @@ pub mod StoredStep
 pub mod StoredRun
 pub mod Laws
 pub mod FormLaws
+pub mod TextLaws
 pub mod inside
