@@ -141,6 +141,12 @@ apart-is (State k l) (State i m) e = record { k = k; l = l; i = i; m = m; apart 
 apart-is (State k l) (Env i g) e = cc
 apart-is (Env k l) other e = cc
 
+other-number : (k i j : ℕ) → k ≢ i → i ≡ j → k ≢ j
+other-number k i j apart same is = apart (is ∙ sym same)
+
+same-number : (home : Home) (i m j n : ℕ) → home ≡ State i m → home ≡ State j n → i ≡ j
+same-number home i m j n one other = let both : State i m ≡ State j n = sym one ∙ other in cc
+
 pub is-apart : (home other : Home) (k l i m : ℕ) → k ≢ i → home ≡ State k l → other ≡ State i m → of_another home other ≡ true
 is-apart home other k l i m apart one two = rw (one, two) (eq-not k i apart)
 
@@ -223,14 +229,13 @@ from-inter program facts y homes there =
     let are = apart-is one.x.home two.x.home differ in
     let leads = leads-there program two.x.home e edge_listed in
     let place = state_home-place program are.k are.l (has-home program facts one.n one.x (State are.k are.l) homes one.x_is are.home_is) in
-    let both : State are.i are.m ≡ State leads.i leads.edge.from = sym are.other_is ∙ leads.home_is in
-    let number : are.i ≡ leads.i = cc in
+    let number = same-number two.x.home are.i are.m leads.i leads.edge.from are.other_is leads.home_is in
     subst (IsInstanceOver program Og facts) same (record {
       instance = Inter one.x two.x e;
       given = inter_case program are.k are.l place.thread leads.thread leads.edge one.x two.x;
       has_kind = tt;
       resolved = ap₂ (λ a b. Inter a b e) one.x_is two.x_is;
-      is_case = inter are.k are.l leads.i e place.thread leads.thread leads.edge one.x two.x (λ k_is. are.apart (k_is ∙ sym number)) place.thread_is leads.edge_is are.home_is leads.home_is;
+      is_case = inter are.k are.l leads.i e place.thread leads.thread leads.edge one.x two.x (other-number are.k are.i leads.i are.apart number) place.thread_is leads.edge_is are.home_is leads.home_is;
     })
 
 -- ---- and to the list: what the numbers are
