@@ -1,19 +1,21 @@
 -- The lines of predicates: what is read of them, and that they are lines.
 use Rattle.std.proofs.Common.{◌≡◌, ◌≢◌, ◌==◌, ◌&&◌, ℕ, suc, ◌+◌, ◌<◌, ◌^◌, ℤ, pos, negsuc, unsigned_abs, Bool, true, false, List, [], ◌∷◌, ◌++◌, length, map, get_or, codes, Some, None, refl, sym, ap, ap₂, subst, ◌∙◌, arith}
 use Rattle.std.specs.Prelude.{if◌then◌else◌}
-use Rattle.std.specs.List.{AllByRecursion, list_all}
+use Rattle.std.specs.List.{AllByRecursion}
 use Rattle.std.specs.Char.{IsAsciiDigit}
 use Rattle.thr_base.specs.Number.{Fits, number_text}
 use Rattle.thr_base.proofs.Numbers.{IsTextOf-number_text}
 use Rattle.lin_rows.specs.Row.{Row}
-use Rattle.lin_rows.proofs.Lists.{AllByRecursion-append, AllByRecursion-map}
-use Rattle.transition_formula.specs.Program.{Program, Column, IsProgram, IsTextOf, is_text_byte}
+use Rattle.lin_rows.proofs.Lists.{AllByRecursion-append, AllByRecursion-map, AllByRecursion-weaken}
+use Rattle.transition_formula.specs.Program.{Program, Column, IsColumn, IsProgram}
+use Rattle.transition_formula.specs.TextLaws.{IsPrintable}
+use Rattle.transition_formula.proofs.PrintableTexts.{atoms-printable}
 use Rattle.transition_formula.specs.AtomText.{column_texts, atom_text, terms_text, term_text, joint, factor, IsAtomText}
 use Rattle.horn_rules.specs.Home.{Home, State, Env, home_width}
 use Rattle.horn_rules.specs.HomeText.{home_text}
 use Rattle.annotation_form.specs.Lines.{IsLine}
 use Rattle.annotation_form.specs.Predicates.{Predicate, IsPredicateOf, predicate_text, predicate_texts}
-use Rattle.annotation_form.specs.Reading.{IsSmall, IsHead, IsLineOf, is_env}
+use Rattle.annotation_form.specs.inside.Reading.{IsSmall, IsHead, IsLineOf, is_env}
 use Rattle.annotation_form.proofs.HomeTexts.{head-same, small-fits}
 use Rattle.annotation_form.proofs.Homes.{home-small}
 
@@ -64,57 +66,18 @@ number-line : (z : ℤ) → Fits z → IsLine (number_text z)
 number-line (pos n) h = line-from_digits (number_text (pos n)) (IsTextOf-number_text (pos n) h).digits
 number-line (negsuc n) h = let is = IsTextOf-number_text (negsuc n) h in subst IsLine (sym is.1) (λ e. omega arith, line-from_digits is.0 is.2.digits)
 
-joint-line : (first : Bool) (k : ℤ) → IsLine (joint first k)
-joint-line true (pos n) = tt
-joint-line true (negsuc n) = (λ e. omega arith, tt)
-joint-line false (pos n) = (λ e. omega arith, (λ e. omega arith, (λ e. omega arith, tt)))
-joint-line false (negsuc n) = (λ e. omega arith, (λ e. omega arith, (λ e. omega arith, tt)))
-
-if-line : (b : Bool) (xs ys : List ℕ) → IsLine xs → IsLine ys → IsLine (if b then xs else ys)
-if-line true xs ys p q = p
-if-line false xs ys p q = q
-
-size-fits : (k : ℤ) → Fits k → Fits (pos (unsigned_abs k))
-size-fits (pos n) h = h
-size-fits (negsuc n) h = h
-
 line-append : (xs ys : List ℕ) → IsLine xs → IsLine ys → IsLine (xs ++ ys)
 line-append xs ys p q = AllByRecursion-append (λ b. b ≢ 10) xs ys p q
 
-factor-line : (size : ℕ) → Fits (pos size) → IsLine (factor size)
-factor-line size h = if-line (size == 1) [] (number_text (pos size) ++ codes "*") tt (line-append (number_text (pos size)) (codes "*") (number-line (pos size) h) (λ e. omega arith, tt))
-
-term-line : (first : Bool) (k : ℤ) (text : List ℕ) → Fits k → IsLine text → IsLine (term_text first k text)
-term-line first k text h p =
-    if-line (unsigned_abs k == 0) [] (joint first k ++ (factor (unsigned_abs k) ++ text)) tt
-    (line-append (joint first k) (factor (unsigned_abs k) ++ text) (joint-line first k) (line-append (factor (unsigned_abs k)) text (factor-line (unsigned_abs k) (size-fits k h)) p))
-
-terms-line : (first : Bool) (ks : List ℤ) (texts : List (List ℕ)) → AllByRecursion Fits ks → AllByRecursion IsLine texts → IsLine (terms_text first ks texts)
-terms-line first [] texts fit lines = tt
-terms-line first (k ∷ ks) [] fit lines = tt
-terms-line first (k ∷ ks) (text ∷ texts) fit lines =
-    line-append (term_text first k text) (terms_text (first && (unsigned_abs k == 0)) ks texts) (term-line first k text fit.0 lines.0) (terms-line (first && (unsigned_abs k == 0)) ks texts fit.1 lines.1)
-
-text_byte-line : (b : ℕ) → is_text_byte b ≡ true → b ≢ 10
-text_byte-line b passes e = let wrong : is_text_byte 10 ≡ true = subst (λ c. is_text_byte c ≡ true) e passes in cc
-
-bytes-line : (xs : List ℕ) → list_all is_text_byte xs ≡ true → IsLine xs
-bytes-line [] all = tt
-bytes-line (x ∷ xs) all = (text_byte-line x (left (is_text_byte x) (list_all is_text_byte xs) all), bytes-line xs (right (is_text_byte x) (list_all is_text_byte xs) all))
-  where
-    left : (a b : Bool) → (a && b) ≡ true → a ≡ true
-    left true b e = refl
-    left false b e = e
-
-    right : (a b : Bool) → (a && b) ≡ true → b ≡ true
-    right true b e = e
-    right false b e = cc
-
-columns-lines : (program : Program) → IsProgram program → AllByRecursion IsLine (column_texts program.columns)
-columns-lines program is =
-    AllByRecursion-append IsLine (map (λ (column : Column). column.text) program.columns) (map (λ (column : Column). column.text ++ codes "'") program.columns)
-    (AllByRecursion-map (λ (column : Column). IsTextOf column.owner column.text) IsLine (λ (column : Column). column.text) (λ column word. bytes-line column.text word.is_text.bytes) program.columns is.texts_are)
-    (AllByRecursion-map (λ (column : Column). IsTextOf column.owner column.text) IsLine (λ (column : Column). column.text ++ codes "'") (λ column word. line-append column.text (codes "'") (bytes-line column.text word.is_text.bytes) (λ e. omega arith, tt)) program.columns is.texts_are)
+-- the text of an atom is printable
+atom-line : (program : Program) (p : Predicate) → IsProgram program → IsPredicateOf program p → IsLine (atom_text program.columns p.atom)
+atom-line program p is of =
+    AllByRecursion-weaken IsPrintable (λ b. b ≢ 10) (λ b printable e. omega (arith, printable.from)) (atom_text program.columns p.atom)
+    (atoms-printable program (is_env p.home) p.atom (atom_text program.columns p.atom) is (record {
+      atom_is = of.is_atom.is_atom;
+      width = width-is program.columns p.home (length p.atom.coefficients) of.is_atom.one_each;
+      text_is = refl;
+    }))
 
 words-line : (k : ℕ) (i l : ℕ) → k ≢ 10 → i < 2 ^ 32 → l < 2 ^ 32 → IsLine (k ∷ 32 ∷ (number_text (pos i) ++ (32 ∷ number_text (pos l))))
 words-line k i l other h j = (
@@ -128,12 +91,7 @@ home-line (Env i e) small = words-line 101 i e (λ e. omega arith) small.0 small
 
 pub predicate-line : (program : Program) (p : Predicate) → IsProgram program → IsPredicateOf program p → IsLine (predicate_text program p)
 predicate-line program p is of =
-    let fits = of.is_atom.is_atom.fits in
-    let atom : IsLine (atom_text program.columns p.atom) =
-    line-append (terms_text true p.atom.coefficients (column_texts program.columns)) (codes " <= " ++ number_text p.atom.bound)
-    (terms-line true p.atom.coefficients (column_texts program.columns) fits.coefficients (columns-lines program is))
-    (λ e. omega arith, (λ e. omega arith, (λ e. omega arith, (λ e. omega arith, number-line p.atom.bound fits.bound)))) in
-    line-append (home_text p.home) (codes " : " ++ atom_text program.columns p.atom) (home-line p.home (home-small program p.home is of.has_home)) (λ e. omega arith, (λ e. omega arith, (λ e. omega arith, atom)))
+    line-append (home_text p.home) (codes " : " ++ atom_text program.columns p.atom) (home-line p.home (home-small program p.home is of.has_home)) (λ e. omega arith, (λ e. omega arith, (λ e. omega arith, atom-line program p is of)))
 
 pub predicates-lines : (program : Program) (ps : List Predicate) → IsProgram program → AllByRecursion (IsPredicateOf program) ps → AllByRecursion IsLine (predicate_texts program ps)
 predicates-lines program ps is of = AllByRecursion-map (IsPredicateOf program) IsLine (predicate_text program) (λ p one. predicate-line program p is one) ps of

@@ -2,12 +2,12 @@
 use Rattle.std.proofs.Common.{◌≡◌, ◌≢◌, ℕ, zero, suc, ◌<◌, ◌≤◌, List, [], ◌∷◌, ◌++◌, length, Some, refl, sym, ap, subst, ◌∙◌, arith}
 use Rattle.lin_rows.specs.Row.{Row}
 use Rattle.transition_formula.specs.Program.{Program, numbered}
-use Rattle.transition_formula.proofs.Lookups.{AllByRecursion-slice_get}
+use Rattle.lin_rows.proofs.Lists.{AllByRecursion-slice_get}
 use Rattle.horn_rules.specs.Home.{Home, homes}
 use Rattle.predicate_sets.specs.HomeSet.{Lacks, StandsAt}
 use Rattle.predicate_sets.specs.Sets.{set_at, with_set}
-use Rattle.annotation_form.specs.Predicates.{Predicate, atoms_at, most_atoms_read, lists_of}
-use Rattle.annotation_form.specs.Reading.{HasRoom}
+use Rattle.annotation_form.specs.Predicates.{Predicate, home_atoms, most_atoms_read, lists_of}
+use Rattle.annotation_form.specs.inside.Reading.{HasRoom}
 use Rattle.annotation_form.proofs.Sets.{set_at-lists_of, with_set-lists_of}
 
 -- What is known of a home's list where a predicate may be added to it.
@@ -16,7 +16,7 @@ pub record IsAt (program : Program) (sets : List (List Row)) (number : ℕ) (hom
   pub atoms_are : atoms ≡ set_at sets number
 
 here : (program : Program) (sets : List (List Row)) (number : ℕ) (home : Home) (atoms : List Row) (before : List Predicate) → IsAt program sets number home atoms → sets ≡ lists_of program before
-    → atoms ≡ atoms_at home before
+    → atoms ≡ home_atoms home before
 here program sets number home atoms before is e = is.atoms_are ∙ ap (λ s. set_at s number) e ∙ set_at-lists_of program before number home is.numbered_is
 
 pub full-no_room : (program : Program) (sets : List (List Row)) (number : ℕ) (home : Home) (atom : Row) (atoms : List Row) (before : List Predicate) → IsAt program sets number home atoms → sets ≡ lists_of program before
@@ -30,7 +30,7 @@ stands-lacks set atom (suc k) stands lacks = AllByRecursion-slice_get (λ other.
 pub known-no_room : (program : Program) (sets : List (List Row)) (number : ℕ) (home : Home) (atom : Row) (atoms : List Row) (place : ℕ) (before : List Predicate) → IsAt program sets number home atoms
     → sets ≡ lists_of program before → StandsAt (set_at sets number) atom place → ¬ HasRoom before (record { home = home; atom = atom })
 known-no_room program sets number home atom atoms place before is e stands has =
-    stands-lacks (atoms_at home before) atom place (subst (λ s. StandsAt s atom place) (sym is.atoms_are ∙ here program sets number home atoms before is e) stands) has.lacks
+    stands-lacks (home_atoms home before) atom place (subst (λ s. StandsAt s atom place) (sym is.atoms_are ∙ here program sets number home atoms before is e) stands) has.lacks
 
 pub new-room : (program : Program) (sets : List (List Row)) (number : ℕ) (home : Home) (atom : Row) (atoms : List Row) (before : List Predicate) → IsAt program sets number home atoms → sets ≡ lists_of program before
     → length atoms < most_atoms_read → Lacks (set_at sets number) atom → HasRoom before (record { home = home; atom = atom })

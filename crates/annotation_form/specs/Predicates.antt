@@ -29,10 +29,10 @@ pub record IsPredicateOf (program : Program) (predicate : Predicate) : Type 0 wh
   pub is_atom : IsAtomOf program predicate.home predicate.atom
 
 -- the atoms at a home, in the order of the predicates
-abbrev pub atoms_at : Home → List Predicate → List Row
-atoms_at home [] = []
-atoms_at home (predicate ∷ predicates) =
-    if same_home home predicate.home then predicate.atom ∷ atoms_at home predicates else atoms_at home predicates
+abbrev pub home_atoms : Home → List Predicate → List Row
+home_atoms home [] = []
+home_atoms home (predicate ∷ predicates) =
+    if same_home home predicate.home then predicate.atom ∷ home_atoms home predicates else home_atoms home predicates
 
 -- how many atoms a text may have at a home
 abbrev pub most_atoms_read : ℕ
@@ -41,8 +41,8 @@ most_atoms_read = 2
 -- These predicates may stand in a text: the program has them, none stands twice at its home, and no home has too many.
 pub record AreAllowed (program : Program) (predicates : List Predicate) : Type 0 where
   pub of_program : AllByRecursion (IsPredicateOf program) predicates
-  pub are_sets : (home : Home) → IsSetOf program home (atoms_at home predicates)
-  pub few : (home : Home) → length (atoms_at home predicates) ≤ most_atoms_read
+  pub are_sets : (home : Home) → IsSetOf program home (home_atoms home predicates)
+  pub few : (home : Home) → length (home_atoms home predicates) ≤ most_atoms_read
 
 -- The text is that of these predicates.
 pub record IsPredicatesText (program : Program) (predicates : List Predicate) (text : List ℕ) : Type 0 where
@@ -51,4 +51,4 @@ pub record IsPredicatesText (program : Program) (predicates : List Predicate) (t
 
 -- the predicates of each home, in the order of the homes' numbers
 abbrev pub lists_of : Program → List Predicate → List (List Row)
-lists_of program predicates = map (λ home. atoms_at home predicates) (homes program)
+lists_of program predicates = map (λ home. home_atoms home predicates) (homes program)

@@ -1,7 +1,8 @@
 ghost use Rattle.std.specs.Prelude.{◌≡◌, ◌≤◌, ◌<◌, ◌∷◌, [], map, length, IfOk};
+ghost use Rattle.thr_base.specs.Limits.{text_limit};
 ghost use Rattle.predicate_sets.specs.Sets.{HasHome};
 ghost use Rattle.transition_formula.specs.Stored.{column_of, edge_of, thread_of};
-ghost use Rattle.horn_rules.specs.Worked.{bare_edge, counter_column, first_thread, second_thread, worked_columns, worked_program};
+ghost use Rattle.horn_rules.specs.inside.Worked.{bare_edge, counter_column, first_thread, second_thread, worked_columns, worked_program};
 
 use super::*;
 use lin_rows::Rows;
@@ -91,7 +92,7 @@ fn worked(alloc: Global) -> Result<Program, AllocError>
 /// What a text of the program is read as; it has 10 homes.
 fn read(alloc: Global, program: &Program, text: &[u8]) -> Result<Sets, LineStop>
     requires program { program.now ≡ worked_program }
-    requires length { length text.now ≤ 1048576 }
+    requires length { length text.now ≤ text_limit }
     ensures { IfOk result (λ sets. length sets ≡ 10) }
 {
     read_predicates(alloc, program, text)

@@ -17,7 +17,8 @@ lacks_more [] n atom d h before other = absurd (omega arith)
 lacks_more (x ∷ set) zero atom d h before other = (other, tt)
 lacks_more (x ∷ set) (suc n) atom d h before other = (before.0, lacks_more set n atom d (omega arith) before.1 other)
 
-AreDistinct-append : (set : List Row) (atom : Row) → AreDistinct set → Lacks set atom → AreDistinct (set ++ atom ∷ [])
+-- one more atom, which the list lacks
+pub AreDistinct-append : (set : List Row) (atom : Row) → AreDistinct set → Lacks set atom → AreDistinct (set ++ atom ∷ [])
 AreDistinct-append [] atom distinct lacks = (tt, tt)
 AreDistinct-append (x ∷ set) atom distinct lacks =
     (AllByRecursion-append (λ other. other ≢ x) set (atom ∷ []) distinct.0 (λ e. lacks.0 (sym e), tt), AreDistinct-append set atom distinct.1 lacks.1)

@@ -8,7 +8,7 @@ use Rattle.annotation_form.proofs.adding.add.Goals as goal
 pub returns-then-atoms-ge-MOST_ATOMS_READ-clause-added : goal.returns-then-atoms-ge-MOST_ATOMS_READ-clause-added
 returns-then-atoms-ge-MOST_ATOMS_READ-clause-added c = λ before is.
     full-no_room c.args.program.now c.args.sets.now c.number-number.result.0 (home_of c.args.home) c.args.atom c.atoms.result.now before
-    (record { numbered_is = c.number-number.ensures; atoms_are = c.atoms.ensures.atoms ∙ c.deref.ensures ∙ c.in_ok-set.ensures }) is c.if-atoms-ge-MOST_ATOMS_READ.true
+    (record { numbered_is = c.number-number.ensures; atoms_are = c.atoms.ensures.atoms ∙ c.deref.ensures ∙ c.in_ok-set.ensures.set }) is c.if-atoms-ge-MOST_ATOMS_READ.true
 
 pub add-requires : goal.add-requires
 add-requires c =
@@ -19,7 +19,7 @@ pub returns-in-Ok-New-clause-added : goal.returns-in-Ok-New-clause-added
 returns-in-Ok-New-clause-added c = λ before is.
     let added = rw c.in-Ok-New.field-0-is at c.in-Ok-New.ensures in (
       new-room c.args.program.now c.args.sets.now c.number-number.result.0 (home_of c.args.home) c.args.atom c.atoms.result.now before
-          (record { numbered_is = c.number-number.ensures; atoms_are = c.atoms.ensures.atoms ∙ c.deref.ensures ∙ c.in_ok-set.ensures }) is c.if-atoms-ge-MOST_ATOMS_READ.false added.0.0,
+          (record { numbered_is = c.number-number.ensures; atoms_are = c.atoms.ensures.atoms ∙ c.deref.ensures ∙ c.in_ok-set.ensures.set }) is c.if-atoms-ge-MOST_ATOMS_READ.false added.0.0,
       new-sets c.args.program.now c.args.sets.now c.number-number.result.0 (home_of c.args.home) c.args.atom c.add.new.self before c.number-number.ensures is added.2,
     )
 
@@ -27,4 +27,4 @@ pub returns-in-Ok-Known-clause-added : goal.returns-in-Ok-Known-clause-added
 returns-in-Ok-Known-clause-added c = λ before is.
     let added = rw c.in-Ok-Known.field-0-is at c.in-Ok-Known.ensures in
     known-no_room c.args.program.now c.args.sets.now c.number-number.result.0 (home_of c.args.home) c.args.atom c.atoms.result.now c.in-Ok-Known.field-0-0 before
-    (record { numbered_is = c.number-number.ensures; atoms_are = c.atoms.ensures.atoms ∙ c.deref.ensures ∙ c.in_ok-set.ensures }) is added.0
+    (record { numbered_is = c.number-number.ensures; atoms_are = c.atoms.ensures.atoms ∙ c.deref.ensures ∙ c.in_ok-set.ensures.set }) is added.0

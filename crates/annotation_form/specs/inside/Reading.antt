@@ -11,7 +11,7 @@ use Rattle.annotation_form.specs.declared.predicates.Lines.{Lines}
 use Rattle.annotation_form.specs.declared.predicates.Lines.TheVariants.{Sets, Bad}
 use Rattle.annotation_form.specs.Lines.{lines_text}
 use Rattle.annotation_form.specs.BadLine.{IsBadLine, IsReadAs}
-use Rattle.annotation_form.specs.Predicates.{Predicate, IsPredicateOf, IsPredicatesText, AreAllowed, atoms_at, most_atoms_read, predicate_text, predicate_texts, lists_of}
+use Rattle.annotation_form.specs.Predicates.{Predicate, IsPredicateOf, IsPredicatesText, AreAllowed, home_atoms, most_atoms_read, predicate_text, predicate_texts, lists_of}
 
 -- whether a home is an edge
 abbrev pub is_env : Home → Bool
@@ -39,8 +39,8 @@ pub record IsLineOf (program : Program) (predicate : Predicate) (line : List ℕ
 
 -- A home's predicates lack this one's atom, and there is room for it.
 pub record HasRoom (predicates : List Predicate) (predicate : Predicate) : Type 0 where
-  pub lacks : Lacks (atoms_at predicate.home predicates) predicate.atom
-  pub room : length (atoms_at predicate.home predicates) < most_atoms_read
+  pub lacks : Lacks (home_atoms predicate.home predicates) predicate.atom
+  pub room : length (home_atoms predicate.home predicates) < most_atoms_read
 
 -- Whether a predicate was added, and what the sets are then.
 abbrev pub IsAdded : Program → List Predicate → Predicate → Bool → List (List Row) → Type 0
