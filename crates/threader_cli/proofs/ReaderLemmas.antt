@@ -5,7 +5,8 @@ use Rattle.thr_base.specs.declared.stops.Stop.{Stop}
 use Rattle.thr_base.specs.declared.stops.Stop.TheVariants.{Refused, Memory}
 use Rattle.c_lex.specs.Tokens.{Lexeme, lexed, Stops}
 use Rattle.c_tree.specs.Item.{tree_of, parsed}
-use Rattle.threader_cli.specs.ProgramText.{IsText, IsAccepted, Refuses, not_in_profile, not_narrow, StopsTokens, StopsBytes}
+use Rattle.threader_cli.specs.ProgramText.{IsText, IsAccepted, Refuses, not_in_profile, not_narrow}
+use Rattle.threader_cli.specs.inside.Readers.{StopsTokens, StopsBytes}
 use Rattle.threader_cli.specs.Spelling.{spell_program, spell_variable, spell_function, spell_handle, spell_creation}
 use Rattle.threader_cli.specs.Tree.{Program}
 use Rattle.threader_cli.specs.Word.{pieces}

@@ -3,10 +3,10 @@ ghost use Rattle.std.specs.List.{list_all, AllByRecursion};
 ghost use Rattle.thr_base.specs.Number.{Fits};
 ghost use Rattle.transition_formula.specs.Stored.{column_of, thread_of as graph_of};
 ghost use Rattle.threader_cli.specs.Accepted.{are_new, is_allowed, variable_names};
-ghost use Rattle.threader_cli.specs.Checks.{CanRun};
+ghost use Rattle.threader_cli.specs.inside.Checks.{CanRun};
 ghost use Rattle.threader_cli.specs.Data as specs;
 ghost use Rattle.threader_cli.specs.Proper.{is_proper_program, is_proper_start, is_proper_variable};
-ghost use Rattle.threader_cli.specs.Seen.{variable_of, function_of, program_of};
+ghost use Rattle.threader_cli.specs.inside.Seen.{variable_of, function_of, program_of};
 
 use crate::accept::{add_names, add_variables, find};
 use crate::graph::thread;
