@@ -26,9 +26,8 @@ use Rattle.thr_base.specs.Held.{positions}
 use Rattle.serial_fix.specs.inside.Cases.{own_case, guar_case, env_case}
 use Rattle.serial_fix.specs.inside.Jobs.{Says, init, own, guar, env}
 use Rattle.horn_rules.specs.Stored.{sets_of, fact_of, home_numbered, HasItsHome}
-use Rattle.horn_rules.proofs.Numbers.{state_home-place, env_home-place}
+use Rattle.horn_rules.proofs.Numbers.{state_home-place, env_home-place, home-numbered}
 use Rattle.horn_rules.proofs.Places.{slice_get-there, range-at}
-use Rattle.horn_rules.proofs.WorkedProgram.{home-numbered}
 use Rattle.std.proofs.lemmas.List.{length-map}
 use Rattle.serial_fix.specs.inside.Found.{FoundFacts}
 use Rattle.horn_rules.specs.Instances.{tells_another}

@@ -17,8 +17,7 @@ use Rattle.horn_rules.specs.Fact.{Fact}
 use Rattle.horn_rules.specs.Case.{Case, init_case}
 use Rattle.serial_fix.specs.inside.Cases.{IsCase, own_case, guar_case, env_case, init, own, guar, env}
 use Rattle.horn_rules.specs.Stored.{sets_of, fact_of, facts_of}
-use Rattle.horn_rules.proofs.Numbers.{state_home-place}
-use Rattle.horn_rules.proofs.WorkedProgram.{home-numbered}
+use Rattle.horn_rules.proofs.Numbers.{state_home-place, home-numbered}
 use Rattle.serial_fix.specs.inside.Found.{FoundFacts}
 use Rattle.serial_fix.specs.inside.Run.{IsRun, Extends, IsSettled, StartIsSettled, HasEdge, IsFrom, OwnIsSettled, GuarIsSettled, EdgeIsSettled, OwnAreSettled, PairIsSettled, PairsAreSettled, IsLookedAt, StartsAreSettled, AllAreSettled, IsStep}
 use Rattle.serial_fix.specs.declared.step.Step.{Step}

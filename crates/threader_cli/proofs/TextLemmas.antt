@@ -12,7 +12,7 @@ use Rattle.transition_formula.specs.ColumnText.{IsTextOf, IsOwnName, variable}
 use Rattle.threader_cli.proofs.NameLemmas.{list_all_append, all_right}
 use Rattle.threader_cli.proofs.NumberLemmas.{number_digits}
 use Rattle.threader_cli.proofs.ReadingSteps.{left_true, right_true}
-use Rattle.threader_cli.specs.Data.{own_text}
+use Rattle.transition_formula.specs.ColumnText.{own_text}
 use Rattle.threader_cli.specs.Word.{is_word, is_name}
 
 -- ---- bytes
