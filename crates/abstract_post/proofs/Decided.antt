@@ -1,47 +1,65 @@
 -- Atoms that are decided one after another.
-use Rattle.std.proofs.Common.{◌≡◌, ◌≢◌, ℕ, zero, suc, ◌+◌, ◌^◌, ◌<◌, Bool, true, false, cond, List, [], ◌∷◌, map, Some, None, Ok, Err, refl, sym, ap, subst, ◌∙◌, arith, inl, inr}
+use Rattle.std.proofs.Common.{◌≡◌, ◌≢◌, ℕ, zero, suc, ◌+◌, ◌-◌, ◌^◌, ◌<◌, ◌≤◌, Bool, true, false, List, [], ◌∷◌, map, Some, None, Ok, Err, refl, sym, ap, subst, ◌∙◌, arith, inl, inr}
+use Rattle.std.specs.Prelude.{◌==◌}
 use Rattle.std.specs.List.{slice_get}
 use Rattle.std.specs.Option.{option_or}
-use Rattle.std.specs.Int.{bit_at}
 use Rattle.std.proofs.lemmas.Bool.Decides.{eqb_tells}
+use Rattle.std.proofs.lemmas.Nat.Bits.{bit_at_above}
+use Rattle.thr_base.specs.Held.{holds}
 use Rattle.lin_rows.specs.Row.{Row}
 use Rattle.lin_rows.specs.System.{System}
 use Rattle.farkas_cert.specs.Proof.{denying}
 use Rattle.farkas_cert.specs.declared.answers.LeaveKind.{LeaveKind}
-use Rattle.abstract_post.specs.Left.{leave_of, first_leave}
-use Rattle.abstract_post.specs.Found.{Tells, IsDecidedAt, AreDecided}
+use Rattle.rational_entail.specs.Entailment.{leave_of}
+use Rattle.transition_formula.specs.Program.{numbered}
+use Rattle.abstract_post.specs.Left.{first_leave}
+use Rattle.abstract_post.specs.inside.Found.{Tells, IsDecidedAt, AreDecided}
 
+-- a word holds no position above all of its own
+pub holds-above : (held k : ℕ) → 0 < k → held < 2 ^ (k - 1) → false ≡ holds held k
+holds-above held k from few = let none = bit_at_above held (k - 1) (k - 1) few (omega arith) in ap (λ b. b == 1) (sym none)
+
+no-atom : (atoms : List Row) (k : ℕ) (atom : Row) → k ≤ 0 → numbered atoms k ≡ Some atom → ⊥
+no-atom atoms zero atom below at = cc
+no-atom atoms (suc k) atom below at = absurd (omega arith)
+
+-- at first, nothing is asked
 pub none-decided : (system : System) (place : Row → Row) (atoms : List Row) → AreDecided system place atoms 0 0
-none-decided system place atoms = record { no_more = omega arith; each = λ k atom below at. absurd (omega arith) }
+none-decided system place atoms = record { no_more = omega arith; each = λ k atom below at. absurd (no-atom atoms k atom below at) }
 
-holds-from_bit : (holds : Bool) → cond {A = ℕ} holds 1 0 ≡ 1 → holds ≡ true
-holds-from_bit true e = refl
-holds-from_bit false e = absurd (omega arith)
-
-decided-at : (system : System) (row : Row) (next p : ℕ) (holds : Bool) → Tells system row (Ok holds) → bit_at next p ≡ cond {A = ℕ} holds 1 0 → IsDecidedAt system next p row
-decided-at system row next p holds tells bit = record {
-  held_is = (λ e. tells.1.0 (holds-from_bit holds (sym bit ∙ e)), λ entails. bit ∙ ap (λ b. cond {A = ℕ} b 1 0) (tells.1.1 entails));
+decided-at : (system : System) (row : Row) (next k : ℕ) (entailed : Bool) → Tells system row (Ok entailed) → holds next k ≡ entailed → IsDecidedAt system next k row
+decided-at system row next k entailed tells there = record {
+  held_is = (λ e. tells.1.0 (sym there ∙ e), λ entails. there ∙ tells.1.1 entails);
   decides = tells.0;
 }
 
-decided-kept : (system : System) (row : Row) (held next k : ℕ) → bit_at next k ≡ bit_at held k → IsDecidedAt system held k row → IsDecidedAt system next k row
+decided-kept : (system : System) (row : Row) (held next k : ℕ) → holds next k ≡ holds held k → IsDecidedAt system held k row → IsDecidedAt system next k row
 decided-kept system row held next k kept is = record {
   held_is = (λ e. is.held_is.0 (sym kept ∙ e), λ entails. kept ∙ is.held_is.1 entails);
   decides = is.decides;
 }
 
-pub decided-next : (system : System) (place : Row → Row) (atoms : List Row) (held next p : ℕ) (atom : Row) (holds : Bool) → AreDecided system place atoms held p → slice_get atoms p ≡ Some atom
-    → Tells system (place atom) (Ok holds) → next < 2 ^ (p + 1) → bit_at next p ≡ cond {A = ℕ} holds 1 0 → ((k : ℕ) → k ≢ p → bit_at next k ≡ bit_at held k)
-    → AreDecided system place atoms next (p + 1)
-decided-next system place atoms held next p atom holds are at tells few bit others = record {
+named-at : (atoms : List Row) (p k : ℕ) → k ≡ suc p → numbered atoms k ≡ slice_get atoms p
+named-at atoms p k same = ap (numbered atoms) same
+
+next-at : (system : System) (place : Row → Row) (atoms : List Row) (held next p q : ℕ) (atom : Row) (entailed : Bool) → AreDecided system place atoms held p → slice_get atoms p ≡ Some atom
+    → Tells system (place atom) (Ok entailed) → q ≡ suc p → holds next q ≡ entailed → ((k : ℕ) → 0 < k → k ≢ q → holds next k ≡ holds held k)
+    → (k : ℕ) (other : Row) → k ≤ q → numbered atoms k ≡ Some other → IsDecidedAt system next k (place other)
+next-at system place atoms held next p q atom entailed are at tells after bit others zero other below there = cc
+next-at system place atoms held next p q atom entailed are at tells after bit others (suc k) other below there = elim (eqb_tells (suc k) q) [
+  | inl (hit, same) ↦
+      let both : Some atom ≡ Some other = sym at ∙ sym (named-at atoms p (suc k) (same ∙ after)) ∙ there in
+      let one : atom ≡ other = cc in
+      decided-at system (place other) next (suc k) entailed (subst (λ a. Tells system (place a) (Ok entailed)) one tells) (ap (holds next) same ∙ bit)
+  | inr (miss, apart) ↦ decided-kept system (place other) held next (suc k) (others (suc k) (omega arith) apart) (are.each (suc k) other (omega arith) there)
+]
+
+pub decided-next : (system : System) (place : Row → Row) (atoms : List Row) (held next p q : ℕ) (atom : Row) (entailed : Bool) → AreDecided system place atoms held p → slice_get atoms p ≡ Some atom
+    → Tells system (place atom) (Ok entailed) → q ≡ suc p → next < 2 ^ q → holds next q ≡ entailed → ((k : ℕ) → 0 < k → k ≢ q → holds next k ≡ holds held k)
+    → AreDecided system place atoms next q
+decided-next system place atoms held next p q atom entailed are at tells after few bit others = record {
   no_more = few;
-  each = λ k other below there. elim (eqb_tells k p) [
-    | inl (hit, same) ↦
-        let both : Some other ≡ Some atom = sym there ∙ ap (slice_get atoms) same ∙ at in
-        let one : atom ≡ other = cc in
-        subst (λ j. IsDecidedAt system next j (place other)) (sym same) (subst (λ a. IsDecidedAt system next p (place a)) one (decided-at system (place atom) next p holds tells bit))
-    | inr (miss, apart) ↦ decided-kept system (place other) held next k (others k apart) (are.each k other (omega arith) there)
-  ];
+  each = next-at system place atoms held next p q atom entailed are at tells after bit others;
 }
 
 -- the first atom that is left undecided
@@ -63,4 +81,4 @@ pub left-at : (system : System) (place : Row → Row) (atoms : List Row) (held p
     → first_leave (system ∷ map (λ a. denying system (place a)) atoms) ≡ Some kind
 left-at system place atoms held p atom kind decided are at tells =
     ap (λ o. option_or o (first_leave (map (λ a. denying system (place a)) atoms))) decided
-    ∙ first-leave-at system place atoms p atom kind at tells (λ k other below there. (are.each k other below there).decides)
+    ∙ first-leave-at system place atoms p atom kind at tells (λ k other below there. (are.each (suc k) other (omega arith) there).decides)

@@ -1,4 +1,3 @@
-pub mod PlacedAtoms
 pub mod Decided
 pub mod Solved
 pub mod WorkedJobs

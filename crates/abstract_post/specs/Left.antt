@@ -1,26 +1,19 @@
 -- When a job is left undecided, and what an answer says of a job.
-use Rattle.std.specs.Prelude.{◌≡◌, List, [], ◌∷◌, map, Option, Some, None, option_map}
+use Rattle.std.specs.Prelude.{◌≡◌, List, [], ◌∷◌, map, Option, Some, None}
 use Rattle.std.specs.Option.{option_or}
 use Rattle.lin_rows.specs.Row.{Row}
 use Rattle.lin_rows.specs.System.{System}
 use Rattle.farkas_cert.specs.Proof.{denying}
-use Rattle.farkas_cert.specs.Elimination.{outcome_of}
 use Rattle.farkas_cert.specs.declared.answers.LeaveKind.{LeaveKind}
-use Rattle.rational_entail.specs.Entailment.{left_by}
+use Rattle.rational_entail.specs.Entailment.{leave_of}
 use Rattle.transition_formula.specs.Program.{Program}
 use Rattle.horn_rules.specs.declared.job.Job.{Job}
 use Rattle.horn_rules.specs.declared.posted.PostAnswer.{PostAnswer}
 use Rattle.horn_rules.specs.declared.posted.PostAnswer.TheVariants.{Posted, Left}
-use Rattle.horn_rules.specs.Fact.{Sets, Fact}
-use Rattle.horn_rules.specs.Instance.{Case}
-use Rattle.horn_rules.specs.Job.{IsCaseOf}
-use Rattle.horn_rules.specs.Posted.{IsOutcome}
+use Rattle.horn_rules.specs.Case.{Case}
+use Rattle.horn_rules.specs.Job.{ComesTo, IsOutcome}
 
--- the kind with which the elimination leaves a system undecided, if it does
-abbrev pub leave_of : System → Option LeaveKind
-leave_of system = option_map (λ left. left.1) (left_by (outcome_of system))
-
--- the kind of the first of these systems that it leaves undecided
+-- the kind with which the first of these systems is left that is left undecided
 abbrev pub first_leave : List System → Option LeaveKind
 first_leave [] = None
 first_leave (system ∷ systems) = option_or (leave_of system) (first_leave systems)
@@ -29,17 +22,15 @@ first_leave (system ∷ systems) = option_or (leave_of system) (first_leave syst
 abbrev pub systems_of : Case → List Row → List System
 systems_of given atoms = given.system ∷ map (λ atom. denying given.system (given.place atom)) atoms
 
--- The first of these that the elimination leaves undecided, it leaves with this kind.
+-- Some of these is left undecided, and the first one with this kind.
 abbrev pub IsLeft : Case → List Row → LeaveKind → Type 0
 IsLeft given atoms kind = first_leave (systems_of given atoms) ≡ Some kind
 
--- So it is with the job's instance.
+-- The job fits, and so it is with its case.
 abbrev pub IsJobLeft : Program → Job → LeaveKind → Type 0
-IsJobLeft program job kind =
-    (sets : Sets) (premises : List Fact) (given : Case) → IsCaseOf program sets job.instance job.first job.second premises given
-    → IsLeft given job.target.value kind
+IsJobLeft program job kind = (given : Case) × ComesTo program job given × IsLeft given job.target.value kind
 
--- The answer is one on this job: its post, or a kind with which it is left undecided.
+-- The answer is one on this job: its post, or the kind with which it is left undecided.
 abbrev pub IsPostAnswer : Program → Job → PostAnswer → Type 0
 IsPostAnswer program job (Posted done) = (done.job ≡ job) × IsOutcome program job done.held
 IsPostAnswer program job (Left given kind) = (given ≡ job) × IsJobLeft program job kind

@@ -1,3 +1,2 @@
 pub mod Left
-pub mod Found
-pub mod Worked
+pub mod inside

@@ -1,15 +1,18 @@
-ghost use Rattle.std.specs.Prelude.{◌≡◌, ◌≢◌, ℕ, ◌+◌, ◌^◌, ◌<◌, ◌≤◌, None, length, IfOk, cond};
-ghost use Rattle.std.specs.Int.{bit_at};
+ghost use Rattle.std.specs.Prelude.{◌≡◌, ◌≢◌, ℕ, ◌+◌, ◌-◌, ◌^◌, ◌<◌, ◌≤◌, None, length, IfOk};
 ghost use Rattle.std.specs.List.{AllByRecursion};
+ghost use Rattle.thr_base.specs.Held.{holds};
+ghost use Rattle.lin_rows.specs.View.{system_of};
 ghost use Rattle.farkas_cert.specs.Cert.{IsRefuted};
-ghost use Rattle.abstract_post.specs.Left.{leave_of};
-ghost use Rattle.abstract_post.specs.Found.{placed_at, Tells, IsFound};
+ghost use Rattle.rational_entail.specs.Entailment.{leave_of};
+ghost use Rattle.horn_rules.specs.Case.{placed_at};
+ghost use Rattle.abstract_post.specs.inside.Found.{Tells, IsFound};
 
-use crate::placing::placed;
-use farkas_cert::{Decided, LeaveKind};
+use farkas_cert::{Decided, LeaveKind, refuted_has_no_point};
+use horn_rules::placed;
 use lin_rows::{Atom, RowsView};
 use rational_entail::{Entailed, decide, entails};
 use std::alloc::{AllocError, Global};
+use thr_base::with_position;
 
 /// What a solver finds of an instance's rows and the predicates of its target.
 #[derive(Clone, Copy, Debug, PartialEq, Eq)]
@@ -27,8 +30,8 @@ fn entails_placed(
     before: u32,
     atom: &Atom,
 ) -> Result<Result<bool, LeaveKind>, AllocError>
-    requires { before + length atom.now.coefficients ≤ rows.now.columns }
-    ensures { IfOk result (Tells rows.now (placed_at before rows.now.columns atom.now)) }
+    requires { before + length atom.now.coefficients ≤ (system_of rows.now).columns }
+    ensures { IfOk result (Tells (system_of rows.now) (placed_at before (system_of rows.now).columns atom.now)) }
 {
     let atom = placed(alloc, atom, before, rows.columns())?;
     let entailed = entails(alloc, rows, &atom)?;
@@ -39,15 +42,20 @@ fn entails_placed(
     }
 }
 
-/// The held places with one more behind them, where it holds.
-fn with_place(held: u128, place: u32, holds: bool) -> u128
-    requires before { held < 2 ^ place }
-    requires within { place < 128 }
-    ensures within { result < 2 ^ (place + 1) }
-    ensures there { bit_at result place ≡ cond holds 1 0 }
-    ensures others { (k : ℕ) → k ≢ place → bit_at result k ≡ bit_at held k }
+/// The held positions with one more above them, where it holds.
+fn with_next(held: u128, position: u32, entailed: bool) -> u128
+    requires before { held < 2 ^ (position - 1) }
+    requires from_1 { 0 < position }
+    requires to_128 { position ≤ 128 }
+    ensures within { result < 2 ^ position }
+    ensures there { holds result position ≡ entailed }
+    ensures others { (k : ℕ) → 0 < k → k ≢ position → holds result k ≡ holds held k }
 {
-    if holds { held | 1 << place } else { held }
+    if entailed {
+        with_position(held, position)
+    } else {
+        held
+    }
 }
 
 /// Which of the atoms rows entail that have a point, or the kind with which the first is left that is left undecided.
@@ -58,15 +66,15 @@ fn decide_atoms(
     atoms: &[Atom],
 ) -> Result<Found, AllocError>
     requires few { length atoms.now ≤ 128 }
-    requires within { AllByRecursion (λ atom. before + length atom.coefficients ≤ rows.now.columns) atoms.now }
-    requires has_point { ¬ IsRefuted rows.now }
-    requires decided { leave_of rows.now ≡ None }
-    ensures { IfOk result (IsFound rows.now (placed_at before rows.now.columns) atoms.now) }
+    requires within { AllByRecursion (λ atom. before + length atom.coefficients ≤ (system_of rows.now).columns) atoms.now }
+    requires has_point { ¬ IsRefuted (system_of rows.now) }
+    requires decided { leave_of (system_of rows.now) ≡ None }
+    ensures { IfOk result (IsFound (system_of rows.now) (placed_at before (system_of rows.now).columns) atoms.now) }
 {
     let mut held = 0;
     'atoms: for (place, atom) in atoms.iter().enumerate() {
         match entails_placed(alloc, rows, before, atom)? {
-            Ok(holds) => held = with_place(held, place as u32, holds),
+            Ok(entailed) => held = with_next(held, place as u32 + 1, entailed),
             Err(kind) => return Ok(Found::Left(kind)),
         }
     }
@@ -81,9 +89,10 @@ pub fn solve(
     atoms: &[Atom],
 ) -> Result<Found, AllocError>
     requires few { length atoms.now ≤ 128 }
-    requires within { AllByRecursion (λ atom. before + length atom.coefficients ≤ rows.now.columns) atoms.now }
-    ensures { IfOk result (IsFound rows.now (placed_at before rows.now.columns) atoms.now) }
+    requires within { AllByRecursion (λ atom. before + length atom.coefficients ≤ (system_of rows.now).columns) atoms.now }
+    ensures { IfOk result (IsFound (system_of rows.now) (placed_at before (system_of rows.now).columns) atoms.now) }
 {
+    refuted_has_no_point();
     let decided = decide(alloc, rows)?;
     match decided {
         Decided::Refuted(_) => Ok(Found::Refuted),

@@ -3,7 +3,6 @@
 #![tactic(auto)]
 
 mod deciding;
-mod placing;
 mod posting;
 
 pub use posting::post;

@@ -3,9 +3,9 @@ ghost use Rattle.horn_rules.specs.Job.{IsJob};
 ghost use Rattle.abstract_post.specs.Left.{IsPostAnswer};
 
 use crate::deciding::{Found, solve};
-use crate::placing::in_front;
-use horn_rules::{Job, PostAnswer, Posted, instance_rows};
+use horn_rules::{Job, PostAnswer, Posted, atoms_are_placed, in_front, instance_rows};
 use std::alloc::{AllocError, Global};
+use thr_base::positions_are_those_held;
 use transition_formula::Program;
 
 /// The post of a job: nothing where its instance's rows are refuted, and else the positions of the target's predicates that
@@ -19,6 +19,8 @@ pub fn post<'p>(
     requires fits { IsJob program.now job }
     ensures { IfOk result (IsPostAnswer program.now job.entry) }
 {
+    atoms_are_placed();
+    positions_are_those_held();
     let rows = instance_rows(alloc, program, &job)?;
     let before = in_front(program.columns(), job.instance);
     let found = solve(alloc, &rows.view(), before, job.target.atoms())?;

@@ -1,8 +1,8 @@
 ghost use Rattle.std.specs.Prelude.{◌≡◌, ◌^◌, ◌<◌, length, IfOk, OnOk};
 ghost use Rattle.predicate_sets.specs.Sets.{set_at};
 ghost use Rattle.transition_formula.specs.AtomText.{atom_width};
-ghost use Rattle.transition_formula.specs.Worked.{worked_program};
-ghost use Rattle.abstract_post.specs.Worked.{AreAtomsOver, IsAtomSetOver};
+ghost use Rattle.transition_formula.specs.inside.Worked.{worked_program};
+ghost use Rattle.abstract_post.specs.inside.Worked.{AreAtomsOver, IsAtomSetOver};
 
 use super::*;
 use crate::deciding::Found;
@@ -66,6 +66,7 @@ fn first_held(count: usize) -> u128
 
 /// A premise that says the first predicate of a set, where there is one.
 fn premise(home: u32, set: Arc<HomeSet>) -> Premise
+    ensures id { result.id.0 ≡ 1 }
     ensures home { result.fact.home.0 ≡ home }
     ensures set { result.set.value ≡ set.value }
     ensures within { result.fact.held < 2 ^ length result.set.value }

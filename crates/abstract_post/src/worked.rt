@@ -1,6 +1,6 @@
 ghost use Rattle.std.specs.Prelude.{◌≡◌, ◌∷◌, [], map, option_map, IfOk};
 ghost use Rattle.transition_formula.specs.Stored.{column_of, edge_of, form_of, thread_of};
-ghost use Rattle.transition_formula.specs.Worked.{first_edge, own_form, second_edge, shared_form, worked_columns, worked_program, worked_test, worked_thread, worked_threads};
+ghost use Rattle.transition_formula.specs.inside.Worked.{first_edge, own_form, second_edge, shared_form, worked_columns, worked_program, worked_test, worked_thread, worked_threads};
 
 use lin_rows::Rows;
 use std::alloc::{AllocError, Global};

@@ -6,6 +6,7 @@ use Rattle.std.proofs.lemmas.Int.{ints}
 use Rattle.std.specs.Int.{int_signum}
 use Rattle.std.specs.List.{AllByRecursion}
 use Rattle.lin_rows.specs.System.{System, HasWidths}
+use Rattle.lin_rows.proofs.Lists.{AllByRecursion-append}
 use Rattle.farkas_cert.specs.Cert.{Pairs}
 use Rattle.farkas_cert.specs.Reduced.{IsReduced}
 use Rattle.lin_rows.specs.Gcd.{gcd}
@@ -17,7 +18,7 @@ use Rattle.farkas_cert.specs.Elimination.{Outcome, Refuted, Point, Leaves, Work,
 use Rattle.farkas_cert.specs.declared.answers.LeaveKind.TheVariants.{Overflow, Rows}
 use Rattle.farkas_cert.proofs.Integers.{linear}
 use Rattle.farkas_cert.proofs.Derived.{IsDerived, derived_by_equality, derived_by_pair}
-use Rattle.farkas_cert.proofs.Lists.{all_filter, all_append, all_map, all_flat_map, found, all_every, filter_all, all_both}
+use Rattle.farkas_cert.proofs.Lists.{all_filter, all_map, all_flat_map, found, all_every, filter_all, all_both}
 use Rattle.farkas_cert.proofs.Refuting.{IsProvedBy, false_refutes, all_given_derived}
 
 abbrev pub AllDerived : System → List Line → Type 0
@@ -154,7 +155,7 @@ pair_stage_sound system work h = by_limit (are_too_many system made) where
   by_limit true = tt
   by_limit false = follows_sound system work (Bounded c (with_column c work.lines)) made (option_map (λ pairs. without_column c work.lines ++ pairs) (pairs_at c work.lines))
       (λ lines e. let split = appended (without_column c work.lines) (pairs_at c work.lines) lines e in
-      rw (← split.2) (all_append (IsDerived system) (without_column c work.lines) split.0
+      rw (← split.2) (AllByRecursion-append (IsDerived system) (without_column c work.lines) split.0
       (all_filter (IsDerived system) (λ line. not (is_nonzero (coefficient_at c line))) work.lines h)
       (pairs_derived system c work.lines split.0 h split.1)))
 

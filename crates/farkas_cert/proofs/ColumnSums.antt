@@ -1,12 +1,14 @@
 -- The sum of a column, pair by pair.
-use Rattle.std.proofs.Common.{◌≡◌, ℕ, zero, suc, ◌+◌, ◌<◌, List, [], ◌∷◌, length, drop, get_or, Option, Some, None, Err, IsSome, Bool, true, false, ◌&&◌, if◌then◌else◌, ◌^◌, ℤ, pos, negsuc, ◌+ℤ◌, ◌*ℤ◌, refl, sym, ◌∙◌, ap, subst, drop-cons, add-one, true≢false, ltb-true, lt-ltb, arith}
+use Rattle.std.proofs.Common.{◌≡◌, ℕ, zero, suc, ◌+◌, ◌<◌, List, [], ◌∷◌, length, drop, get_or, Option, Some, None, Err, IsSome, ◌&&◌, ℤ, pos, ◌+ℤ◌, ◌*ℤ◌, refl, sym, ◌∙◌, ap, subst, drop-cons, add-one, arith}
 use Rattle.std.specs.Option.{option_map_or}
 use Rattle.thr_base.specs.Number.{Fits, fits}
 use Rattle.lin_rows.specs.Row.{Row, scaled}
 use Rattle.lin_rows.proofs.Integers.{mul-zero_ℤ}
+use Rattle.lin_rows.proofs.Numbers.{fits-true}
+use Rattle.lin_rows.proofs.Booleans.{both_true, given_where_true}
 use Rattle.farkas_cert.specs.Cert.{Pairs, InOrder, AllowsAt, row_numbered}
 use Rattle.farkas_cert.specs.Proof.{products, numbers_of}
-use Rattle.farkas_cert.specs.Columns.{added, column_from, number_at}
+use Rattle.farkas_cert.specs.inside.Columns.{added, column_from, number_at}
 
 pub get_or-scaled : (m : ℤ) (xs : List ℤ) (n : ℕ) → get_or (scaled m xs) n (pos 0) ≡ m *ℤ get_or xs n (pos 0)
 get_or-scaled m [] n = sym (mul-zero_ℤ m)
@@ -37,25 +39,7 @@ column_from-at rows sum column pairs n d sum' below e =
     ap (λ (ps : Pairs). column_from sum column (products rows ps)) (drop-cons pairs n d below) ∙ column_from-step rows sum column (get_or pairs n d) (drop (suc n) pairs) sum' e
     ∙ ap (λ i. option_map_or (λ more. column_from more column (products rows (drop i pairs))) sum' (Err (get_or pairs n d).0)) (sym (add-one n))
 
--- ---- what fits
-pub fits-true : (z : ℤ) → fits z ≡ true → Fits z
-fits-true (pos n) e = ltb-true n (2 ^ 127) e
-fits-true (negsuc n) e = ltb-true (suc n) (2 ^ 127) e
-
-pub true-fits : (z : ℤ) → Fits z → fits z ≡ true
-true-fits (pos n) h = lt-ltb n (2 ^ 127) h
-true-fits (negsuc n) h = lt-ltb (suc n) (2 ^ 127) h
-
-both_true : (a b : Bool) → (a && b) ≡ true → (a ≡ true) × (b ≡ true)
-both_true true true e = (refl, refl)
-both_true true false e = (refl, e)
-both_true false b e = absurd (true≢false (sym e))
-
-given : {A : Type 0} (b : Bool) (x y : A) → (if b then Some x else None) ≡ Some y → (b ≡ true) × (x ≡ y)
-given true x y e = (refl, cc)
-given false x y e = cc
-
 pub Fits-added : (sum product more : ℤ) → added sum product ≡ Some more → Fits more
 Fits-added sum product more e =
-    let parts = given (fits product && fits (product +ℤ sum)) (product +ℤ sum) more e in
+    let parts = given_where_true (fits product && fits (product +ℤ sum)) (product +ℤ sum) more e in
     subst Fits parts.1 (fits-true (product +ℤ sum) (both_true (fits product) (fits (product +ℤ sum)) parts.0).1)

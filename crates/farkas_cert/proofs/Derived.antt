@@ -1,5 +1,5 @@
 -- Each line of the elimination is the sum of the given rows by its multipliers, and refutes where it is false.
-use Rattle.std.proofs.Common.{◌≡◌, ℕ, zero, suc, ◌*◌, ◌<◌, ◌≤◌, refl, sym, ap, ◌∙◌, arith, subst, List, [], ◌∷◌, map, take, drop, get_or, Bool, true, false, cond, Some, None, ◌⊎◌, inl, inr}
+use Rattle.std.proofs.Common.{◌≡◌, ℕ, zero, suc, ◌*◌, ◌<◌, ◌≤◌, refl, sym, ap, ◌∙◌, arith, subst, List, [], ◌∷◌, map, take, drop, get_or, Bool, true, false, Some, ◌⊎◌, inl, inr}
 use Rattle.std.specs.Prelude.{ℤ, pos, ◌+ℤ◌, ◌-ℤ◌, ◌*ℤ◌, ◌≤ℤ◌}
 use Rattle.std.specs.Int.{◌∣◌}
 use Rattle.std.proofs.lemmas.Int.{unsigned_abs-mul}
@@ -9,6 +9,7 @@ use Rattle.std.proofs.Math.Nat.{mul-dvd-mul_left}
 use Rattle.lin_rows.specs.Row.{Row, product_of, scaled, sum_of}
 use Rattle.lin_rows.specs.System.{System}
 use Rattle.lin_rows.specs.Gcd.{gcd_of}
+use Rattle.lin_rows.proofs.Booleans.{given_where_true}
 use Rattle.farkas_cert.specs.Divided.{over, divided}
 use Rattle.farkas_cert.specs.Line.{Line, bound_of, multipliers_of, combination, combination_fits, made_line}
 use Rattle.lin_rows.proofs.Divisors.{DividesAll, AllZero, AllZero-from_gcd_of, gcd_of-greatest}
@@ -21,14 +22,10 @@ use Rattle.farkas_cert.proofs.Weighted.{values_at, bounds_of}
 
 -- ---- what is made
 
-some_of : {X : Type 0} (b : Bool) (x y : X) → cond b (Some x) None ≡ Some y → x ≡ y
-some_of true x y e = cc
-some_of false x y e = absurd cc
-
 pub made_is : (equal : Bool) (a : ℤ) (xs : List ℤ) (b : ℤ) (ys : List ℤ) (line : Line) → made_line equal a xs b ys ≡ Some line
     → record { equal = equal; numbers = divided (combination a xs b ys) } ≡ line
 unfolding made_line
-made_is equal a xs b ys line e = some_of (combination_fits a xs b ys) (record { equal = equal; numbers = divided (combination a xs b ys) }) line e
+made_is equal a xs b ys line e = (given_where_true (combination_fits a xs b ys) (record { equal = equal; numbers = divided (combination a xs b ys) }) line e).1
 
 -- ---- lists without a common divisor
 

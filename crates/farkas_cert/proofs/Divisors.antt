@@ -1,12 +1,11 @@
 -- Division by a common divisor is exact.
-use Rattle.std.proofs.Common.{◌≡◌, ℕ, zero, suc, ◌%◌, ◌<◌, ◌≤◌, refl, sym, ap, ◌∙◌, arith, List, [], ◌∷◌, map}
-use Rattle.std.specs.Prelude.{ℤ, pos, negsuc, ◌*ℤ◌, unsigned_abs}
+use Rattle.std.proofs.Common.{◌≡◌, ℕ, zero, suc, ◌%◌, ◌<◌, ◌≤◌, refl, sym, ◌∙◌, arith, List, [], ◌∷◌, map}
+use Rattle.std.specs.Prelude.{ℤ, pos, ◌*ℤ◌, unsigned_abs}
 use Rattle.std.specs.Int.{IsGcd, ◌∣◌}
 use Rattle.std.proofs.lemmas.Nat.{mod_below}
 use Rattle.std.proofs.lemmas.Nat.Gcd.{IsGcd-from_zero, IsGcd-from_mod}
-use Rattle.std.proofs.Math.Nat.{eq-zero_of_zero-dvd}
-use Rattle.lin_rows.specs.Gcd.{gcd_within, gcd, gcd_of}
-use Rattle.lin_rows.proofs.Divisors.{DividesAll, AllZero, AllZero-from_gcd_of, gcd_of-divides, exact_quotient}
+use Rattle.lin_rows.specs.Gcd.{gcd_within, gcd_of}
+use Rattle.lin_rows.proofs.Divisors.{DividesAll, AllZero, AllZero-from_gcd_of, gcd_of-divides, exact_quotient, zero_from_abs}
 use Rattle.farkas_cert.specs.Divided.{over, divided}
 use Rattle.lin_rows.proofs.Integers.{zero-mul_ℤ}
 
@@ -17,15 +16,8 @@ gcd_within-IsGcd (suc fuel) a (suc b) h =
     let falls : a % suc b < suc b = mod_below a (suc b) (omega arith) in
     IsGcd-from_mod a (suc b) (gcd_within fuel (suc b) (a % suc b)) (gcd_within-IsGcd fuel (suc b) (a % suc b) (omega arith))
 
-pub gcd-IsGcd : (a b : ℕ) → IsGcd a b (gcd a b)
-gcd-IsGcd a b = gcd_within-IsGcd b a b (omega arith)
-
-zero_divides : (x : ℤ) → 0 ∣ unsigned_abs x → x ≡ pos 0
-zero_divides (pos n) h = ap pos (eq-zero_of_zero-dvd h)
-zero_divides (negsuc n) h = let z = eq-zero_of_zero-dvd h in absurd (omega arith)
-
 pub over-exact : (g : ℕ) (x : ℤ) → g ∣ unsigned_abs x → pos g *ℤ over g x ≡ x
-over-exact zero x h = zero-mul_ℤ (over 0 x) ∙ sym (zero_divides x h)
+over-exact zero x h = zero-mul_ℤ (over 0 x) ∙ sym (zero_from_abs x h)
 over-exact (suc g) x h = sym (exact_quotient x (suc g) (omega arith) h)
 
 over_all : (g : ℕ) (xs : List ℤ) → DividesAll g xs → map (λ x. pos g *ℤ x) (map (over g) xs) ≡ xs

@@ -5,9 +5,10 @@ use Rattle.std.specs.Int.{int_signum, ◌∣◌}
 use Rattle.std.proofs.lemmas.Int.{unsigned_abs-mul, ints}
 use Rattle.std.proofs.Math.Nat.{dvd-mul_left_of_dvd, eq-zero_of_zero-dvd}
 use Rattle.lin_rows.specs.Gcd.{gcd}
+use Rattle.lin_rows.proofs.Divisors.{IsGcd-gcd}
 use Rattle.farkas_cert.specs.Divided.{over}
 use Rattle.farkas_cert.specs.Line.{is_nonzero}
-use Rattle.farkas_cert.proofs.Divisors.{gcd-IsGcd, over-exact}
+use Rattle.farkas_cert.proofs.Divisors.{over-exact}
 use Rattle.lin_rows.proofs.Integers.{mul-add_ℤ, mul_assoc_ℤ, mul_comm_ℤ, mul-neg_ℤ, neg-mul_ℤ, zero-mul_ℤ}
 use Rattle.farkas_cert.proofs.Integers.{linear, eq_of_mul_right_ℤ}
 
@@ -17,11 +18,6 @@ sign_self : (p : ℤ) → int_signum p *ℤ p ≡ pos (unsigned_abs p)
 sign_self (pos zero) = refl
 sign_self (pos (suc n)) = let m : min (suc n) 1 ≡ 1 = omega arith in rw m (omega (arith, ints))
 sign_self (negsuc n) = omega (arith, ints)
-
-abs-neg : (x : ℤ) → unsigned_abs (neg_ℤ x) ≡ unsigned_abs x
-abs-neg (pos zero) = refl
-abs-neg (pos (suc n)) = refl
-abs-neg (negsuc n) = refl
 
 pub nonzero_abs : (q : ℤ) → is_nonzero q ≡ true → 0 < unsigned_abs q
 nonzero_abs (pos zero) e = absurd cc
@@ -33,10 +29,10 @@ positive_from_divides zero n d h = let z = eq-zero_of_zero-dvd d in absurd (omeg
 positive_from_divides (suc g) n d h = omega arith
 
 pub gcd_positive : (p q : ℕ) → 0 < q → pos 0 <ℤ pos (gcd p q)
-gcd_positive p q h = let g = positive_from_divides (gcd p q) q (gcd-IsGcd p q).1 h in omega (arith, linear)
+gcd_positive p q h = let g = positive_from_divides (gcd p q) q (IsGcd-gcd p q).1 h in omega (arith, linear)
 
 pub gcd_positive_left : (p q : ℕ) → 0 < p → pos 0 <ℤ pos (gcd p q)
-gcd_positive_left p q h = let g = positive_from_divides (gcd p q) p (gcd-IsGcd p q).0 h in omega (arith, linear)
+gcd_positive_left p q h = let g = positive_from_divides (gcd p q) p (IsGcd-gcd p q).0 h in omega (arith, linear)
 
 pub positive_abs : (p : ℤ) → pos 0 <ℤ p → 0 < unsigned_abs p
 positive_abs (pos n) h = omega (arith, linear)
@@ -55,7 +51,7 @@ pub substitution_cancels : (p q : ℤ) → is_nonzero q ≡ true →
     let g = gcd (unsigned_abs p) (unsigned_abs q) in over g (pos (unsigned_abs p)) *ℤ q +ℤ neg_ℤ (over g (int_signum p *ℤ q)) *ℤ p ≡ pos 0
 substitution_cancels p q e =
     let g = gcd (unsigned_abs p) (unsigned_abs q) in
-    let d = gcd-IsGcd (unsigned_abs p) (unsigned_abs q) in
+    let d = IsGcd-gcd (unsigned_abs p) (unsigned_abs q) in
     let divides : g ∣ unsigned_abs (int_signum p *ℤ q) = rw (unsigned_abs-mul (int_signum p) q) (dvd-mul_left_of_dvd g d.1 (unsigned_abs (int_signum p))) in
     cancels_by (pos g) (over g (pos (unsigned_abs p))) q (neg_ℤ (over g (int_signum p *ℤ q))) p (pos (unsigned_abs p)) (neg_ℤ (int_signum p *ℤ q))
     (gcd_positive (unsigned_abs p) (unsigned_abs q) (nonzero_abs q e))
@@ -68,7 +64,7 @@ pub pairing_cancels : (p r : ℤ) → pos 0 <ℤ p →
 pairing_cancels p r h =
     let q = neg_ℤ r in
     let g = gcd (unsigned_abs p) (unsigned_abs q) in
-    let d = gcd-IsGcd (unsigned_abs p) (unsigned_abs q) in
+    let d = IsGcd-gcd (unsigned_abs p) (unsigned_abs q) in
     cancels_by (pos g) (over g q) p (over g p) r q p
     (gcd_positive_left (unsigned_abs p) (unsigned_abs q) (positive_abs p h))
     (over-exact g q d.1) (over-exact g p d.0)

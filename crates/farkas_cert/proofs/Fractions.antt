@@ -5,9 +5,10 @@ use Rattle.std.specs.Int.{int_div_euclid}
 use Rattle.std.proofs.lemmas.Int.{ints, by_lt_z}
 use Rattle.std.proofs.Math.Nat.{div-mul-le_self, lt-div-mul-add}
 use Rattle.lin_rows.specs.Gcd.{gcd}
+use Rattle.lin_rows.proofs.Divisors.{IsGcd-gcd}
 use Rattle.farkas_cert.specs.Divided.{over}
 use Rattle.farkas_cert.specs.BackSubstitution.{Fraction, whole, reduced_fraction, fraction, floor_of, ceiling_of, chosen}
-use Rattle.farkas_cert.proofs.Divisors.{gcd-IsGcd, over-exact}
+use Rattle.farkas_cert.proofs.Divisors.{over-exact}
 use Rattle.farkas_cert.proofs.Eliminates.{gcd_positive}
 use Rattle.lin_rows.proofs.Integers.{mul_comm_ℤ, mul-neg_ℤ, neg-mul_ℤ, zero-mul_ℤ}
 use Rattle.farkas_cert.proofs.Integers.{linear, mul-one_ℤ, mul_right_le_ℤ, le_of_mul_right_ℤ, factors}
@@ -126,7 +127,7 @@ positive_over g x s h e k = by_lt_z (pos 0) x (λ l. l) (λ l. absurd (omega (ar
 reduced_is : (t : ℤ) (s : ℕ) → 0 < s → IsFractionOf t (pos s) (reduced_fraction t s)
 reduced_is t s h =
     let g = gcd (unsigned_abs t) s in
-    let d = gcd-IsGcd (unsigned_abs t) s in
+    let d = IsGcd-gcd (unsigned_abs t) s in
     let left = over-exact g t d.0 in
     let right = over-exact g (pos s) d.1 in
     let swapped : over g t *ℤ (pos g *ℤ over g (pos s)) ≡ (pos g *ℤ over g t) *ℤ over g (pos s) = simp factors in

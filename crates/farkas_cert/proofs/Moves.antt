@@ -5,10 +5,11 @@ use Rattle.std.proofs.lemmas.List.{length-set, length-map, get_or-take}
 use Rattle.thr_base.specs.Number.{fits}
 use Rattle.lin_rows.specs.Row.{product_of, scaled}
 use Rattle.lin_rows.specs.Gcd.{gcd}
+use Rattle.lin_rows.proofs.Divisors.{IsGcd-gcd}
 use Rattle.farkas_cert.specs.Divided.{over}
 use Rattle.farkas_cert.specs.Line.{Line, coefficient_at, bound_of, all_fit}
 use Rattle.farkas_cert.specs.BackSubstitution.{RationalPoint, Fraction, assigned}
-use Rattle.farkas_cert.proofs.Divisors.{gcd-IsGcd, over-exact}
+use Rattle.farkas_cert.proofs.Divisors.{over-exact}
 use Rattle.farkas_cert.proofs.Eliminates.{gcd_positive, positive_abs}
 use Rattle.farkas_cert.proofs.Fractions.{positive_over, not_negative}
 use Rattle.lin_rows.proofs.Integers.{mul-add_ℤ, add-mul_ℤ, mul_assoc_ℤ, mul_comm_ℤ, mul-neg_ℤ, neg-mul_ℤ, mul-zero_ℤ, zero-mul_ℤ}
@@ -37,7 +38,7 @@ pub assigned_moved : (c : ℕ) (point : RationalPoint) (f : Fraction) (next : Ra
 unfolding assigned
 assigned_moved c point f next h k e =
     let g = gcd (unsigned_abs point.denominator) (unsigned_abs f.denominator) in
-    let d = gcd-IsGcd (unsigned_abs point.denominator) (unsigned_abs f.denominator) in
+    let d = IsGcd-gcd (unsigned_abs point.denominator) (unsigned_abs f.denominator) in
     let scale = over g f.denominator in
     let share = over g point.denominator in
     let numerators = slice_set (scaled scale point.numerators) c (f.numerator *ℤ share) in

@@ -1,10 +1,17 @@
 -- The rows that a certificate can name.
-use Rattle.std.proofs.Common.{◌≡◌, ℕ, zero, suc, ◌-◌, ◌<◌, ◌≤◌, List, [], ◌∷◌, ◌++◌, length, Option, Some, None, slice_get, IsSome, refl, ◌∙◌, ap, arith}
+use Rattle.std.proofs.Common.{◌≡◌, ℕ, zero, suc, ◌-◌, ◌<◌, ◌≤◌, List, [], ◌∷◌, ◌++◌, length, Option, Some, None, slice_get, IsSome, IfSome, option_map, neg_ℤ, refl, ◌∙◌, ap, arith}
 use Rattle.lin_rows.specs.Row.{Row}
-use Rattle.lin_rows.specs.System.{System}
-use Rattle.lin_rows.specs.Atom.{negation}
+use Rattle.lin_rows.specs.System.{System, IsRowOver, IsWellFormed, HasWidths}
+use Rattle.lin_rows.specs.Atom.{IsAtom, negation}
+use Rattle.lin_rows.specs.View.{row_of}
+use Rattle.lin_rows.specs.declared.row.RowView.{RowView}
+use Rattle.lin_rows.proofs.Atoms.{IsAtom-negation}
+use Rattle.lin_rows.proofs.Lists.{AllByRecursion-append, AllByRecursion-weaken}
+use Rattle.std.proofs.lemmas.List.{length-append, length-map}
 use Rattle.farkas_cert.specs.Cert.{row_numbered}
-use Rattle.farkas_cert.specs.Columns.{perhaps_denying}
+use Rattle.farkas_cert.specs.inside.Columns.{perhaps_denying, CanBeDenied}
+use Rattle.farkas_cert.specs.Proof.{denying}
+use Rattle.farkas_cert.specs.NamedRows.{IsNamed}
 
 none_is_not : IsSome {T = Row} None → ⊥
 none_is_not there = cc
@@ -50,3 +57,27 @@ row_numbered-none system (suc k) h there = slice_get-past system.rows k (omega a
 pub row_numbered-some : (rows : List Row) (k : ℕ) → IsSome (row_numbered rows k) → 0 < k
 row_numbered-some rows zero there = absurd (none_is_not there)
 row_numbered-some rows (suc k) there = omega arith
+
+-- ---- what is known of all of them
+named_alone : (system : System) → IsWellFormed system → IsNamed system
+named_alone system held = record { columns = held.columns; count = let few = held.count in omega arith; rows = held.rows }
+
+over-negation : (columns : ℕ) (atom : Row) → IsAtom atom → length atom.coefficients ≡ columns → IsRowOver columns (negation atom)
+over-negation columns atom is_atom width = record { width = length-map atom.coefficients neg_ℤ ∙ width; fits = (IsAtom-negation atom is_atom).fits }
+
+named_denying : (system : System) (atom : Row) → IsWellFormed system → CanBeDenied system atom → IsNamed (denying system atom)
+named_denying system atom held can =
+    let few = held.count in
+    let more = length-append system.rows (negation atom ∷ []) in record {
+      columns = held.columns;
+      count = omega arith;
+      rows = AllByRecursion-append (IsRowOver system.columns) system.rows (negation atom ∷ []) held.rows (over-negation system.columns atom can.is_atom can.width, tt);
+    }
+
+pub IsNamed-perhaps_denying : (system : System) (denied : Option RowView) → IsWellFormed system → IfSome denied (λ atom. CanBeDenied system (row_of atom))
+    → IsNamed (perhaps_denying system (option_map row_of denied))
+IsNamed-perhaps_denying system None held can = named_alone system held
+IsNamed-perhaps_denying system (Some atom) held can = named_denying system (row_of atom) held can
+
+pub HasWidths-named : (system : System) → IsNamed system → HasWidths system
+HasWidths-named system named = AllByRecursion-weaken (IsRowOver system.columns) (λ row. length row.coefficients ≡ system.columns) (λ row over. over.width) system.rows named.rows

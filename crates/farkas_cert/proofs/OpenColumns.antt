@@ -9,6 +9,7 @@ use Rattle.std.proofs.Math.Nat.{min-eq_left, min-eq_right}
 use Rattle.std.proofs.lemmas.Int.{ints}
 use Rattle.lin_rows.specs.System.{System}
 use Rattle.lin_rows.specs.Gcd.{gcd}
+use Rattle.lin_rows.proofs.Lists.{AllByRecursion-append}
 use Rattle.farkas_cert.specs.Divided.{over}
 use Rattle.farkas_cert.specs.Line.{Line, coefficient_at, has_variable, is_nonzero, combination, made_line, lowest_column, lowest_of}
 use Rattle.farkas_cert.specs.BackSubstitution.{Kept, Solved, Bounded}
@@ -17,7 +18,7 @@ use Rattle.farkas_cert.specs.declared.answers.LeaveKind.TheVariants.{Rows}
 use Rattle.farkas_cert.proofs.Linear.{get-linear, of_combination, divided_vanishes}
 use Rattle.farkas_cert.proofs.Derived.{made_is, made_vanishes}
 use Rattle.farkas_cert.proofs.Eliminates.{substitution_cancels, pairing_cancels}
-use Rattle.farkas_cert.proofs.Lists.{all_filter, all_both, all_append, all_from, all_map, all_flat_map, all_every}
+use Rattle.farkas_cert.proofs.Lists.{all_filter, all_both, all_from, all_map, all_flat_map, all_every}
 use Rattle.farkas_cert.proofs.Certificates.{appended, all_kept}
 
 -- ---- how many columns are open
@@ -270,6 +271,6 @@ pair_stage_closes system f work i h = by_limit (are_too_many system made) where
   by_limit false = closes_follows system.columns f work (Bounded c (with_column c work.lines)) made c (option_map (λ pairs. without_column c work.lines ++ pairs) (pairs_at c work.lines)) i
       (λ lines e. let split = appended (without_column c work.lines) (pairs_at c work.lines) lines e in
       subst (λ (all : List Line). AllWithin system.columns (close c f) all) split.2
-      (all_append (IsWithin system.columns (close c f)) (without_column c work.lines) split.0
+      (AllByRecursion-append (IsWithin system.columns (close c f)) (without_column c work.lines) split.0
       (without_column_within system.columns c f work.lines h)
       (pairs_close system.columns c f work.lines split.0 h split.1)))

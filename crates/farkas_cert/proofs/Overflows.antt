@@ -6,7 +6,7 @@ use Rattle.std.specs.List.{AllByRecursion}
 use Rattle.thr_base.specs.Number.{fits}
 use Rattle.lin_rows.specs.Row.{sum_of}
 use Rattle.farkas_cert.specs.Proof.{unfit_place, first_unfit}
-use Rattle.farkas_cert.specs.Columns.{added, column_from, earlier}
+use Rattle.farkas_cert.specs.inside.Columns.{added, column_from, earlier}
 
 abbrev Terms : Type 0
 Terms = List (ℕ × List ℤ)

@@ -6,7 +6,7 @@ use Rattle.lin_rows.specs.Row.{Row, Meets, MeetsOver, product_of, scaled, sum_of
 use Rattle.lin_rows.specs.Atom.{negation}
 use Rattle.lin_rows.proofs.Integers.{mul-le-mul_ℤ, mul-lt-mul_ℤ, mul_assoc_ℤ, add-mul_ℤ, mul_comm_ℤ, mul-zero_ℤ}
 use Rattle.lin_rows.proofs.Lists.{AllByRecursion-append, AllByRecursion-weaken}
-use Rattle.lin_rows.proofs.Points.{product_of-scaled, product_of-sum_of, product_of-AllZero}
+use Rattle.lin_rows.proofs.Points.{product_of-scaled, product_of-sum_of, product_of-AllZero, MeetsOver-one}
 use Rattle.lin_rows.proofs.Atoms.{Meets-inequality, Meets-negation}
 use Rattle.farkas_cert.specs.Cert.{Pairs, InOrder, Allows, AllowsAt, row_numbered, add_weighted, weighted_sum}
 use Rattle.farkas_cert.specs.Proof.{RefutedHasNoPoint, PointsMeetEntailed, denying}
@@ -64,12 +64,6 @@ refuted-has-no-point system x d refuted point =
     let none = product_of-AllZero ws.coefficients x refuted.1.contradicts.cancels in
     let below = negative-times ws.bound d refuted.1.contradicts.negative point.positive in
     omega (arith, ints)
-
--- a whole point is a rational one
-MeetsOver-one : (row : Row) (z : List ℤ) → Meets row z → MeetsOver row z (pos 1)
-MeetsOver-one row z meets =
-    let one : row.bound ≡ row.bound *ℤ pos 1 = omega (arith, ints) in
-    subst (λ b. MatchBool row.equal (product_of row.coefficients z ≡ b) (product_of row.coefficients z ≤ℤ b)) one meets
 
 pub points-meet-entailed : PointsMeetEntailed
 points-meet-entailed system atom z is_atom entails point =

@@ -7,6 +7,7 @@ use Rattle.std.proofs.lemmas.Int.{ints}
 use Rattle.std.proofs.lemmas.Nat.Gcd.{le_of_dvd, dvd-zero}
 use Rattle.lin_rows.specs.Row.{Row, product_of}
 use Rattle.lin_rows.specs.System.{System}
+use Rattle.lin_rows.proofs.Booleans.{both_true}
 use Rattle.farkas_cert.specs.Cert.{Refutes, weighted_sum}
 use Rattle.farkas_cert.specs.Reduced.{IsReduced}
 use Rattle.farkas_cert.specs.Line.{Line, given_line, given_lines, bound_of, multipliers_of, is_nonzero, has_variable, fails, is_false, refuting, listed}
@@ -111,10 +112,6 @@ all_given_derived system k (row ∷ rows) e w =
 
 -- ---- lines without a variable
 
-pub both : (a b : Bool) → (a && b) ≡ true → (a ≡ true) × (b ≡ true)
-both true b e = (refl, e)
-both false b e = absurd cc
-
 pub not_true : (a : Bool) → not a ≡ true → a ≡ false
 not_true true e = absurd cc
 not_true false e = refl
@@ -214,5 +211,5 @@ pub false_refutes : (system : System) (line : Line) → IsDerived system line �
     → IsProvedBy system (refuting system.columns line)
 unfolding is_false refuting
 false_refutes system line h f =
-    let parts = both (not (has_variable system.columns line)) (fails line.equal (bound_of system.columns line)) f in
+    let parts = both_true (not (has_variable system.columns line)) (fails line.equal (bound_of system.columns line)) f in
     by_kind system line line.equal (int_lt (pos 0) (bound_of system.columns line)) refl refl h (no_variable system.columns line (not_true (has_variable system.columns line) parts.0)) parts.1

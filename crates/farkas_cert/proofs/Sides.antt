@@ -4,11 +4,12 @@ use Rattle.std.specs.Prelude.{ℤ, pos, negsuc, neg_ℤ, ◌+ℤ◌, ◌-ℤ◌,
 use Rattle.std.specs.Int.{int_signum, IsGcd}
 use Rattle.std.proofs.lemmas.List.{get_or-take}
 use Rattle.lin_rows.specs.Gcd.{gcd}
+use Rattle.lin_rows.proofs.Divisors.{IsGcd-gcd}
 use Rattle.farkas_cert.specs.Divided.{over, divided}
 use Rattle.farkas_cert.specs.Line.{Line, coefficient_at, is_nonzero, combination, made_line}
 use Rattle.farkas_cert.specs.BackSubstitution.{RationalPoint, Fraction, bound_on}
 use Rattle.farkas_cert.specs.Elimination.{paired, substituted}
-use Rattle.farkas_cert.proofs.Divisors.{gcd-IsGcd, over-exact}
+use Rattle.farkas_cert.proofs.Divisors.{over-exact}
 use Rattle.farkas_cert.proofs.Eliminates.{gcd_positive_left, positive_abs, nonzero_abs}
 use Rattle.farkas_cert.proofs.Fractions.{IsAtMost, IsFractionOf, fraction_is, positive_over, not_negative}
 use Rattle.lin_rows.proofs.Integers.{mul-add_ℤ, add-mul_ℤ, mul_assoc_ℤ, mul_comm_ℤ, mul-neg_ℤ, neg-mul_ℤ, mul-zero_ℤ, zero-mul_ℤ}
@@ -155,7 +156,7 @@ substituted_back n c point equality line next z t m e h = at (is_nonzero q) refl
 
   positive : pos 0 <ℤ a
   positive = positive_over (pos g) a (pos (unsigned_abs p)) (gcd_positive_left (unsigned_abs p) (unsigned_abs q) (nonzero_abs p z))
-      (over-exact g (pos (unsigned_abs p)) (gcd-IsGcd (unsigned_abs p) (unsigned_abs q)).0) (omega (arith, linear, nonzero_abs p z))
+      (over-exact g (pos (unsigned_abs p)) (IsGcd-gcd (unsigned_abs p) (unsigned_abs q)).0) (omega (arith, linear, nonzero_abs p z))
 
   at : (k : Bool) → is_nonzero q ≡ k → cond k (made_line line.equal a line.numbers b equality.numbers) (Some line) ≡ Some next
       → MeetsLine n point line
@@ -202,7 +203,7 @@ paired_bounds n c point positive negative next f g l d hp hn i k e h = record {
   r = gcd (unsigned_abs p) (unsigned_abs q)
 
   at : IsGcd (unsigned_abs p) (unsigned_abs q) r
-  at = gcd-IsGcd (unsigned_abs p) (unsigned_abs q)
+  at = IsGcd-gcd (unsigned_abs p) (unsigned_abs q)
 
   hq : pos 0 <ℤ q
   hq = omega (arith, linear)

@@ -8,10 +8,11 @@ use Rattle.std.specs.List.{AllByRecursion}
 use Rattle.thr_base.specs.Number.{fits}
 use Rattle.lin_rows.specs.Row.{Row, scaled, sum_of}
 use Rattle.lin_rows.specs.System.{System, HasWidths}
+use Rattle.lin_rows.proofs.Booleans.{both_true}
 use Rattle.farkas_cert.specs.Cert.{Pairs, InOrder, AllowsAt, IsContradiction, row_numbered, add_weighted, weighted_sum}
 use Rattle.farkas_cert.specs.Proof.{products, numbers_of, first_unfit, overflow_of}
-use Rattle.farkas_cert.specs.Columns.{added, column_from, earlier}
-use Rattle.farkas_cert.specs.Weighing.{weighed_with, weighed_to, is_below_zero, answer_of, answered}
+use Rattle.farkas_cert.specs.inside.Columns.{added, column_from, earlier}
+use Rattle.farkas_cert.specs.inside.Weighing.{weighed_with, weighed_to, is_below_zero, answer_of, answered}
 use Rattle.farkas_cert.specs.Answer.{IsCertAnswer}
 use Rattle.farkas_cert.specs.declared.columns.Weighed.{Weighed}
 use Rattle.farkas_cert.proofs.ColumnSums.{get_or-scaled}
@@ -148,12 +149,6 @@ AllZero-place : (xs : List ℤ) (i : ℕ) → AllZero xs → get_or xs i (pos 0)
 AllZero-place [] i all = refl
 AllZero-place (x ∷ xs) zero all = all.0
 AllZero-place (x ∷ xs) (suc i) all = AllZero-place xs i all.1
-
--- ---- tests
-pub both_true : (a b : Bool) → (a && b) ≡ true → (a ≡ true) × (b ≡ true)
-both_true true true e = (refl, refl)
-both_true true false e = (refl, e)
-both_true false b e = absurd (true≢false (sym e))
 
 true_both : (a b : Bool) → a ≡ true → b ≡ true → (a && b) ≡ true
 true_both true true p q = refl

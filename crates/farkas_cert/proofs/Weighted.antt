@@ -7,6 +7,7 @@ use Rattle.std.proofs.lemmas.Int.{unsigned_abs-mul}
 use Rattle.std.proofs.lemmas.Nat.Gcd.{dvd-zero}
 use Rattle.std.proofs.Math.Nat.{dvd-mul_right}
 use Rattle.lin_rows.specs.Row.{Row, product_of, scaled}
+use Rattle.lin_rows.proofs.Points.{product_of-nil}
 use Rattle.farkas_cert.specs.Cert.{add_weighted, row_numbered, weighted_sum}
 use Rattle.farkas_cert.specs.Divided.{over}
 use Rattle.farkas_cert.specs.Line.{listed}
@@ -70,15 +71,11 @@ weighted_bound all (row ∷ rows) k equal (negsuc m ∷ ms) e h =
     added_bound (row_numbered all (suc k)) row (negsuc m) (weighted_sum all (listed (suc (suc k)) ms)) at.0
     ∙ ap (λ t. negsuc m *ℤ row.bound +ℤ t) (weighted_bound all rows (suc k) equal ms at.1 h.1)
 
-product_none : (xs : List ℤ) → product_of xs [] ≡ pos 0
-product_none [] = refl
-product_none (x ∷ xs) = refl
-
 -- A list whose products all vanish is zeros.
 pub zeros_from_products : (xs : List ℤ) → ((y : List ℤ) → product_of xs y ≡ pos 0) → AllByRecursion (λ a. a ≡ pos 0) xs
 zeros_from_products [] h = tt
 zeros_from_products (x ∷ xs) h = (
-  omega (arith, linear, h (pos 1 ∷ []), mul-one_ℤ x, product_none xs),
+  omega (arith, linear, h (pos 1 ∷ []), mul-one_ℤ x, product_of-nil xs),
   zeros_from_products xs (λ y. omega (arith, linear, h (pos 0 ∷ y), mul-zero_ℤ x)),
 )
 

@@ -3,6 +3,7 @@
 use Rattle.std.specs.Prelude.{ℕ, zero, suc, ◌+◌, ◌*◌, ℤ, pos, neg_ℤ, ◌*ℤ◌, unsigned_abs, Bool, false, cond, not, nat_lt, int_lt, List, [], ◌∷◌, ◌++◌, map, length, filter, flat_map, find, replicate, if◌then◌else◌, Option, Some, None, is_none}
 use Rattle.std.specs.Int.{int_signum}
 use Rattle.std.specs.Option.{option_map}
+use Rattle.thr_base.specs.Limits.{most_elimination_rows}
 use Rattle.lin_rows.specs.System.{System}
 use Rattle.farkas_cert.specs.Cert.{Pairs}
 use Rattle.lin_rows.specs.Gcd.{gcd}
@@ -33,10 +34,6 @@ pub record Work : Type 0 where
 pub data Next : Type 0 where
   Goes : Work → Next
   Ends : Outcome → Next
-
--- so many rows may be given and made by pairs
-abbrev pub row_limit : ℕ
-row_limit = 8192
 
 -- the values, where each is there
 unfoldable pub every : {X : Type 0} → List (Option X) → Option (List X)
@@ -125,7 +122,7 @@ pairs_at c lines = every (flat_map (λ positive. map (paired c positive) (negati
 
 -- The given rows, and those that pairs made so far and in this stage, are too many.
 abbrev pub are_too_many : System → ℕ → Bool
-are_too_many system made = nat_lt row_limit (length system.rows + made)
+are_too_many system made = nat_lt most_elimination_rows (length system.rows + made)
 
 -- The lines with the lowest column of all leave the list and are kept for it; the pairs come after the others. Whether there are
 -- too many is looked at before any pair is made.

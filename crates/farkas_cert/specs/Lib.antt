@@ -2,11 +2,11 @@ pub mod Cert
 pub mod Proof
 pub mod Point
 pub mod Answer
-pub mod RowAnswer
-pub mod Columns
-pub mod Weighing
 pub mod Reduced
 pub mod Divided
 pub mod Line
 pub mod BackSubstitution
 pub mod Elimination
+pub mod NamedRows
+pub mod Decision
+pub mod inside

@@ -1,25 +1,16 @@
--- The order in which a check of a point makes its products and sums.
-use Rattle.std.specs.Prelude.{◌≡◌, ℕ, suc, ◌-◌, ℤ, pos, ◌+ℤ◌, ◌*ℤ◌, List, [], ◌∷◌, length, take, Option, Some, None, option_map, IsSomeAnd, ◌&&◌, if◌then◌else◌}
-use Rattle.std.specs.Option.{option_or, option_map_or}
+-- When a row holds at a rational point by products and sums that fit.
+use Rattle.std.specs.Prelude.{◌≡◌, ℕ, ◌-◌, ℤ, ◌*ℤ◌, List, length, take, Option, Some, None, IsSomeAnd, if◌then◌else◌}
+use Rattle.std.specs.Option.{option_or}
 use Rattle.std.specs.List.{AllByRecursion}
 use Rattle.thr_base.specs.Number.{fits}
 use Rattle.lin_rows.specs.Row.{Row, MeetsOver}
+use Rattle.lin_rows.specs.Sum.{sum_overflow}
 use Rattle.farkas_cert.specs.Cert.{row_numbered}
-
--- the sum with one more product, where both fit
-abbrev pub summed : ℤ → ℤ → Option ℤ
-summed sum product = if fits product && fits (sum +ℤ product) then Some (sum +ℤ product) else None
-
--- the first place at which a product of two lists, or the sum up to it, does not fit
-abbrev pub sum_overflow : ℤ → List ℤ → List ℤ → Option ℕ
-sum_overflow sum [] ys = None
-sum_overflow sum (x ∷ xs) [] = None
-sum_overflow sum (x ∷ xs) (y ∷ ys) = option_map_or (λ more. option_map suc (sum_overflow more xs ys)) (summed sum (x *ℤ y)) (Some 0)
 
 -- The first column of a row at x / d at which a product or a sum does not fit. The bound times d comes last.
 abbrev pub row_overflow : List ℤ → ℤ → Row → Option ℕ
 row_overflow x d row =
-    option_or (sum_overflow (pos 0) row.coefficients x) (if fits (row.bound *ℤ d) then None else Some (length row.coefficients))
+    option_or (sum_overflow row.coefficients x) (if fits (row.bound *ℤ d) then None else Some (length row.coefficients))
 
 -- The row holds at x / d, and every product and sum on the way fits.
 pub record Passes (x : List ℤ) (d : ℤ) (row : Row) : Type 0 where

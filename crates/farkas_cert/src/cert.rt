@@ -1,4 +1,5 @@
 ghost use Rattle.std.specs.Prelude.{◌≡◌, ◌<◌, ◌↔◌, length, IsTrue};
+ghost use Rattle.lin_rows.specs.View.{system_of};
 ghost use Rattle.farkas_cert.specs.Cert.{InOrder, AllowsAt, row_numbered};
 ghost use Rattle.farkas_cert.specs.Proof.{Entails, Proves, denying};
 ghost use Rattle.farkas_cert.specs.Answer.{IsCertAnswer};
@@ -58,7 +59,8 @@ fn is_in_order(rows: &NamedRows<'_>, cert: &[(u32, i128)]) -> bool
     true
 }
 
-fn check(rows: &NamedRows<'_>, cert: &[(u32, i128)]) -> CertAnswer
+/// Whether a certificate refutes the rows that it can name, by products and sums that fit.
+pub fn check_named(rows: &NamedRows<'_>, cert: &[(u32, i128)]) -> CertAnswer
     ensures answer { IsCertAnswer rows.now cert.now result }
     ensures proves { (result ≡ CertAnswer.Proves) ↔ Proves rows.now cert.now }
 {
@@ -71,19 +73,19 @@ fn check(rows: &NamedRows<'_>, cert: &[(u32, i128)]) -> CertAnswer
 
 /// Whether a certificate refutes the rows, by products and sums that fit.
 pub fn check_cert(rows: &RowsView<'_>, cert: &[(u32, i128)]) -> CertAnswer
-    ensures answer { IsCertAnswer rows.now cert.now result }
-    ensures proves { (result ≡ CertAnswer.Proves) ↔ Proves rows.now cert.now }
+    ensures answer { IsCertAnswer (system_of rows.now) cert.now result }
+    ensures proves { (result ≡ CertAnswer.Proves) ↔ Proves (system_of rows.now) cert.now }
 {
-    check(&NamedRows::of(rows), cert)
+    check_named(&NamedRows::of(rows), cert)
 }
 
 /// Whether a certificate refutes the rows together with the negation of an atom, which is one more row after
 /// the last.
 pub fn check_entails(rows: &RowsView<'_>, atom: &Atom, cert: &[(u32, i128)]) -> CertAnswer
-    requires { length atom.now.coefficients ≡ rows.now.columns }
-    ensures answer { IsCertAnswer (denying rows.now atom.now) cert.now result }
-    ensures proves { (result ≡ CertAnswer.Proves) ↔ Proves (denying rows.now atom.now) cert.now }
-    ensures entailed { result ≡ CertAnswer.Proves → Entails rows.now atom.now }
+    requires { length atom.now.coefficients ≡ (system_of rows.now).columns }
+    ensures answer { IsCertAnswer (denying (system_of rows.now) atom.now) cert.now result }
+    ensures proves { (result ≡ CertAnswer.Proves) ↔ Proves (denying (system_of rows.now) atom.now) cert.now }
+    ensures entailed { result ≡ CertAnswer.Proves → Entails (system_of rows.now) atom.now }
 {
-    check(&NamedRows::denying(rows, atom), cert)
+    check_named(&NamedRows::denying(rows, atom), cert)
 }

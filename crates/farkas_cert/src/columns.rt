@@ -1,8 +1,8 @@
 ghost use Rattle.std.specs.Prelude.{◌≡◌, pos, ◌*ℤ◌, ◌≤◌, Some, IsSome};
 ghost use Rattle.farkas_cert.specs.Cert.{InOrder, row_numbered};
 ghost use Rattle.farkas_cert.specs.Proof.{products};
-ghost use Rattle.farkas_cert.specs.Columns.{added, column_from, earlier, number_at};
-ghost use Rattle.farkas_cert.specs.Weighing.{weighed_with, weighed_to, answered};
+ghost use Rattle.farkas_cert.specs.inside.Columns.{added, column_from, earlier, number_at};
+ghost use Rattle.farkas_cert.specs.inside.Weighing.{weighed_with, weighed_to, answered};
 ghost use Rattle.farkas_cert.specs.Answer.{IsCertAnswer};
 
 use crate::answers::CertAnswer;

@@ -1,13 +1,11 @@
 ghost use Rattle.std.specs.Prelude.{◌≡◌, pos, ◌*ℤ◌, ◌<◌, ◌≤ℤ◌, ◌<ℤ◌, ◌^◌, ◌↔◌, length, slice_index_or, None, Some, IfOk, IfErr, IsTrue, MatchBool};
-ghost use Rattle.lin_rows.specs.Row.{product_of};
 ghost use Rattle.lin_rows.specs.System.{IsRationalPoint};
-ghost use Rattle.lin_rows.specs.View.{row_of};
-ghost use Rattle.farkas_cert.specs.Point.{sum_overflow, summed};
+ghost use Rattle.lin_rows.specs.View.{row_of, system_of};
 ghost use Rattle.farkas_cert.specs.Answer.{IsPointAnswer};
-ghost use Rattle.farkas_cert.specs.RowAnswer.{IsRowAnswer};
+ghost use Rattle.farkas_cert.specs.inside.RowAnswer.{IsRowAnswer};
 
 use crate::answers::PointAnswer;
-use lin_rows::{RowView, RowsView, product_if_fits, sum_if_fits};
+use lin_rows::{RowView, RowsView, product_if_fits, sum_of_products};
 use std::marker::Model;
 
 /// The numerators of a point, which contracts see as their list.
@@ -52,34 +50,6 @@ enum RowAnswer {
     Overflow(u32),
 }
 
-/// The sum with the product at a place added, where both fit.
-fn add_product(coefficients: &[i128], x: &[i128], place: usize, sum: i128) -> Option<i128>
-    requires lengths { length coefficients.now ≡ length x.now }
-    requires within { place < length coefficients.now }
-    ensures { result ≡ summed sum (slice_index_or coefficients.now place (pos 0) *ℤ slice_index_or x.now place (pos 0)) }
-{
-    let product = product_if_fits(coefficients[place], x[place])?;
-    sum_if_fits(sum, product)
-}
-
-/// The sum of the products of two lists, or the first place at which a product or the sum does not fit.
-fn sum_of_products(coefficients: &[i128], x: &[i128]) -> Result<i128, u32>
-    requires lengths { length coefficients.now ≡ length x.now }
-    requires small { length coefficients.now < 2 ^ 32 }
-    ensures sum { IfOk result (λ sum. sum ≡ product_of coefficients.now x.now) }
-    ensures fits { IfOk result (λ _. sum_overflow (pos 0) coefficients.now x.now ≡ None) }
-    ensures overflow { IfErr result (λ place. sum_overflow (pos 0) coefficients.now x.now ≡ Some place) }
-{
-    let mut sum = 0;
-    'places: for place in 0..coefficients.len() {
-        match add_product(coefficients, x, place, sum) {
-            Some(more) => sum = more,
-            None => return Err(place as u32),
-        }
-    }
-    Ok(sum)
-}
-
 fn holds(equal: bool, sum: i128, bound: i128) -> bool
     ensures { IsTrue result ↔ MatchBool equal (sum ≡ bound) (sum ≤ℤ bound) }
 {
@@ -107,10 +77,10 @@ fn row_answer(row: &RowView<'_>, x: &[i128], d: i128) -> RowAnswer
 
 /// Whether `x / d` is a point of the rows, by products and sums that fit.
 pub fn check_point(rows: &RowsView<'_>, x: &[i128], d: i128) -> PointAnswer
-    requires whole { length x.now ≡ rows.now.columns }
+    requires whole { length x.now ≡ (system_of rows.now).columns }
     requires positive { pos 0 <ℤ d }
-    ensures answer { IsPointAnswer rows.now x.now d result }
-    ensures point { result ≡ PointAnswer.Meets → IsRationalPoint rows.now x.now d }
+    ensures answer { IsPointAnswer (system_of rows.now) x.now d result }
+    ensures point { result ≡ PointAnswer.Meets → IsRationalPoint (system_of rows.now) x.now d }
 {
     'rows: for place in 0..rows.count() {
         match row_answer(&rows.row(place), x, d) {

@@ -165,3 +165,30 @@ fn evidence_is_read_as_it_was_made(rt: HostRuntime) -> Result<(), Fail> {
     assert_eq!(rt; point.into_vec().as_slice(), [3].as_slice());
     Ok(())
 }
+
+#[test]
+fn rows_that_can_be_named(rt: HostRuntime) -> Result<(), Fail> {
+    let rows = inequalities(rt.alloc(), &[4], 0, &[-1], 5)?;
+    let row = RowView {
+        equal: false,
+        coefficients: &[1],
+        bound: 1,
+    };
+    let Ok(NormalForm::Atom(atom)) = normal(rt.alloc(), &row) else {
+        panic!(rt; "no atom");
+    };
+    let view = rows.view();
+    assert_eq!(rt; NamedRows::of(&view).count(), 2);
+    let named = NamedRows::denying(&view, &atom);
+    assert_eq!(rt; (named.columns(), named.count()), (1, 3));
+    assert_eq!(rt;
+        (named.equality_of(3), named.equality_of(4)),
+        (Some(false), None)
+    );
+    let mut numbers = Vec::new(rt.alloc());
+    named.push_numbers(&mut numbers, 1)?;
+    named.push_numbers(&mut numbers, 3)?;
+    assert_eq!(rt; numbers.as_slice(), [4, 0, -1, -2].as_slice());
+    assert_eq!(rt; check_named(&named, &[(1, 1), (3, 4)]), CertAnswer::Proves);
+    Ok(())
+}

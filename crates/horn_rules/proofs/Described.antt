@@ -16,10 +16,9 @@ use Rattle.transition_formula.proofs.Programs.{counter-within, edge-is}
 use Rattle.transition_formula.proofs.NextValues.{is_set, get_or-set, length-assigned, get_or-assigned, next_value-kept}
 use Rattle.transition_formula.proofs.StepRows.{length-after_step}
 use Rattle.horn_rules.specs.Home.{Home, State, home_width}
-use Rattle.horn_rules.specs.Fact.{Sets, Fact, IsAtomOf, AreSetsOf, atoms_of}
-use Rattle.horn_rules.specs.Instance.{widened, moved, state_rows}
-use Rattle.horn_rules.specs.Laws.{Describes}
-use Rattle.horn_rules.proofs.Held.{atoms-are}
+use Rattle.horn_rules.specs.Fact.{Statement, IsAtomOf, IsStatementOf}
+use Rattle.horn_rules.specs.Case.{widened, moved, state_rows}
+use Rattle.horn_rules.specs.Steps.{Describes}
 
 -- ---- placed rows
 
@@ -77,30 +76,39 @@ arrives thread edge before inputs after h steps =
 
 -- ---- the rows of a fact that describes the state before
 
-pub described-at : (program : Program) (sets : Sets) (fact : Fact) (state : List ℤ) (i l : ℕ) (thread : Thread) → Describes program sets fact state → IsThreadOf program i thread → fact.home ≡ State i l
+pub described-at : (program : Program) (f : Statement) (state : List ℤ) (i l : ℕ) (thread : Thread) → Describes program i f state → IsThreadOf program i thread → f.home ≡ State i l
     → slice_get state thread.counter ≡ Some (pos l)
-described-at program sets fact state i l thread told at stands =
-    let same : State told.i told.l ≡ State i l = sym told.stands ∙ stands in
-    let number : told.i ≡ i = cc in
+described-at program f state i l thread told at stands =
+    let same : State i told.l ≡ State i l = sym told.stands ∙ stands in
     let place : told.l ≡ l = cc in
-    let both : Some told.thread ≡ Some thread = sym told.thread_is ∙ ap (numbered program.threads) number ∙ at in
+    let both : Some told.thread ≡ Some thread = sym told.thread_is ∙ at in
     let one : told.thread ≡ thread = cc in
     ap (λ (found : Thread). slice_get state found.counter) (sym one) ∙ told.there ∙ ap (λ n. Some (pos n)) place
+
+-- it stands where its thread is
+pub stands-at : (program : Program) (f : Statement) (state : List ℤ) (i l : ℕ) (thread : Thread) → Describes program i f state → IsThreadOf program i thread
+    → slice_get state thread.counter ≡ Some (pos l) → f.home ≡ State i l
+stands-at program f state i l thread told at there =
+    let both : Some told.thread ≡ Some thread = sym told.thread_is ∙ at in
+    let one : told.thread ≡ thread = cc in
+    let values : Some (pos told.l) ≡ Some (pos l) = sym told.there ∙ ap (λ (found : Thread). slice_get state found.counter) one ∙ there in
+    let place : told.l ≡ l = cc in
+    told.stands ∙ ap (State i) place
 
 pub starts-at : (width c : ℕ) (v : ℤ) (before rest : List ℤ) → length before ≤ width → slice_get before c ≡ Some v → c < length before
     → product_of (unit width c (pos 1)) (before ++ rest) ≡ v
 starts-at width c v before rest wide at h =
     product_of-one width c (before ++ rest) (omega arith) ∙ get_or_append_left before rest (pos 0) c h ∙ get_or_from_slice_get before c v (pos 0) at
 
-pub state_rows-meet : (program : Program) (sets : Sets) (fact : Fact) (i l k : ℕ) (thread : Thread) (before rest : List ℤ)
-    → IsProgram program → AreSetsOf program sets → IsThreadOf program i thread → fact.home ≡ State i l → length before ≡ length program.columns → Describes program sets fact before
-    → AllByRecursion (λ row. Meets row (before ++ rest)) (state_rows program sets thread l fact k)
-state_rows-meet program sets fact i l k thread before rest is are at stands one told =
+pub state_rows-meet : (program : Program) (f : Statement) (i l k : ℕ) (thread : Thread) (before rest : List ℤ)
+    → IsProgram program → IsStatementOf program f → IsThreadOf program i thread → f.home ≡ State i l → length before ≡ length program.columns → Describes program i f before
+    → AllByRecursion (λ row. Meets row (before ++ rest)) (state_rows program thread l f k)
+state_rows-meet program f i l k thread before rest is are at stands one told =
     let n = length program.columns in
-    let wide : length before ≡ home_width n fact.home = one ∙ sym (ap (home_width n) stands) in
+    let wide : length before ≡ home_width n f.home = one ∙ sym (ap (home_width n) stands) in
     let within = counter-within program i thread is at in (
-      starts-at (n + k) thread.counter (pos l) before rest (omega arith) (described-at program sets fact before i l thread told at stands) (omega (arith, within.1)),
-      widened-meet program fact.home k (atoms_of sets fact) before rest wide (atoms-are program sets fact are) told.hold,
+      starts-at (n + k) thread.counter (pos l) before rest (omega arith) (described-at program f before i l thread told at stands) (omega (arith, within.1)),
+      widened-meet program f.home k f.atoms before rest wide are.are_atoms told.hold,
     )
 
 -- ---- a thread stays where it is in a step of another

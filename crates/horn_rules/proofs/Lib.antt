@@ -1,7 +1,9 @@
 pub mod Places
 pub mod Numbers
-pub mod Placed
-pub mod Held
+pub mod WiderAtoms
+pub mod Lists
+pub mod GivenAtoms
+pub mod Points
 pub mod Described
 pub mod OwnSteps
 pub mod OtherSteps
@@ -10,5 +12,13 @@ pub mod Posts
 pub mod Premises
 pub mod Jobs
 pub mod StoredSets
-pub mod Positions
-pub mod DistinctSets
+pub mod WorkedInstances
+pub mod Covering
+pub mod Derivations
+pub mod Cases
+pub mod ByNumber
+pub mod InstanceLists
+pub mod InstancesExact
+pub mod Order
+pub mod Tables
+pub mod PlacedAtoms

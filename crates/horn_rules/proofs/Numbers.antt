@@ -1,9 +1,9 @@
 -- The numbers of homes.
-use Rattle.std.proofs.Common.{◌≡◌, ℕ, suc, ◌+◌, ◌-◌, ◌<◌, ◌≤◌, List, length, map, Option, Some, None, refl, sym, ap, ◌∙◌, arith, inl, inr}
+use Rattle.std.proofs.Common.{◌≡◌, ℕ, zero, suc, ◌+◌, ◌-◌, ◌<◌, ◌≤◌, List, [], ◌∷◌, length, map, Option, Some, None, refl, sym, ap, ◌∙◌, arith, inl, inr}
 use Rattle.std.specs.List.{slice_get, range_with_len}
-use Rattle.std.specs.Prelude.{option_map}
+use Rattle.std.specs.Prelude.{option_map, IsSome}
 use Rattle.std.proofs.lemmas.Bool.Decides.{leb_tells}
-use Rattle.std.proofs.lemmas.Option.{slice_get-map, slice_get-get_or}
+use Rattle.std.proofs.lemmas.Option.{slice_get-map, slice_get-get_or, slice_get_within, get_or_from_slice_get}
 use Rattle.std.proofs.lemmas.List.{length-map}
 use Rattle.std.proofs.lemmas.List.FromFn.{length-map-range_with_len}
 use Rattle.transition_formula.specs.Program.{Program, Thread, IsThreadOf, IsProgram, numbered}
@@ -11,9 +11,9 @@ use Rattle.transition_formula.specs.Stored.{edge_of}
 use Rattle.transition_formula.specs.declared.graph.Edge.{Edge as StoredEdge}
 use Rattle.horn_rules.specs.declared.homes.Kind.{Kind}
 use Rattle.horn_rules.specs.declared.homes.Kind.TheVariants.{Location, Edge}
-use Rattle.horn_rules.specs.Home.{Home, State, Env, by_thread, state_homes, env_homes, homes, IsHomeOf}
-use Rattle.horn_rules.specs.Stored.{homes_in, home_in, HasPlace}
-use Rattle.horn_rules.proofs.Places.{slice_get-append_left, slice_get-append_right, range-at, range-within, numbered-next, FoundAt, by_thread-found}
+use Rattle.horn_rules.specs.Home.{Home, State, Env, by_number, state_homes, env_homes, homes, IsHomeOf}
+use Rattle.horn_rules.specs.inside.Kinds.{homes_in, home_in, HasPlace}
+use Rattle.horn_rules.proofs.Places.{slice_get-append_left, slice_get-append_right, range-at, range-within, numbered-next, FoundAt, by_number-found}
 
 -- ---- the homes of one thread
 
@@ -52,18 +52,18 @@ home-at Edge i thread place h =
 
 -- ---- all homes: those at locations, and behind them those at edges
 
-pub numbered-homes_left : (program : Program) (n place : ℕ) → n ≡ suc place → place < length (by_thread state_homes 1 program.threads)
-    → numbered (homes program) n ≡ slice_get (by_thread state_homes 1 program.threads) place
+pub numbered-homes_left : (program : Program) (n place : ℕ) → n ≡ suc place → place < length (by_number state_homes 1 program.threads)
+    → numbered (homes program) n ≡ slice_get (by_number state_homes 1 program.threads) place
 numbered-homes_left program n place e h =
     numbered-next (homes program) place n e
-    ∙ slice_get-append_left (by_thread state_homes 1 program.threads) (by_thread env_homes 1 program.threads) place h
+    ∙ slice_get-append_left (by_number state_homes 1 program.threads) (by_number env_homes 1 program.threads) place h
 
-pub numbered-homes_right : (program : Program) (n place : ℕ) → n ≡ suc (length (by_thread state_homes 1 program.threads) + place)
-    → numbered (homes program) n ≡ slice_get (by_thread env_homes 1 program.threads) place
+pub numbered-homes_right : (program : Program) (n place : ℕ) → n ≡ suc (length (by_number state_homes 1 program.threads) + place)
+    → numbered (homes program) n ≡ slice_get (by_number env_homes 1 program.threads) place
 numbered-homes_right program n place e =
-    let before = length (by_thread state_homes 1 program.threads) in
+    let before = length (by_number state_homes 1 program.threads) in
     numbered-next (homes program) (before + place) n e
-    ∙ slice_get-append_right (by_thread state_homes 1 program.threads) (by_thread env_homes 1 program.threads) (before + place) place refl
+    ∙ slice_get-append_right (by_number state_homes 1 program.threads) (by_number env_homes 1 program.threads) (before + place) place refl
 
 -- ---- the thread and the place of a home
 
@@ -114,14 +114,14 @@ data FoundIn (program : Program) (home : Home) : Type 0 where
 
 found-in : (program : Program) (home : Home) (p : ℕ) → slice_get (homes program) p ≡ Some home → FoundIn program home
 found-in program home p e =
-    let states = by_thread state_homes 1 program.threads in
-    let edges = by_thread env_homes 1 program.threads in
+    let states = by_number state_homes 1 program.threads in
+    let edges = by_number env_homes 1 program.threads in
     elim (leb_tells (length states) p) [
-      | inr (miss, inside) ↦ among_states (by_thread-found state_homes 1 program.threads p home (sym (slice_get-append_left states edges p inside) ∙ e))
+      | inr (miss, inside) ↦ among_states (by_number-found state_homes 1 program.threads p home (sym (slice_get-append_left states edges p inside) ∙ e))
       | inl (hit, behind) ↦
           let rest = p - length states in
           let there : p ≡ length states + rest = omega arith in
-          among_edges (by_thread-found env_homes 1 program.threads rest home (sym (slice_get-append_right states edges p rest there) ∙ e))
+          among_edges (by_number-found env_homes 1 program.threads rest home (sym (slice_get-append_right states edges p rest there) ∙ e))
     ]
 
 found : (program : Program) (home : Home) → IsHomeOf program home → FoundIn program home
@@ -138,3 +138,18 @@ env_home-place program i e is = elim (found program (Env i e) is) [
   | among_states at ↦ absurd (no-env (1 + at.k) i e _ (sym (slice_get-map (State (1 + at.k)) (range_with_len 0 at.thread.locations) at.place) ∙ at.home_is))
   | among_edges at ↦ env-place program i e at
 ]
+
+-- ---- any number up to the length names something
+
+there : {A : Type 0} (xs : List A) (k : ℕ) → k < length xs → IsSome (numbered xs (suc k))
+there [] k h = absurd (omega arith)
+there (x ∷ xs) zero h = refl
+there (x ∷ xs) (suc k) h = there xs k (omega arith)
+
+pub numbered-there : {A : Type 0} (xs : List A) (n : ℕ) → 0 < n → n ≤ length xs → IsSome (numbered xs n)
+numbered-there xs zero h k = absurd (omega arith)
+numbered-there xs (suc n) h k = there xs n (omega arith)
+
+pub home-numbered : (program : Program) (n : ℕ) (home : Home) → numbered (homes program) n ≡ Some home → IsHomeOf program home
+home-numbered program zero home e = cc
+home-numbered program (suc k) home e = (k, slice_get_within (homes program) k home e, get_or_from_slice_get (homes program) k home home e)

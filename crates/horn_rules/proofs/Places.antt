@@ -2,9 +2,9 @@
 use Rattle.std.proofs.Common.{◌≡◌, ℕ, zero, suc, ◌+◌, ◌-◌, ◌<◌, List, [], ◌∷◌, ◌++◌, length, take, drop, Some, refl, sym, ap, ◌∙◌, arith, inl, inr, length-append}
 use Rattle.std.specs.List.{slice_get, range_with_len}
 use Rattle.std.proofs.lemmas.Bool.Decides.{leb_tells}
-use Rattle.transition_formula.specs.Program.{Thread, numbered}
+use Rattle.transition_formula.specs.Program.{numbered}
 use Rattle.transition_formula.proofs.Lookups.{drop-slice_get}
-use Rattle.horn_rules.specs.Home.{Home, by_thread}
+use Rattle.horn_rules.specs.Home.{by_number}
 
 -- ---- two lists, one after the other
 
@@ -42,71 +42,71 @@ range-within a (suc n) (suc p) b e = let rest = range-within (a + 1) n p b e in 
 -- ---- thread by thread; the first of the threads has number i
 
 -- one more thread takes so many places more
-pub length-by_thread_more : (give : ℕ → Thread → List Home) (i k : ℕ) (threads : List Thread) (thread : Thread) (j : ℕ)
+pub length-by_number_more : {X Y : Type 0} (give : ℕ → X → List Y) (i k : ℕ) (threads : List X) (thread : X) (j : ℕ)
     → slice_get threads k ≡ Some thread → j ≡ i + k
-    → length (by_thread give i (take (suc k) threads)) ≡ length (by_thread give i (take k threads)) + length (give j thread)
-length-by_thread_more give i k [] thread j at e = cc
-length-by_thread_more give i zero (t ∷ threads) thread j at e =
+    → length (by_number give i (take (suc k) threads)) ≡ length (by_number give i (take k threads)) + length (give j thread)
+length-by_number_more give i k [] thread j at e = cc
+length-by_number_more give i zero (t ∷ threads) thread j at e =
     let same : t ≡ thread = cc in
     let number : i ≡ j = omega arith in
     let one : length (give i t) ≡ length (give j thread) = cc in
     let all : length (give i t ++ []) ≡ 0 + length (give j thread) = omega (arith, one, length-append (give i t) []) in
     all
-length-by_thread_more give i (suc k) (t ∷ threads) thread j at e =
-    let more = length-by_thread_more give (suc i) k threads thread j at (omega arith) in
+length-by_number_more give i (suc k) (t ∷ threads) thread j at e =
+    let more = length-by_number_more give (suc i) k threads thread j at (omega arith) in
     omega (
       arith,
-      length-append (give i t) (by_thread give (suc i) (take (suc k) threads)),
-      length-append (give i t) (by_thread give (suc i) (take k threads)),
+      length-append (give i t) (by_number give (suc i) (take (suc k) threads)),
+      length-append (give i t) (by_number give (suc i) (take k threads)),
       more,
     )
 
 -- a place of a thread, behind those of the threads before it
-pub by_thread-at : (give : ℕ → Thread → List Home) (i k : ℕ) (threads : List Thread) (thread : Thread) (j p place : ℕ)
+pub by_number-at : {X Y : Type 0} (give : ℕ → X → List Y) (i k : ℕ) (threads : List X) (thread : X) (j p place : ℕ)
     → slice_get threads k ≡ Some thread → j ≡ i + k → place < length (give j thread)
-    → p ≡ length (by_thread give i (take k threads)) + place
-    → slice_get (by_thread give i threads) p ≡ slice_get (give j thread) place
-by_thread-at give i k [] thread j p place at e within here = cc
-by_thread-at give i zero (t ∷ threads) thread j p place at e within here =
+    → p ≡ length (by_number give i (take k threads)) + place
+    → slice_get (by_number give i threads) p ≡ slice_get (give j thread) place
+by_number-at give i k [] thread j p place at e within here = cc
+by_number-at give i zero (t ∷ threads) thread j p place at e within here =
     let same : t ≡ thread = cc in
     let number : i ≡ j = omega arith in
     let first : p ≡ place = omega arith in
     let one : give i t ≡ give j thread = cc in
     let inside : p < length (give i t) = omega (arith, ap length one) in
-    slice_get-append_left (give i t) (by_thread give (suc i) threads) p inside ∙ cc
-by_thread-at give i (suc k) (t ∷ threads) thread j p place at e within here =
-    let rest = length (by_thread give (suc i) (take k threads)) + place in
-    let sizes = length-append (give i t) (by_thread give (suc i) (take k threads)) in
-    slice_get-append_right (give i t) (by_thread give (suc i) threads) p rest (omega (arith, sizes))
-    ∙ by_thread-at give (suc i) k threads thread j rest place at (omega arith) within refl
+    slice_get-append_left (give i t) (by_number give (suc i) threads) p inside ∙ cc
+by_number-at give i (suc k) (t ∷ threads) thread j p place at e within here =
+    let rest = length (by_number give (suc i) (take k threads)) + place in
+    let sizes = length-append (give i t) (by_number give (suc i) (take k threads)) in
+    slice_get-append_right (give i t) (by_number give (suc i) threads) p rest (omega (arith, sizes))
+    ∙ by_number-at give (suc i) k threads thread j rest place at (omega arith) within refl
 
 -- from thread k on: a place of thread k itself
-pub by_thread-here : (give : ℕ → Thread → List Home) (i k : ℕ) (threads : List Thread) (thread : Thread) (p : ℕ)
+pub by_number-here : {X Y : Type 0} (give : ℕ → X → List Y) (i k : ℕ) (threads : List X) (thread : X) (p : ℕ)
     → slice_get threads k ≡ Some thread → p < length (give i thread)
-    → slice_get (by_thread give i (drop k threads)) p ≡ slice_get (give i thread) p
-by_thread-here give i k threads thread p at h =
-    ap (λ rest. slice_get (by_thread give i rest) p) (drop-slice_get threads k thread at)
-    ∙ slice_get-append_left (give i thread) (by_thread give (suc i) (drop (suc k) threads)) p h
+    → slice_get (by_number give i (drop k threads)) p ≡ slice_get (give i thread) p
+by_number-here give i k threads thread p at h =
+    ap (λ rest. slice_get (by_number give i rest) p) (drop-slice_get threads k thread at)
+    ∙ slice_get-append_left (give i thread) (by_number give (suc i) (drop (suc k) threads)) p h
 
 -- from thread k on: a place of a later thread
-pub by_thread-later : (give : ℕ → Thread → List Home) (i k m n : ℕ) (threads : List Thread) (thread : Thread) (p rest : ℕ)
+pub by_number-later : {X Y : Type 0} (give : ℕ → X → List Y) (i k m n : ℕ) (threads : List X) (thread : X) (p rest : ℕ)
     → slice_get threads k ≡ Some thread → p ≡ length (give i thread) + rest → m ≡ suc i → n ≡ suc k
-    → slice_get (by_thread give i (drop k threads)) p ≡ slice_get (by_thread give m (drop n threads)) rest
-by_thread-later give i k m n threads thread p rest at e next after =
-    ap (λ ts. slice_get (by_thread give i ts) p) (drop-slice_get threads k thread at)
-    ∙ slice_get-append_right (give i thread) (by_thread give (suc i) (drop (suc k) threads)) p rest e
-    ∙ ap (λ j. slice_get (by_thread give j (drop (suc k) threads)) rest) (sym next)
-    ∙ ap (λ j. slice_get (by_thread give m (drop j threads)) rest) (sym after)
+    → slice_get (by_number give i (drop k threads)) p ≡ slice_get (by_number give m (drop n threads)) rest
+by_number-later give i k m n threads thread p rest at e next after =
+    ap (λ ts. slice_get (by_number give i ts) p) (drop-slice_get threads k thread at)
+    ∙ slice_get-append_right (give i thread) (by_number give (suc i) (drop (suc k) threads)) p rest e
+    ∙ ap (λ j. slice_get (by_number give j (drop (suc k) threads)) rest) (sym next)
+    ∙ ap (λ j. slice_get (by_number give m (drop j threads)) rest) (sym after)
 
 -- an element's thread, and its place there
-pub record FoundAt (give : ℕ → Thread → List Home) (i : ℕ) (threads : List Thread) (home : Home) : Type 0 where
+pub record FoundAt {X Y : Type 0} (give : ℕ → X → List Y) (i : ℕ) (threads : List X) (home : Y) : Type 0 where
   pub k : ℕ
-  pub thread : Thread
+  pub thread : X
   pub thread_is : slice_get threads k ≡ Some thread
   pub place : ℕ
   pub home_is : slice_get (give (i + k) thread) place ≡ Some home
 
-found-later : (give : ℕ → Thread → List Home) (i : ℕ) (t : Thread) (threads : List Thread) (home : Home)
+found-later : {X Y : Type 0} (give : ℕ → X → List Y) (i : ℕ) (t : X) (threads : List X) (home : Y)
     → FoundAt give (suc i) threads home → FoundAt give i (t ∷ threads) home
 found-later give i t threads home found =
     let number : i + suc found.k ≡ suc i + found.k = omega arith in
@@ -118,18 +118,18 @@ found-later give i t threads home found =
       home_is = ap (λ n. slice_get (give n found.thread) found.place) number ∙ found.home_is;
     }
 
-pub by_thread-found : (give : ℕ → Thread → List Home) (i : ℕ) (threads : List Thread) (p : ℕ) (home : Home)
-    → slice_get (by_thread give i threads) p ≡ Some home → FoundAt give i threads home
-by_thread-found give i [] zero home e = cc
-by_thread-found give i [] (suc p) home e = cc
-by_thread-found give i (t ∷ threads) p home e = elim (leb_tells (length (give i t)) p) [
+pub by_number-found : {X Y : Type 0} (give : ℕ → X → List Y) (i : ℕ) (threads : List X) (p : ℕ) (home : Y)
+    → slice_get (by_number give i threads) p ≡ Some home → FoundAt give i threads home
+by_number-found give i [] zero home e = cc
+by_number-found give i [] (suc p) home e = cc
+by_number-found give i (t ∷ threads) p home e = elim (leb_tells (length (give i t)) p) [
   | inr (miss, inside) ↦
-      let first : slice_get (give i t) p ≡ Some home = sym (slice_get-append_left (give i t) (by_thread give (suc i) threads) p inside) ∙ e in
+      let first : slice_get (give i t) p ≡ Some home = sym (slice_get-append_left (give i t) (by_number give (suc i) threads) p inside) ∙ e in
       let number : i + 0 ≡ i = omega arith in
       record { k = 0; thread = t; thread_is = refl; place = p; home_is = ap (λ n. slice_get (give n t) p) number ∙ first }
   | inl (hit, behind) ↦
       let rest = p - length (give i t) in
       let there : p ≡ length (give i t) + rest = omega arith in
-      let later = sym (slice_get-append_right (give i t) (by_thread give (suc i) threads) p rest there) ∙ e in
-      found-later give i t threads home (by_thread-found give (suc i) threads rest home later)
+      let later = sym (slice_get-append_right (give i t) (by_number give (suc i) threads) p rest there) ∙ e in
+      found-later give i t threads home (by_number-found give (suc i) threads rest home later)
 ]

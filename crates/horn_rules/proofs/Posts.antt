@@ -1,12 +1,14 @@
 -- An instance gives one thing at most, since rising lists with the same elements are the same.
 use Rattle.std.proofs.Common.{◌≡◌, ℕ, zero, suc, ◌<◌, ◌≤◌, List, [], ◌∷◌, Some, None, refl, sym, ap, ap₂, ◌∙◌, arith}
 use Rattle.std.specs.List.{Contains}
+use Rattle.thr_base.specs.Held.{Rise}
+use Rattle.lin_rows.specs.Row.{Row}
 use Rattle.horn_rules.specs.Home.{Home}
-use Rattle.horn_rules.specs.Fact.{Sets, Fact, Rise}
-use Rattle.horn_rules.specs.Instance.{Case}
-use Rattle.horn_rules.specs.Least.{IsFactOf}
+use Rattle.horn_rules.specs.Fact.{Sets, Fact}
+use Rattle.horn_rules.specs.Case.{Case}
+use Rattle.horn_rules.specs.Post.{AreEntailed, IsFactOf}
 use Rattle.horn_rules.specs.Laws.{PostsAreUnique}
-use Rattle.horn_rules.proofs.Held.{Contains-first, Contains-later}
+use Rattle.horn_rules.proofs.Lists.{Contains-first, Contains-later}
 
 -- an element is the first one or among the rest
 data IsAmong (x : ℕ) (xs : List ℕ) (k : ℕ) : Type 0 where
@@ -53,15 +55,18 @@ rising-same one other (x ∷ xs) (y ∷ ys) p q to from =
     let same : x ≡ y = omega arith in
     ap₂ (λ v vs. v ∷ vs) same (rising-same x y xs ys p.1 q.1 (λ k. rest-of x y xs ys k same p.1 to) (λ k. rest-of y x ys xs k (sym same) q.1 from))
 
-facts-same : (sets : Sets) (given : Case) (one other : Fact) → IsFactOf sets given one → IsFactOf sets given other → one ≡ other
-facts-same sets given one other a b =
-    let homes_same : one.home ≡ other.home = a.at_target ∙ sym b.at_target in
-    let held_same = rising-same 0 0 one.held other.held a.rising b.rising
-    (λ k there. (b.entailed k).1 ((a.entailed k).0 there)) (λ k there. (a.entailed k).1 ((b.entailed k).0 there)) in
-    ap₂ (λ (home : Home) (held : List ℕ). record { home = home; held = held }) homes_same held_same
+positions-same : (given : Case) (atoms : List Row) (one other : List ℕ) → AreEntailed given atoms one → AreEntailed given atoms other → one ≡ other
+positions-same given atoms one other a b =
+    rising-same 0 0 one other a.rising b.rising (λ k there. (b.exact k).1 ((a.exact k).0 there)) (λ k there. (a.exact k).1 ((b.exact k).0 there))
 
 pub posts-unique : PostsAreUnique
-posts-unique sets given None None a b = refl
-posts-unique sets given None (Some fact) a b = absurd (b.open_system a)
-posts-unique sets given (Some fact) None a b = absurd (a.open_system b)
-posts-unique sets given (Some one) (Some other) a b = ap Some (facts-same sets given one other a b)
+posts-unique given atoms None None a b = refl
+posts-unique given atoms None (Some held) a b = absurd (b.open_system a)
+posts-unique given atoms (Some held) None a b = absurd (a.open_system b)
+posts-unique given atoms (Some one) (Some other) a b = ap Some (positions-same given atoms one other a b)
+
+-- an instance gives one fact at most
+pub facts-same : (sets : Sets) (given : Case) (one other : Fact) → IsFactOf sets given one → IsFactOf sets given other → one ≡ other
+facts-same sets given one other a b =
+    ap₂ (λ (home : Home) (held : List ℕ). record { home = home; held = held }) (a.at_target ∙ sym b.at_target)
+    (positions-same given (sets given.target) one.held other.held a.entailed b.entailed)

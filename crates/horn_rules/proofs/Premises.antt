@@ -5,10 +5,10 @@ use Rattle.std.proofs.lemmas.List.Elements.{filter-append, filter_map-append}
 use Rattle.std.specs.Prelude.{slice_get, cond, filter_map}
 use Rattle.std.specs.List.{range_with_len, cons_option}
 use Rattle.lin_rows.specs.Row.{Row}
-use Rattle.lin_rows.specs.System.{System, with_row}
-use Rattle.std.specs.Prelude.{IsSome}
+use Rattle.lin_rows.specs.System.{System, with_row, with_rows}
+use Rattle.std.specs.Prelude.{option_map}
 use Rattle.transition_formula.specs.Program.{Program, Thread, Edge, IsProgram, IsThreadOf, IsEdgeOf, numbered}
-use Rattle.transition_formula.specs.Rows.{column_is, edge_rows, edge_system, seen_system, kept_columns, kept_row, is_kept, test_row, set_row, with_rows}
+use Rattle.transition_formula.specs.Rows.{column_is, edge_rows, edge_system, seen_system, kept_columns, kept_row, is_kept, test_row, set_row}
 use Rattle.transition_formula.proofs.Programs.{edge-is, sets-within, few_sets}
 use Rattle.std.proofs.lemmas.List.FromFn.{length-range_with_len}
 use Rattle.std.proofs.lemmas.List.Sums.{length-filter, count_by-le-length}
@@ -16,10 +16,11 @@ use Rattle.std.specs.List.{AllByRecursion}
 use Rattle.lin_rows.proofs.Lists.{AllByRecursion-weaken}
 use Rattle.horn_rules.specs.declared.job.Premise.{Premise}
 use Rattle.horn_rules.specs.Home.{Home, State, Env, home_width}
-use Rattle.horn_rules.specs.Fact.{Sets, Fact, IsSetOf, IsAtomOf, atoms_of}
-use Rattle.horn_rules.specs.Instance.{widened, state_rows, env_rows, with_edge, behind}
-use Rattle.horn_rules.specs.Job.{held_atoms, said_rows, Says}
-use Rattle.transition_formula.proofs.Lookups.{take-slice_get}
+use Rattle.thr_base.specs.Held.{holds, positions}
+use Rattle.horn_rules.specs.Fact.{Statement, IsSetOf, IsAtomOf, atoms_at}
+use Rattle.horn_rules.specs.Case.{widened, state_rows, env_rows, with_edge, behind}
+use Rattle.horn_rules.specs.Job.{premise_says}
+use Rattle.horn_rules.specs.inside.JobRows.{said_rows}
 
 -- ---- atoms that are held
 
@@ -38,6 +39,12 @@ pub none_there : (w : Row → Row) (atoms : List Row) (held : Bool) (position : 
     → system ≡ with_rows system (map w (filter_map (numbered atoms) (cond held (position ∷ []) [])))
 none_there w atoms held position system is past =
     rw (is, numbered-past atoms position past) (ap (λ rows. record system { rows = rows }) (sym (append-nil system.rows)))
+
+-- before the first position, all are left
+pub held-start : (w : Row → Row) (atoms done : List Row) (held : ℕ)
+    → done ++ map w (filter_map (numbered atoms) (filter (holds held) (range_with_len 1 128))) ≡ done ++ map w (atoms_at atoms (positions held))
+unfolding positions
+held-start w atoms done held = refl
 
 pub held-next : (w : Row → Row) (g : ℕ → Option Row) (p : ℕ → Bool) (done more total : List Row) (k : ℕ) → k < 129 → more ≡ done ++ map w (filter_map g (filter p (k ∷ [])))
     → done ++ map w (filter_map g (filter p (range_with_len k (129 - k)))) ≡ total → more ++ map w (filter_map g (filter p (range_with_len (k + 1) (129 - (k + 1))))) ≡ total
@@ -66,33 +73,13 @@ pub held-room : (w : Row → Row) (g : ℕ → Option Row) (p : ℕ → Bool) (d
     → length done + 1 ≤ n + k → length more + 1 ≤ n + (k + 1)
 held-room w g p done more k n is room = omega (arith, ap length is, length-append done (map w (filter_map g (filter p (k ∷ [])))), one_held w g (p k) k)
 
--- ---- rows that are copied
-
-pub row-next : (initial now more : System) (rows : List Row) (k : ℕ) (row : Row) → slice_get rows k ≡ Some row → now ≡ with_rows initial (take k rows)
-    → more ≡ with_row now row → more ≡ with_rows initial (take (k + 1) rows)
-row-next initial now more rows k row at made is =
-    is ∙ ap (λ system. with_row system row) made
-    ∙ ap (λ l. record { columns = initial.columns; rows = l }) (append_assoc initial.rows (take k rows) (row ∷ []) ∙ ap (λ l. initial.rows ++ l) (sym (take-slice_get rows k row at)))
-
 -- ---- counters
 
-pub counter-is : (program : Program) (i : ℕ) (thread : Thread) (n t : ℕ) → IsProgram program → IsThreadOf program i thread → n ≡ length program.columns → t ≡ length program.threads
-    → n - t + i - 1 ≡ thread.counter
-counter-is program i thread n t is at columns threads = omega (arith, (is.threads_are i thread at).in_order, is.has_counters)
-
-there-within : {A : Type 0} (xs : List A) (k : ℕ) → IsSome (slice_get xs k) → k < length xs
-there-within [] zero there = cc
-there-within [] (suc k) there = cc
-there-within (x ∷ xs) zero there = omega arith
-there-within (x ∷ xs) (suc k) there = omega (arith, there-within xs k there)
-
-named-within : {A : Type 0} (xs : List A) (i : ℕ) → IsSome (numbered xs i) → (0 < i) × (i ≤ length xs)
-named-within xs zero there = cc
-named-within xs (suc k) there = let h = there-within xs k there in (omega arith, omega arith)
-
-pub counter-below : (program : Program) (i n t : ℕ) → IsProgram program → IsSome (numbered program.threads i) → n ≡ length program.columns → t ≡ length program.threads
-    → n - t + i - 1 < length program.columns
-counter-below program i n t is there columns threads = let h = named-within program.threads i there in omega (arith, is.has_counters)
+pub counter-is : (program : Program) (i : ℕ) (thread : Thread) (column : ℕ) → option_map (λ (found : Thread). found.counter) (numbered program.threads i) ≡ Some column → IsThreadOf program i thread
+    → column ≡ thread.counter
+counter-is program i thread column e at =
+    let here : Some thread.counter ≡ Some column = sym (ap (option_map (λ (found : Thread). found.counter)) at) ∙ e in
+    cc
 
 pub length-with_row : (now more : System) (row : Row) → more ≡ with_row now row → length more.rows ≡ length now.rows + 1
 length-with_row now more row is = ap (λ system. length system.rows) is ∙ length-append now.rows (row ∷ [])
@@ -104,27 +91,24 @@ pub atoms-over : (program : Program) (home : Home) (atoms given : List Row) (n :
 atoms-over program home atoms given n is same width =
     rw (same, width) (AllByRecursion-weaken (IsAtomOf program home) (λ atom. length atom.coefficients ≡ home_width (length program.columns) home) (λ atom h. h.one_each) atoms is.are_atoms)
 
-pub said-next : (first more last : System) (n width : ℕ) (thread : Thread) (a b i l : ℕ) (premise : Premise) (set : List Row) → Some (State a b) ≡ Some (State i l)
-    → more ≡ with_row first (column_is first.columns thread.counter (pos b)) → last ≡ with_rows more (map (widened (more.columns - width)) (held_atoms set premise.fact.held))
-    → width ≡ n → set ≡ premise.set.value → last ≡ with_rows first (said_rows n first.columns thread l premise)
-said-next first more last n width thread a b i l premise set home more_is last_is count same =
+pub said-next : (program : Program) (first more last : System) (n width : ℕ) (thread : Thread) (a b i l : ℕ) (premise : Premise) (set : List Row) → Some (State a b) ≡ Some (State i l)
+    → more ≡ with_row first (column_is first.columns thread.counter (pos b)) → last ≡ with_rows more (map (widened (more.columns - width)) (atoms_at set (positions premise.fact.held)))
+    → width ≡ n → set ≡ premise.set.value → last ≡ with_rows first (said_rows n first.columns thread l (premise_says program premise).atoms)
+said-next program first more last n width thread a b i l premise set home more_is last_is count same =
     let place : b ≡ l = cc in
     let row = column_is first.columns thread.counter (pos l) in
-    let atoms = map (widened (first.columns - n)) (held_atoms premise.set.value premise.fact.held) in
+    let atoms = map (widened (first.columns - n)) (atoms_at premise.set.value (positions premise.fact.held)) in
     rw (last_is, same, count, more_is, place) (ap (λ rows. record { columns = first.columns; rows = rows }) (append_assoc first.rows (row ∷ []) atoms))
 
 pub same_thread : (program : Program) (a b i l : ℕ) (thread : Thread) → Some (State a b) ≡ Some (State i l) → IsThreadOf program i thread → IsThreadOf program a thread
 same_thread program a b i l thread home at = let same : a ≡ i = cc in rw same at
 
-pub held_is : (sets : Sets) (program : Program) (premise : Premise) (f : Fact) → Says program sets premise f → held_atoms premise.set.value premise.fact.held ≡ atoms_of sets f
-held_is sets program premise f says = ap₂ (λ (set : List Row) (held : List ℕ). filter_map (numbered set) held) (sym says.set_is) (sym says.held_is)
-
-pub said_is : (program : Program) (sets : Sets) (premise : Premise) (f : Fact) (thread : Thread) (l k width : ℕ) → Says program sets premise f → width ≡ length program.columns + k
-    → said_rows (length program.columns) width thread l premise ≡ state_rows program sets thread l f k
-said_is program sets premise f thread l k width says is =
+-- they are those of what it says
+pub said_is : (program : Program) (f : Statement) (thread : Thread) (l k width : ℕ) → width ≡ length program.columns + k
+    → said_rows (length program.columns) width thread l f.atoms ≡ state_rows program thread l f k
+said_is program f thread l k width is =
     let n = length program.columns in
-    ap (λ w. said_rows n w thread l premise) is
-    ∙ ap₂ (λ (j : ℕ) (atoms : List Row). column_is (n + k) thread.counter (pos l) ∷ map (widened j) atoms) (omega arith) (held_is sets program premise f says)
+    ap (λ w. said_rows n w thread l f.atoms) is ∙ ap (λ (j : ℕ). column_is (n + k) thread.counter (pos l) ∷ map (widened j) f.atoms) (omega arith)
 
 glued : (columns : ℕ) (first first' second second' : List Row) (empty said last rows : System) → empty ≡ record { columns = rows.columns; rows = [] } → said ≡ with_rows empty first
     → last ≡ with_rows said second → first ≡ first' → second ≡ second' → rows.columns ≡ columns → last ≡ record { columns = columns; rows = first' ++ second' }
@@ -134,14 +118,14 @@ glued columns first first' second second' empty said last rows empty_is said_is 
     ∙ ap₂ (λ (n : ℕ) (l : List Row). record { columns = n; rows = l ++ second }) width same
     ∙ ap (λ (l : List Row). record { columns = columns; rows = first' ++ l }) same'
 
-pub step_is : (program : Program) (sets : Sets) (premise : Premise) (f : Fact) (thread : Thread) (edge : Edge) (empty said last rows : System)
-    → Says program sets premise f → rows ≡ edge_system program thread edge → empty ≡ record { columns = rows.columns; rows = [] }
-    → said ≡ with_rows empty (said_rows (length program.columns) empty.columns thread edge.from premise) → last ≡ with_rows said rows.rows
-    → last ≡ with_edge program thread edge (state_rows program sets thread edge.from f (behind program edge))
-step_is program sets premise f thread edge empty said last rows says rows_is empty_is said_is_ last_is =
+pub step_is : (program : Program) (f : Statement) (thread : Thread) (edge : Edge) (empty said last rows : System)
+    → rows ≡ edge_system program thread edge → empty ≡ record { columns = rows.columns; rows = [] }
+    → said ≡ with_rows empty (said_rows (length program.columns) empty.columns thread edge.from f.atoms) → last ≡ with_rows said rows.rows
+    → last ≡ with_edge program thread edge (state_rows program thread edge.from f (behind program edge))
+step_is program f thread edge empty said last rows rows_is empty_is said_is_ last_is =
     let width = ap (λ system. system.columns) rows_is in
     glued _ _ _ _ _ empty said last rows empty_is said_is_ last_is
-    (said_is program sets premise f thread edge.from (behind program edge) empty.columns says (ap (λ system. system.columns) empty_is ∙ width))
+    (said_is program f thread edge.from (behind program edge) empty.columns (ap (λ system. system.columns) empty_is ∙ width))
     (ap (λ system. system.rows) rows_is) width
 
 pub same_edge : (program : Program) (a b i l e : ℕ) (thread : Thread) (edge : Edge) → Some (State a b) ≡ Some (State i l) → IsEdgeOf program i e thread edge → IsEdgeOf program a e thread edge
@@ -173,21 +157,21 @@ room program i e k thread edge rows view empty said w is at rows_is same made fe
 
 -- ---- two premises
 
-pub inter_is : (program : Program) (sets : Sets) (first second : Premise) (f g : Fact) (l : ℕ) (other thread : Thread) (edge : Edge) (empty one two last rows : System)
-    → Says program sets first f → Says program sets second g → rows ≡ edge_system program thread edge → empty ≡ record { columns = rows.columns; rows = [] }
-    → one ≡ with_rows empty (said_rows (length program.columns) empty.columns other l first) → two ≡ with_rows one (said_rows (length program.columns) one.columns thread edge.from second)
+pub inter_is : (program : Program) (f g : Statement) (l : ℕ) (other thread : Thread) (edge : Edge) (empty one two last rows : System)
+    → rows ≡ edge_system program thread edge → empty ≡ record { columns = rows.columns; rows = [] }
+    → one ≡ with_rows empty (said_rows (length program.columns) empty.columns other l f.atoms) → two ≡ with_rows one (said_rows (length program.columns) one.columns thread edge.from g.atoms)
     → last ≡ with_rows two rows.rows
-    → last ≡ with_edge program thread edge (state_rows program sets other l f (behind program edge) ++ state_rows program sets thread edge.from g (behind program edge))
-inter_is program sets first second f g l other thread edge empty one two last rows says_f says_g rows_is empty_is one_is two_is last_is =
+    → last ≡ with_edge program thread edge (state_rows program other l f (behind program edge) ++ state_rows program thread edge.from g (behind program edge))
+inter_is program f g l other thread edge empty one two last rows rows_is empty_is one_is two_is last_is =
     let n = length program.columns in
     let width = ap (λ system. system.columns) rows_is in
-    let before = said_rows n empty.columns other l first in
-    let after = said_rows n one.columns thread edge.from second in
+    let before = said_rows n empty.columns other l f.atoms in
+    let after = said_rows n one.columns thread edge.from g.atoms in
     let whole = ap (λ system. system.columns) empty_is ∙ width in
     let both : two ≡ with_rows empty (before ++ after) = two_is ∙ ap (λ system. with_rows system after) one_is ∙ ap (λ (rows : List Row). record { columns = empty.columns; rows = rows }) (append_assoc empty.rows before after) in
     glued _ _ _ _ _ empty two last rows empty_is both last_is
-    (ap₂ (λ (a : List Row) (b : List Row). a ++ b) (said_is program sets first f other l (behind program edge) empty.columns says_f whole)
-    (said_is program sets second g thread edge.from (behind program edge) one.columns says_g (ap (λ system. system.columns) one_is ∙ whole)))
+    (ap₂ (λ (a : List Row) (b : List Row). a ++ b) (said_is program f other l (behind program edge) empty.columns whole)
+    (said_is program g thread edge.from (behind program edge) one.columns (ap (λ system. system.columns) one_is ∙ whole)))
     (ap (λ system. system.rows) rows_is) width
 
 widened-none : (rows : List Row) → map (widened 0) rows ≡ rows
@@ -197,21 +181,21 @@ widened-none (row ∷ rows) = ap₂ (λ (a : Row) (b : List Row). a ∷ b) (ap (
 widened-same : (k : ℕ) (rows : List Row) → k ≡ 0 → map (widened k) rows ≡ rows
 widened-same k rows none = rw none (widened-none rows)
 
-pub env_is : (program : Program) (sets : Sets) (first second : Premise) (f t : Fact) (l w : ℕ) (other thread : Thread) (edge : Edge) (set : List Row) (empty one two last rows : System)
-    → Says program sets first f → Says program sets second t → rows ≡ seen_system program thread edge → empty ≡ record { columns = rows.columns; rows = [] } → w ≡ rows.columns
-    → one ≡ with_rows empty (said_rows (length program.columns) empty.columns other l first) → two ≡ with_rows one rows.rows → set ≡ second.set.value
-    → last ≡ with_rows two (map (widened (two.columns - w)) (held_atoms set second.fact.held))
-    → last ≡ record { columns = length program.columns + length program.columns; rows = state_rows program sets other l f (length program.columns) ++ env_rows program sets thread edge t }
-env_is program sets first second f t l w other thread edge set empty one two last rows says_f says_t rows_is empty_is wide one_is two_is same last_is =
+pub env_is : (program : Program) (f t : Statement) (l w : ℕ) (other thread : Thread) (edge : Edge) (atoms : List Row) (empty one two last rows : System)
+    → rows ≡ seen_system program thread edge → empty ≡ record { columns = rows.columns; rows = [] } → w ≡ rows.columns
+    → one ≡ with_rows empty (said_rows (length program.columns) empty.columns other l f.atoms) → two ≡ with_rows one rows.rows → atoms ≡ t.atoms
+    → last ≡ with_rows two (map (widened (two.columns - w)) atoms)
+    → last ≡ record { columns = length program.columns + length program.columns; rows = state_rows program other l f (length program.columns) ++ env_rows program thread edge t }
+env_is program f t l w other thread edge atoms empty one two last rows rows_is empty_is wide one_is two_is same last_is =
     let n = length program.columns in
     let width = ap (λ system. system.columns) rows_is in
     let whole = ap (λ system. system.columns) empty_is ∙ width in
-    let atoms = map (widened (two.columns - w)) (held_atoms set second.fact.held) in
+    let placed = map (widened (two.columns - w)) atoms in
     let all : two.columns ≡ w = ap (λ system. system.columns) two_is ∙ ap (λ system. system.columns) one_is ∙ ap (λ system. system.columns) empty_is ∙ sym wide in
-    let both : last ≡ with_rows one (rows.rows ++ atoms) = last_is ∙ ap (λ system. with_rows system atoms) two_is ∙ ap (λ (l : List Row). record { columns = one.columns; rows = l }) (append_assoc one.rows rows.rows atoms) in
-    let held : atoms ≡ atoms_of sets t = widened-same (two.columns - w) (held_atoms set second.fact.held) (omega (arith, all)) ∙ ap (λ (s : List Row). held_atoms s second.fact.held) same ∙ held_is sets program second t says_t in
+    let both : last ≡ with_rows one (rows.rows ++ placed) = last_is ∙ ap (λ system. with_rows system placed) two_is ∙ ap (λ (l : List Row). record { columns = one.columns; rows = l }) (append_assoc one.rows rows.rows placed) in
+    let held : placed ≡ t.atoms = widened-same (two.columns - w) atoms (omega (arith, all)) ∙ same in
     glued _ _ _ _ _ empty one last rows empty_is one_is both
-    (said_is program sets first f other l n empty.columns says_f whole)
+    (said_is program f other l n empty.columns whole)
     (ap₂ (λ (a : List Row) (b : List Row). a ++ b) (ap (λ system. system.rows) rows_is) held) width
 
 pub few_seen : (program : Program) (thread : Thread) (edge : Edge) (rows : System) → IsProgram program → rows ≡ seen_system program thread edge → length rows.rows ≤ 4098

@@ -7,10 +7,10 @@ use Rattle.std.proofs.lemmas.Option.{slice_get-map}
 use Rattle.lin_rows.specs.Row.{Row}
 use Rattle.predicate_sets.specs.Sets.{set_at}
 use Rattle.transition_formula.specs.Program.{Program, Thread, numbered}
-use Rattle.horn_rules.specs.Home.{Home, State, Env, by_thread, state_homes, env_homes, homes}
+use Rattle.horn_rules.specs.Home.{Home, State, Env, by_number, state_homes, env_homes, homes}
 use Rattle.horn_rules.specs.Fact.{IsSetOf, AreSetsOf}
 use Rattle.horn_rules.specs.Stored.{same_home, list_at, sets_of, AreStoredSetsOf}
-use Rattle.horn_rules.proofs.Places.{slice_get-append_left, slice_get-append_right, range-within, by_thread-found}
+use Rattle.horn_rules.proofs.Places.{slice_get-append_left, slice_get-append_right, range-within, by_number-found}
 
 -- ---- the homes of a kind: each is made of a number
 
@@ -69,15 +69,15 @@ envs-once = record {
 -- ---- the homes of all threads
 
 inside-and_behind : (give : ℕ → Thread → List Home) (states : Bool) (i p q : ℕ) (t : Thread) (threads : List Thread) (home : Home) → GivesOnce give states
-    → slice_get (give i t) p ≡ Some home → slice_get (by_thread give (suc i) threads) q ≡ Some home → ⊥
+    → slice_get (give i t) p ≡ Some home → slice_get (by_number give (suc i) threads) q ≡ Some home → ⊥
 inside-and_behind give states i p q t threads home gives here there =
-    let found = by_thread-found give (suc i) threads q home there in
+    let found = by_number-found give (suc i) threads q home there in
     let one = gives.own i t p home here in
     let other = gives.own (suc i + found.k) found.thread found.place home found.home_is in
     omega arith
 
 one-place : (give : ℕ → Thread → List Home) (states : Bool) (i : ℕ) (threads : List Thread) (p q : ℕ) (home : Home) → GivesOnce give states
-    → slice_get (by_thread give i threads) p ≡ Some home → slice_get (by_thread give i threads) q ≡ Some home → p ≡ q
+    → slice_get (by_number give i threads) p ≡ Some home → slice_get (by_number give i threads) q ≡ Some home → p ≡ q
 one-place give states i [] p q home gives e f = absurd (nothing-at p home e)
   where
     nothing-at : (p : ℕ) (home : Home) → slice_get [] p ≡ Some home → ⊥
@@ -85,7 +85,7 @@ one-place give states i [] p q home gives e f = absurd (nothing-at p home e)
     nothing-at (suc p) home e = cc
 one-place give states i (t ∷ threads) p q home gives e f =
     let here = give i t in
-    let rest = by_thread give (suc i) threads in
+    let rest = by_number give (suc i) threads in
     elim (leb_tells (length here) p) [
       | inr (miss, inside) ↦ elim (leb_tells (length here) q) [
         | inr (miss_q, inside_q) ↦ gives.once i t p q home (sym (slice_get-append_left here rest p inside) ∙ e) (sym (slice_get-append_left here rest q inside_q) ∙ f)
@@ -100,16 +100,16 @@ one-place give states i (t ∷ threads) p q home gives e f =
     ]
 
 kind-at : (give : ℕ → Thread → List Home) (states : Bool) (threads : List Thread) (p : ℕ) (home : Home) → GivesOnce give states
-    → slice_get (by_thread give 1 threads) p ≡ Some home → is_state home ≡ states
+    → slice_get (by_number give 1 threads) p ≡ Some home → is_state home ≡ states
 kind-at give states threads p home gives e =
-    let found = by_thread-found give 1 threads p home e in
+    let found = by_number-found give 1 threads p home e in
     gives.kind (1 + found.k) found.thread found.place home found.home_is
 
 -- a home stands among all at one place
 pub one-number : (program : Program) (p q : ℕ) (home : Home) → slice_get (homes program) p ≡ Some home → slice_get (homes program) q ≡ Some home → p ≡ q
 one-number program p q home e f =
-    let states = by_thread state_homes 1 program.threads in
-    let edges = by_thread env_homes 1 program.threads in
+    let states = by_number state_homes 1 program.threads in
+    let edges = by_number env_homes 1 program.threads in
     elim (leb_tells (length states) p) [
       | inr (miss, inside) ↦
           let e_in = sym (slice_get-append_left states edges p inside) ∙ e in
@@ -195,7 +195,7 @@ listed-at (other ∷ others) (list ∷ lists) home = elim (same_home-tells other
 ]
 
 empty-set : (program : Program) (home : Home) → IsSetOf program home []
-empty-set program home = record { are_atoms = tt; none_twice = λ i j d below within e. absurd (omega arith) }
+empty-set program home = record { are_atoms = tt; none_twice = tt }
 
 pub stored-sets-are : (program : Program) (lists : List (List Row)) → AreStoredSetsOf program lists → AreSetsOf program (sets_of program lists)
 stored-sets-are program lists are home = elim (listed-at (homes program) lists home) [

@@ -1,24 +1,32 @@
 -- The program of the tests is one, and what its tests ask of numbers.
-use Rattle.std.proofs.Common.{◌≡◌, ℕ, zero, suc, ◌<◌, ◌≤◌, List, [], ◌∷◌, length, pos, Some, refl, subst, arith}
-use Rattle.std.specs.Option.{IsSome}
+use Rattle.std.proofs.Common.{◌≡◌, ℕ, zero, suc, ◌<◌, ◌≤◌, List, [], ◌∷◌, length, pos, Some, None, refl, subst, arith}
+use Rattle.thr_base.specs.declared.names.ThreadNo.{ThreadNo}
+use Rattle.thr_base.specs.declared.names.Instance.TheVariants as stored
+use Rattle.thr_base.specs.declared.names.Fact.{Fact as StoredFact}
 use Rattle.std.specs.List.{IsDistinct}
 use Rattle.std.specs.Str.{bytes_eq}
 use Rattle.std.proofs.lemmas.Slice.Eq.{bytes_eq-Decides}
 use Rattle.std.proofs.lemmas.Map.Made.{AllPairs-from_IsDistinct}
-use Rattle.std.proofs.lemmas.Option.{slice_get_within, get_or_from_slice_get}
 use Rattle.thr_base.specs.Number.{Fits}
 use Rattle.transition_formula.specs.Program.{Column, Thread, Program, IsThreadOf, IsCounter, IsThread, IsEdge, IsProgram, numbered}
-use Rattle.transition_formula.proofs.OwnTexts.{first-own, second-own}
-use Rattle.horn_rules.specs.Home.{Home, State, Env, homes, IsHomeOf}
-use Rattle.horn_rules.specs.Worked.{counter_column, bare_edge, first_thread, second_thread, worked_program}
+use Rattle.transition_formula.specs.ColumnText.{counter}
+use Rattle.transition_formula.proofs.OwnTexts.{first-own, second-own, first-counter, second-counter}
+use Rattle.horn_rules.specs.Home.{Home, State, Env, homes}
+use Rattle.horn_rules.proofs.Numbers.{numbered-there}
+use Rattle.horn_rules.specs.inside.Worked.{counter_column, bare_edge, first_thread, second_thread, worked_program}
 use Rattle.horn_rules.specs.declared.job.Premise.{Premise}
-use Rattle.horn_rules.specs.Job.{IsPremiseAt, IsAtSource, IsAtLocation, IsAtEdge}
+use Rattle.horn_rules.specs.declared.job.Job.{Job}
+use Rattle.horn_rules.specs.Instance.{Instance, Init}
+use Rattle.horn_rules.specs.Case.{init_case, init}
+use Rattle.horn_rules.specs.Stored.{HasItsHome}
+use Rattle.horn_rules.specs.Job.{IsJob, ComesTo}
+use Rattle.horn_rules.specs.inside.JobRows.{IsPremiseAt, IsAtSource, IsAtLocation, IsAtEdge}
 
 first-counts : (column : Column) → Some (counter_column 1 (116 ∷ 49 ∷ 46 ∷ 36 ∷ 112 ∷ 99 ∷ [])) ≡ Some column → IsCounter 1 column
-first-counts column at = let same : counter_column 1 (116 ∷ 49 ∷ 46 ∷ 36 ∷ 112 ∷ 99 ∷ []) ≡ column = cc in subst (λ found. IsCounter 1 found) same (record { owned = refl; starts = refl })
+first-counts column at = let same : counter_column 1 (116 ∷ 49 ∷ 46 ∷ 36 ∷ 112 ∷ 99 ∷ []) ≡ column = cc in subst (λ found. IsCounter 1 found) same (record { owned = refl; named = first-counter; starts = refl })
 
 second-counts : (column : Column) → Some (counter_column 2 (116 ∷ 50 ∷ 46 ∷ 36 ∷ 112 ∷ 99 ∷ [])) ≡ Some column → IsCounter 2 column
-second-counts column at = let same : counter_column 2 (116 ∷ 50 ∷ 46 ∷ 36 ∷ 112 ∷ 99 ∷ []) ≡ column = cc in subst (λ found. IsCounter 2 found) same (record { owned = refl; starts = refl })
+second-counts column at = let same : counter_column 2 (116 ∷ 50 ∷ 46 ∷ 36 ∷ 112 ∷ 99 ∷ []) ≡ column = cc in subst (λ found. IsCounter 2 found) same (record { owned = refl; named = second-counter; starts = refl })
 
 edge-is : (thread : Thread) (from to : ℕ) → 0 < from → from < thread.locations → to < thread.locations → IsEdge worked_program thread (bare_edge from to)
 unfolding IsDistinct
@@ -73,35 +81,20 @@ worked-is = record {
   few_columns = omega arith;
   few_threads = omega arith;
   has_counters = omega arith;
-  texts_are = (
-    record { is_text = record { some = omega arith; bytes = refl; no_number = refl }; tells_owner = first-own (36 ∷ 112 ∷ 99 ∷ []) (omega arith) },
-    (record { is_text = record { some = omega arith; bytes = refl; no_number = refl }; tells_owner = second-own (36 ∷ 112 ∷ 99 ∷ []) (omega arith) }, tt),
+  columns_are = (
+    record { text_is = first-own 2 (36 ∷ 112 ∷ 99 ∷ []) (omega arith) counter; start_fits = one-fits },
+    (record { text_is = second-own 2 (36 ∷ 112 ∷ 99 ∷ []) (omega arith) counter; start_fits = one-fits }, tt),
   );
   texts_differ = AllPairs-from_IsDistinct bytes_eq-Decides _ texts-differ;
-  starts_fit = (one-fits, (one-fits, tt));
-  owners_exist = ((omega arith, omega arith), ((omega arith, omega arith), tt));
   others_start = tt;
   threads_are = threads-are;
 }
-
-there : {A : Type 0} (xs : List A) (k : ℕ) → k < length xs → IsSome (numbered xs (suc k))
-there [] k h = absurd (omega arith)
-there (x ∷ xs) zero h = refl
-there (x ∷ xs) (suc k) h = there xs k (omega arith)
-
-pub numbered-there : {A : Type 0} (xs : List A) (n : ℕ) → 0 < n → n ≤ length xs → IsSome (numbered xs n)
-numbered-there xs zero h k = absurd (omega arith)
-numbered-there xs (suc n) h k = there xs n (omega arith)
-
-pub home-numbered : (program : Program) (n : ℕ) (home : Home) → numbered (homes program) n ≡ Some home → IsHomeOf program home
-home-numbered program zero home e = cc
-home-numbered program (suc k) home e = (k, slice_get_within (homes program) k home e, get_or_from_slice_get (homes program) k home home e)
 
 -- a premise without predicates, at a home
 at-home : (program : Program) (premise : Premise) (home : Home) (n : ℕ) → program ≡ worked_program → premise.fact.home.0 ≡ n → numbered (homes worked_program) n ≡ Some home
     → premise.set.value ≡ [] → IsPremiseAt program premise home
 at-home program premise home n worked at there empty =
-    record { home_is = rw (worked, at) there; set_is = rw empty (record { are_atoms = tt; none_twice = λ i j d below within e. absurd (omega arith) }) }
+    record { home_is = rw (worked, at) there; set_is = rw empty (record { are_atoms = tt; none_twice = tt }) }
 
 -- at the start of the first thread, the source of its first edge
 pub first-source : (program : Program) (premise : Premise) → program ≡ worked_program → premise.fact.home.0 ≡ 2 → premise.set.value ≡ [] → IsAtSource program premise 1
@@ -142,3 +135,22 @@ second-edge program premise worked home empty = record {
   edge_is = rw worked (record { thread_is = refl; edge_is = refl });
   premise_is = at-home program premise (Env 2 1) 10 worked home refl empty;
 }
+
+-- the first thread's start, with no predicates at its home
+pub start-job : (program : Program) (job : Job) (i : ThreadNo) → program ≡ worked_program → i.0 ≡ 1 → job.instance ≡ stored.Init i → job.first ≡ None → job.second ≡ None → job.home.0 ≡ 2
+    → job.target.value ≡ [] → IsJob program job
+start-job program job i worked one instance_is first_is second_is home_is empty = (
+  init_case program 1,
+  record {
+    instance = Init 1;
+    instance_is = record { ids_are = rw (instance_is, one) refl; first_is = first_is; second_is = second_is };
+    is_case = rw worked (init {program = worked_program} 1 first_thread refl);
+    premises_are = tt;
+    home_is = rw (worked, home_is) refl;
+    target_is = rw empty (record { are_atoms = tt; none_twice = tt });
+  },
+)
+
+-- facts at homes that the program has
+pub has-home : (program : Program) (fact : StoredFact) (n : ℕ) → program ≡ worked_program → fact.home.0 ≡ n → 0 < n → n ≤ length (homes worked_program) → HasItsHome program fact
+has-home program fact n worked at from to = rw (worked, at) (numbered-there (homes worked_program) n from to)

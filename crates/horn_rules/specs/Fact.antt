@@ -1,8 +1,9 @@
--- Predicates and facts. Positions count from 1.
-use Rattle.std.specs.Prelude.{◌≡◌, ◌≢◌, ℕ, ◌<◌, List, [], ◌∷◌, length, filter_map, AllPairs}
+-- Predicates, facts, and what facts say. Positions count from 1.
+use Rattle.std.specs.Prelude.{◌≡◌, ℕ, List, length, filter_map}
 use Rattle.std.specs.List.{AllByRecursion}
 use Rattle.lin_rows.specs.Row.{Row}
 use Rattle.lin_rows.specs.Atom.{IsAtom}
+use Rattle.predicate_sets.specs.HomeSet.{AreDistinct}
 use Rattle.transition_formula.specs.Program.{Program, numbered}
 use Rattle.horn_rules.specs.Home.{Home, home_width}
 
@@ -18,7 +19,7 @@ pub record IsAtomOf (program : Program) (home : Home) (atom : Row) : Type 0 wher
 -- The predicates of a home: atoms of it, none of them twice.
 pub record IsSetOf (program : Program) (home : Home) (atoms : List Row) : Type 0 where
   pub are_atoms : AllByRecursion (IsAtomOf program home) atoms
-  pub none_twice : AllPairs (λ a b. a ≢ b) atoms
+  pub none_twice : AreDistinct atoms
 
 -- Each home has predicates of it.
 abbrev pub AreSetsOf : Program → Sets → Type 0
@@ -29,11 +30,19 @@ pub record Fact : Type 0 where
   pub home : Home
   pub held : List ℕ
 
--- the atoms of a fact, in the order of positions
-abbrev pub atoms_of : Sets → Fact → List Row
-atoms_of sets fact = filter_map (numbered (sets fact.home)) fact.held
+-- What a fact says: at a home, these atoms hold.
+pub record Statement : Type 0 where
+  pub home : Home
+  pub atoms : List Row
 
--- The positions rise, from above `last`.
-abbrev pub Rise : ℕ → List ℕ → Type 0
-Rise last [] = Unit {0}
-Rise last (k ∷ ks) = (last < k) × Rise k ks
+-- the atoms of a list at these positions, in the order of the positions
+abbrev pub atoms_at : List Row → List ℕ → List Row
+atoms_at atoms held = filter_map (numbered atoms) held
+
+-- what a fact says, where homes have these predicates
+abbrev pub statement_of : Sets → Fact → Statement
+statement_of sets fact = record { home = fact.home; atoms = atoms_at (sets fact.home) fact.held }
+
+-- The statement is made of atoms of its home.
+pub record IsStatementOf (program : Program) (statement : Statement) : Type 0 where
+  pub are_atoms : AllByRecursion (IsAtomOf program statement.home) statement.atoms

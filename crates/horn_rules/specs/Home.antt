@@ -10,10 +10,10 @@ pub data Home : Type 0 where
   -- an edge of a thread: what holds of its steps, as the other threads see them
   Env : ℕ → ℕ → Home
 
--- what each thread gives by its number, one thread after another; the first of these threads has number i
-abbrev pub by_thread : (ℕ → Thread → List Home) → ℕ → List Thread → List Home
-by_thread give i [] = []
-by_thread give i (thread ∷ threads) = give i thread ++ by_thread give (suc i) threads
+-- what each element gives with its number, one after another; the first of these has number n
+abbrev pub by_number : {X Y : Type 0} → (ℕ → X → List Y) → ℕ → List X → List Y
+by_number give n [] = []
+by_number give n (x ∷ xs) = give n x ++ by_number give (suc n) xs
 
 -- the homes at the locations of thread i
 abbrev pub state_homes : ℕ → Thread → List Home
@@ -25,7 +25,7 @@ env_homes i thread = map (Env i) (range_with_len 1 (length thread.edges))
 
 -- all homes, in the order of their numbers
 abbrev pub homes : Program → List Home
-homes program = by_thread state_homes 1 program.threads ++ by_thread env_homes 1 program.threads
+homes program = by_number state_homes 1 program.threads ++ by_number env_homes 1 program.threads
 
 -- The program has this home.
 abbrev pub IsHomeOf : Program → Home → Type 0

@@ -1,91 +1,92 @@
--- What the facts that instances give say of states.
-use Rattle.std.specs.Prelude.{◌≡◌, ◌≢◌, ℕ, ℤ, pos, List, ◌++◌, length, Option, Some, slice_get}
-use Rattle.std.specs.List.{AllByRecursion}
+-- What cases, posts, instances and tables are, said further.
+use Rattle.std.specs.Prelude.{◌≡◌, ◌≢◌, ◌↔◌, ℕ, ℤ, ◌+◌, ◌≤◌, List, [], length, AllPairs, Option, Some}
+use Rattle.std.specs.List.{AllByRecursion, Contains}
 use Rattle.thr_base.specs.declared.names.RuleName.{RuleName}
-use Rattle.thr_base.specs.declared.names.Instance.{Instance}
-use Rattle.lin_rows.specs.Row.{Meets}
+use Rattle.lin_rows.specs.Row.{Row, Meets}
 use Rattle.lin_rows.specs.System.{IsPoint}
-use Rattle.transition_formula.specs.Program.{Program, Thread, Edge, IsThreadOf, IsEdgeOf, IsProgram}
-use Rattle.transition_formula.specs.Step.{Steps, IsInitial}
-use Rattle.horn_rules.specs.declared.job.Premise.{Premise}
-use Rattle.horn_rules.specs.Home.{State, Env}
-use Rattle.horn_rules.specs.Fact.{Sets, Fact, AreSetsOf, atoms_of}
-use Rattle.horn_rules.specs.Instance.{Case, IsCase, init_case, own_case, guar_case, env_case, inter_case}
-use Rattle.horn_rules.specs.Job.{IsCaseOf, HasKind}
-use Rattle.horn_rules.specs.Least.{IsFactOf, IsPost}
+use Rattle.farkas_cert.specs.Cert.{IsRefuted}
+use Rattle.transition_formula.specs.Program.{Program}
+use Rattle.horn_rules.specs.declared.job.Job.{Job}
+use Rattle.horn_rules.specs.Home.{Home, IsHomeOf, home_width}
+use Rattle.horn_rules.specs.Fact.{Sets, Fact, Statement, IsAtomOf, AreSetsOf, IsStatementOf, statement_of}
+use Rattle.horn_rules.specs.Instance.{Instance, HasKind, premises_of, map_instance}
+use Rattle.horn_rules.specs.Case.{Case, IsCaseOf, placed_at, in_front}
+use Rattle.horn_rules.specs.Post.{IsPost, IsFactOf, IsGiven}
+use Rattle.horn_rules.specs.Least.{Least}
+use Rattle.horn_rules.specs.Instances.{instances_over, IsResolved}
+use Rattle.horn_rules.specs.Job.{ComesTo}
+use Rattle.horn_rules.specs.Table.{IsTableOf}
 
--- The atoms of the fact that an instance gives hold, as they are placed, at each whole point of its system.
-abbrev pub HeldAtomsHold : Type 0
-HeldAtomsHold = (program : Program) (rule : RuleName) (sets : Sets) (premises : List Fact) (given : Case) (fact : Fact) (z : List ℤ)
-    → AreSetsOf program sets → IsCase program sets rule premises given → IsFactOf sets given fact → IsPoint given.system z
-    → AllByRecursion (λ atom. Meets (given.place atom) z) (atoms_of sets fact)
+-- ---- cases
 
--- An instance gives one thing at most.
+-- An instance comes to one case at most.
+abbrev pub CasesAreUnique : Type 0
+CasesAreUnique = (program : Program) (instance : Instance Statement) (one other : Case) → IsCaseOf program instance one → IsCaseOf program instance other → one ≡ other
+
+-- So does a job.
+abbrev pub JobsHaveOneCase : Type 0
+JobsHaveOneCase = (program : Program) (job : Job) (one other : Case) → ComesTo program job one → ComesTo program job other → one ≡ other
+
+-- An atom of the case's home is placed by numbers, and stands within its system.
+pub record IsPlacedBy (program : Program) (instance : Instance Statement) (given : Case) (atom : Row) : Type 0 where
+  pub within : in_front (length program.columns) instance + length atom.coefficients ≤ given.system.columns
+  pub placed : given.place atom ≡ placed_at (in_front (length program.columns) instance) given.system.columns atom
+
+abbrev pub AtomsArePlaced : Type 0
+AtomsArePlaced = (program : Program) (instance : Instance Statement) (given : Case) (atom : Row)
+    → IsCaseOf program instance given → length atom.coefficients ≡ home_width (length program.columns) given.target → IsPlacedBy program instance given atom
+
+-- ---- posts
+
+-- A case has one post at most.
 abbrev pub PostsAreUnique : Type 0
-PostsAreUnique = (sets : Sets) (given : Case) (one other : Option Fact) → IsPost sets given one → IsPost sets given other → one ≡ other
+PostsAreUnique = (given : Case) (atoms : List Row) (one other : Option (List ℕ)) → IsPost given atoms one → IsPost given atoms other → one ≡ other
 
--- What the instance of a job comes to is a case of each rule that has instances of its kind.
-abbrev pub JobsAreCases : Type 0
-JobsAreCases = (program : Program) (sets : Sets) (rule : RuleName) (instance : Instance) (first second : Option Premise) (premises : List Fact) (given : Case)
-    → HasKind rule instance → IsCaseOf program sets instance first second premises given → IsCase program sets rule premises given
+-- What the fact of an instance says, the instance gives.
+abbrev pub FactsAreGiven : Type 0
+FactsAreGiven = (sets : Sets) (given : Case) (fact : Fact) → IsFactOf sets given fact → IsGiven given (statement_of sets fact)
 
--- The fact describes the state: it stands at a location of a thread, the thread is there, and the fact's atoms hold.
-pub record Describes (program : Program) (sets : Sets) (fact : Fact) (state : List ℤ) : Type 0 where
-  pub i : ℕ
-  pub l : ℕ
-  pub thread : Thread
-  pub thread_is : IsThreadOf program i thread
-  pub stands : fact.home ≡ State i l
-  pub there : slice_get state thread.counter ≡ Some (pos l)
-  pub hold : AllByRecursion (λ atom. Meets atom state) (atoms_of sets fact)
+-- The atoms of what an instance gives hold, as they are placed, at each whole point of its system.
+abbrev pub GivenAtomsHold : Type 0
+GivenAtomsHold = (program : Program) (instance : Instance Statement) (given : Case) (statement : Statement) (z : List ℤ)
+    → IsCaseOf program instance given → IsStatementOf program statement → IsGiven given statement → IsPoint given.system z
+    → AllByRecursion (λ atom. Meets (given.place atom) z) statement.atoms
 
--- The fact describes the step: it stands at an edge of a thread, the thread steps by it, and the fact's atoms hold of the states
--- before and after.
-pub record Tells (program : Program) (sets : Sets) (fact : Fact) (before inputs after : List ℤ) : Type 0 where
-  pub i : ℕ
-  pub e : ℕ
-  pub thread : Thread
-  pub edge : Edge
-  pub edge_is : IsEdgeOf program i e thread edge
-  pub stands : fact.home ≡ Env i e
-  pub steps : Steps thread edge before inputs after
-  pub hold : AllByRecursion (λ atom. Meets atom (before ++ after)) (atoms_of sets fact)
+-- the fact of a home that holds no predicate
+abbrev pub bare_at : Home → Fact
+bare_at home = record { home = home; held = [] }
 
--- The fact that a thread's start gives describes each initial state.
-abbrev pub StartsAreDescribed : Type 0
-StartsAreDescribed = (program : Program) (sets : Sets) (i : ℕ) (thread : Thread) (fact : Fact) (state : List ℤ)
-    → IsProgram program → AreSetsOf program sets → IsThreadOf program i thread
-    → length state ≡ length program.columns → IsInitial program.columns state
-    → IsFactOf sets (init_case program i) fact → Describes program sets fact state
+-- Where no home has predicates, each instance whose system is not refuted gives exactly the bare fact of its home; where the facts
+-- that it starts from are in the least set, so is that one.
+abbrev pub EachInstanceGivesItsHome : Type 0
+EachInstanceGivesItsHome = (program : Program) (rule : RuleName) (sets : Sets) (instance : Instance Fact) (given : Case) → ((home : Home) → sets home ≡ [])
+    → HasKind rule instance → IsCaseOf program (map_instance (statement_of sets) instance) given → (¬ IsRefuted given.system)
+    → IsFactOf sets given (bare_at given.target)
+    × (AllByRecursion (Least program rule sets) (premises_of instance) → Least program rule sets (bare_at given.target))
 
--- Where a fact describes the state before a step of its thread, the fact that this step gives describes the state after it.
-abbrev pub OwnStepsAreDescribed : Type 0
-OwnStepsAreDescribed = (program : Program) (sets : Sets) (i e : ℕ) (thread : Thread) (edge : Edge) (f fact : Fact) (before inputs after : List ℤ)
-    → IsProgram program → AreSetsOf program sets → IsEdgeOf program i e thread edge → f.home ≡ State i edge.from
-    → length before ≡ length program.columns → Steps thread edge before inputs after → Describes program sets f before
-    → IsFactOf sets (own_case program sets i thread edge f) fact → Describes program sets fact after
+-- ---- the instances over a list
 
--- There, the environment fact that this step gives describes the step.
-abbrev pub OwnStepsAreTold : Type 0
-OwnStepsAreTold = (program : Program) (sets : Sets) (i e : ℕ) (thread : Thread) (edge : Edge) (f fact : Fact) (before inputs after : List ℤ)
-    → IsProgram program → AreSetsOf program sets → IsEdgeOf program i e thread edge → f.home ≡ State i edge.from
-    → length before ≡ length program.columns → Steps thread edge before inputs after → Describes program sets f before
-    → IsFactOf sets (guar_case program sets i e thread edge f) fact → Tells program sets fact before inputs after
+-- The instance is one of the rule, and comes to a case over what the facts say.
+pub record IsInstanceOver (program : Program) (rule : RuleName) (facts : List Statement) (numbers : Instance ℕ) : Type 0 where
+  pub instance : Instance Statement
+  pub given : Case
+  pub has_kind : HasKind rule instance
+  pub resolved : IsResolved facts numbers instance
+  pub is_case : IsCaseOf program instance given
 
--- Where a fact describes the state before a step of another thread, and an environment fact the step, the fact that both give
--- describes the state after it.
-abbrev pub ToldStepsAreDescribed : Type 0
-ToldStepsAreDescribed = (program : Program) (sets : Sets) (k l i e : ℕ) (other thread : Thread) (edge : Edge) (f t fact : Fact) (before inputs after : List ℤ)
-    → IsProgram program → AreSetsOf program sets → k ≢ i → IsThreadOf program k other → IsEdgeOf program i e thread edge
-    → f.home ≡ State k l → t.home ≡ Env i e → length before ≡ length program.columns
-    → Describes program sets f before → Tells program sets t before inputs after
-    → IsFactOf sets (env_case program sets k l other thread edge f t) fact → Describes program sets fact after
+-- The list has exactly these, each once.
+pub record AreInstancesOver (program : Program) (rule : RuleName) (facts : List Statement) (instances : List (Instance ℕ)) : Type 0 where
+  pub exact : (numbers : Instance ℕ) → Contains instances numbers ↔ IsInstanceOver program rule facts numbers
+  pub none_twice : AllPairs (λ a b. a ≢ b) instances
 
--- Where facts of two threads describe the state before a step of the second, the fact that both give by this step describes the
--- state after it.
-abbrev pub InterferingStepsAreDescribed : Type 0
-InterferingStepsAreDescribed = (program : Program) (sets : Sets) (k l i e : ℕ) (other thread : Thread) (edge : Edge) (f g fact : Fact) (before inputs after : List ℤ)
-    → IsProgram program → AreSetsOf program sets → k ≢ i → IsThreadOf program k other → IsEdgeOf program i e thread edge
-    → f.home ≡ State k l → g.home ≡ State i edge.from → length before ≡ length program.columns
-    → Steps thread edge before inputs after → Describes program sets f before → Describes program sets g before
-    → IsFactOf sets (inter_case program sets k l other thread edge f g) fact → Describes program sets fact after
+-- So is it with the list of all instances over facts at homes of the program.
+abbrev pub InstancesAreExact : Type 0
+InstancesAreExact = (program : Program) (rule : RuleName) (facts : List Statement)
+    → AllByRecursion (λ fact. IsHomeOf program fact.home) facts → AreInstancesOver program rule facts (instances_over program rule facts)
+
+-- ---- tables
+
+-- Of what the same facts are said, the table is the same, and there is one at most.
+abbrev pub TablesAreUnique : Type 0
+TablesAreUnique = (program : Program) (rule : RuleName) (sets : Sets) (one other : List ℕ)
+    → IsTableOf (Least program rule sets) one → IsTableOf (Least program rule sets) other → one ≡ other

@@ -1,37 +1,21 @@
--- What an instance gives, and what can be derived from nothing.
-use Rattle.std.specs.Prelude.{◌≡◌, ◌↔◌, ℕ, List, [], ◌∷◌, Option, Some, None}
+-- What can be derived from nothing.
+use Rattle.std.specs.Prelude.{◌≡◌, List, [], ◌∷◌}
 use Rattle.std.specs.List.{AllByRecursion, Contains}
 use Rattle.thr_base.specs.declared.names.RuleName.{RuleName}
-use Rattle.lin_rows.specs.Row.{Row}
-use Rattle.farkas_cert.specs.Cert.{IsRefuted}
-use Rattle.farkas_cert.specs.Proof.{Entails}
-use Rattle.transition_formula.specs.Program.{Program, numbered}
-use Rattle.horn_rules.specs.Fact.{Sets, Fact, Rise}
-use Rattle.horn_rules.specs.Instance.{Case, IsCase}
+use Rattle.transition_formula.specs.Program.{Program}
+use Rattle.horn_rules.specs.Fact.{Sets, Fact, Statement, statement_of}
+use Rattle.horn_rules.specs.Instance.{Instance, HasKind, premises_of, map_instance}
+use Rattle.horn_rules.specs.Case.{Case, IsCaseOf}
+use Rattle.horn_rules.specs.Post.{IsFactOf}
 
--- The system entails the atom at position k of the target's home.
-abbrev pub EntailsAt : Sets → Case → ℕ → Type 0
-EntailsAt sets given k = (atom : Row) × (numbered (sets given.target) k ≡ Some atom) × Entails given.system (given.place atom)
-
--- The fact of the target home with exactly the positions whose atoms the system entails; the system is not refuted.
-pub record IsFactOf (sets : Sets) (given : Case) (fact : Fact) : Type 0 where
-  pub open_system : ¬ IsRefuted given.system
-  pub at_target : fact.home ≡ given.target
-  pub rising : Rise 0 fact.held
-  pub entailed : (k : ℕ) → Contains fact.held k ↔ EntailsAt sets given k
-
--- What the instance gives: nothing where its system is refuted, and else that fact.
-abbrev pub IsPost : Sets → Case → Option Fact → Type 0
-IsPost sets given None = IsRefuted given.system
-IsPost sets given (Some fact) = IsFactOf sets given fact
-
--- The fact is what an instance over these facts gives.
+-- The fact is what an instance of the rule over these facts gives.
 pub record Comes (program : Program) (rule : RuleName) (sets : Sets) (earlier : List Fact) (fact : Fact) : Type 0 where
-  pub premises : List Fact
+  pub instance : Instance Fact
   pub given : Case
-  pub is_case : IsCase program sets rule premises given
-  pub stand_earlier : AllByRecursion (Contains earlier) premises
-  pub is_post : IsPost sets given (Some fact)
+  pub has_kind : HasKind rule instance
+  pub is_case : IsCaseOf program (map_instance (statement_of sets) instance) given
+  pub stand_earlier : AllByRecursion (Contains earlier) (premises_of instance)
+  pub is_fact : IsFactOf sets given fact
 
 -- Each fact comes from those behind it: the list is a derivation, the newest fact first.
 abbrev pub IsDerivation : Program → RuleName → Sets → List Fact → Type 0
@@ -41,3 +25,7 @@ IsDerivation program rule sets (fact ∷ earlier) = Comes program rule sets earl
 -- The fact can be derived from nothing.
 abbrev pub Least : Program → RuleName → Sets → Fact → Type 0
 Least program rule sets fact = (facts : List Fact) × IsDerivation program rule sets facts × Contains facts fact
+
+-- Some fact of the least set says this.
+abbrev pub LeastSays : Program → RuleName → Sets → Statement → Type 0
+LeastSays program rule sets statement = (fact : Fact) × Least program rule sets fact × (statement ≡ statement_of sets fact)

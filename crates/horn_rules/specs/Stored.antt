@@ -1,19 +1,45 @@
--- What stands for homes and their predicates in a program.
-use Rattle.std.specs.Prelude.{◌≡◌, ℕ, suc, ◌<◌, ◌==◌, ◌&&◌, Bool, false, if◌then◌else◌, List, [], ◌∷◌, length, Some}
-use Rattle.lin_rows.specs.Row.{Row}
-use Rattle.predicate_sets.specs.Sets.{set_at}
+-- What stands for homes, facts and instances in a program.
+use Rattle.std.specs.Prelude.{◌≡◌, ℕ, ◌==◌, ◌&&◌, Bool, false, if◌then◌else◌, List, [], ◌∷◌, length, map, Some, IsSome, unwrap_or}
+use Rattle.thr_base.specs.Held.{positions}
 use Rattle.thr_base.specs.declared.names.Home.{Home as StoredHome}
 use Rattle.thr_base.specs.declared.names.Home.TheVariants.{State as StoredState, Env as StoredEnv}
-use Rattle.transition_formula.specs.Program.{Program, Thread, IsThreadOf, numbered}
-use Rattle.horn_rules.specs.declared.homes.Kind.{Kind}
-use Rattle.horn_rules.specs.declared.homes.Kind.TheVariants.{Location, Edge}
-use Rattle.horn_rules.specs.Home.{Home, State, Env, state_homes, env_homes, homes}
-use Rattle.horn_rules.specs.Fact.{Sets, IsSetOf}
+use Rattle.thr_base.specs.declared.names.Fact.{Fact as StoredFact}
+use Rattle.thr_base.specs.declared.names.Instance.{Instance as StoredInstance}
+use Rattle.thr_base.specs.declared.names.Instance.TheVariants as stored
+use Rattle.lin_rows.specs.Row.{Row}
+use Rattle.predicate_sets.specs.Sets.{set_at}
+use Rattle.transition_formula.specs.Program.{Program, numbered}
+use Rattle.horn_rules.specs.Home.{Home, State, Env, homes}
+use Rattle.horn_rules.specs.Fact.{Sets, Fact, IsSetOf}
+use Rattle.horn_rules.specs.Instance.{Instance, Init, Own, Guar, Env as Environment, Inter}
 
 -- the home that the code's value stands for
 abbrev pub home_of : StoredHome → Home
 home_of (StoredState thread location) = State thread.0 location.0
 home_of (StoredEnv thread edge) = Env thread.0 edge.0
+
+-- the home of a number; where there is none, a location of thread 0, which no program has
+abbrev pub home_numbered : Program → ℕ → Home
+home_numbered program n = unwrap_or (numbered (homes program) n) (State 0 0)
+
+-- the fact that a stored one stands for: at the home of its number, the positions that its word holds
+abbrev pub fact_of : Program → StoredFact → Fact
+fact_of program stored = record { home = home_numbered program stored.home.0; held = positions stored.held }
+
+abbrev pub facts_of : Program → List StoredFact → List Fact
+facts_of program facts = map (fact_of program) facts
+
+-- The home of the stored fact exists.
+abbrev pub HasItsHome : Program → StoredFact → Type 0
+HasItsHome program stored = IsSome (numbered (homes program) stored.home.0)
+
+-- the instance that the code's value stands for, over the ids of facts
+abbrev pub instance_of : StoredInstance → Instance ℕ
+instance_of (stored.Init i) = Init i.0
+instance_of (stored.Own f e) = Own f.0 e.0
+instance_of (stored.Guar f e) = Guar f.0 e.0
+instance_of (stored.Env f t) = Environment f.0 t.0
+instance_of (stored.Inter f g e) = Inter f.0 g.0 e.0
 
 -- ---- predicates by the numbers of homes
 
@@ -36,21 +62,3 @@ sets_of program lists = list_at (homes program) lists
 pub record AreStoredSetsOf (program : Program) (lists : List (List Row)) : Type 0 where
   pub one_each : length lists ≡ length (homes program)
   pub sets_are : (n : ℕ) (home : Home) → numbered (homes program) n ≡ Some home → IsSetOf program home (set_at lists n)
-
--- ---- one kind of homes; no public clause cites what follows
-
--- the homes of thread i, of one kind
-abbrev pub homes_in : Kind → ℕ → Thread → List Home
-homes_in Location = state_homes
-homes_in Edge = env_homes
-
--- the home of a kind at a place of thread i; the first edge has number 1
-abbrev pub home_in : Kind → ℕ → ℕ → Home
-home_in Location i place = State i place
-home_in Edge i place = Env i (suc place)
-
--- Thread i has a home of the kind at the place.
-pub record HasPlace (program : Program) (kind : Kind) (i place : ℕ) : Type 0 where
-  pub thread : Thread
-  pub thread_is : IsThreadOf program i thread
-  pub within : place < length (homes_in kind i thread)

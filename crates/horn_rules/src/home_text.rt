@@ -1,4 +1,4 @@
-ghost use Rattle.std.specs.Prelude.{◌≡◌, ◌++◌, pos, codes, OnOk};
+ghost use Rattle.std.specs.Prelude.{◌≡◌, ◌++◌, pos, codes, OnOk, OnErr};
 ghost use Rattle.thr_base.specs.Number.{number_text};
 ghost use Rattle.horn_rules.specs.HomeText.{home_text};
 ghost use Rattle.horn_rules.specs.Stored.{home_of};
@@ -6,8 +6,18 @@ ghost use Rattle.horn_rules.specs.Stored.{home_of};
 use std::alloc::AllocError;
 use thr_base::{Home, ThreadNo, push_number};
 
-/// Appends the text of a home.
+/// Appends the text of a home. It is made apart, so that nothing of it stands there where memory is wanting.
 pub fn push_home(out: &mut Vec<u8>, home: Home) -> Result<(), AllocError>
+    ensures ok { OnOk result (out.new.items ≡ out.old.items ++ home_text (home_of home)) }
+    ensures err { OnErr result (out.new.items ≡ out.old.items) }
+{
+    let mut text = Vec::new(*out.allocator());
+    push_parts(&mut text, home)?;
+    out.extend_from_slice(text.as_slice())
+}
+
+/// Appends the text of a home; where memory is wanting, a part of it.
+pub(crate) fn push_parts(out: &mut Vec<u8>, home: Home) -> Result<(), AllocError>
     ensures { OnOk result (out.new.items ≡ out.old.items ++ home_text (home_of home)) }
 {
     match home {

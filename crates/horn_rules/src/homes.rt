@@ -1,7 +1,8 @@
 ghost use Rattle.std.specs.Prelude.{◌≡◌, ◌+◌, ◌*◌, ◌^◌, ◌≤◌, ◌<◌, Some, length, take, slice_get, IsSome};
 ghost use Rattle.transition_formula.specs.Program.{Thread, IsProgram, IsThreadOf, numbered};
-ghost use Rattle.horn_rules.specs.Home.{by_thread, homes, IsHomeOf};
-ghost use Rattle.horn_rules.specs.Stored.{home_of, home_in, homes_in, HasPlace};
+ghost use Rattle.horn_rules.specs.Home.{by_number, homes, IsHomeOf};
+ghost use Rattle.horn_rules.specs.Stored.{home_of};
+ghost use Rattle.horn_rules.specs.inside.Kinds.{home_in, homes_in, HasPlace};
 
 use thr_base::{EdgeNo, Home, HomeNo, Loc, ThreadNo};
 use transition_formula::Program;
@@ -30,7 +31,7 @@ fn count_in(program: &Program, kind: Kind, thread: ThreadNo) -> u32
 fn count_before(program: &Program, kind: Kind, threads: u32) -> u32
     requires program { IsProgram program.now }
     requires there { threads ≤ length program.now.threads }
-    ensures count { result ≡ length (by_thread (homes_in kind) 1 (take threads program.now.threads)) }
+    ensures count { result ≡ length (by_number (homes_in kind) 1 (take threads program.now.threads)) }
     ensures few { result ≤ threads * 2 ^ 16 }
 {
     let mut count = 0;
@@ -44,7 +45,7 @@ fn count_before(program: &Program, kind: Kind, threads: u32) -> u32
 fn place_of(program: &Program, kind: Kind, thread: ThreadNo, place: u32) -> u32
     requires program { IsProgram program.now }
     requires there { HasPlace program.now kind thread.0 place }
-    ensures place { slice_get (by_thread (homes_in kind) 1 program.now.threads) result ≡ Some (home_in kind thread.0 place) }
+    ensures place { slice_get (by_number (homes_in kind) 1 program.now.threads) result ≡ Some (home_in kind thread.0 place) }
     ensures few { result < 2 ^ 20 }
 {
     count_before(program, kind, thread.0 - 1) + place
@@ -52,8 +53,8 @@ fn place_of(program: &Program, kind: Kind, thread: ThreadNo, place: u32) -> u32
 
 /// The home at a place, from 0, among all of its kind.
 fn home_at(program: &Program, kind: Kind, place: u32) -> Home
-    requires { IsSome (slice_get (by_thread (homes_in kind) 1 program.now.threads) place) }
-    ensures { slice_get (by_thread (homes_in kind) 1 program.now.threads) place ≡ Some (home_of result) }
+    requires { IsSome (slice_get (by_number (homes_in kind) 1 program.now.threads) place) }
+    ensures { slice_get (by_number (homes_in kind) 1 program.now.threads) place ≡ Some (home_of result) }
 {
     let mut left = place;
     for i in 0..program.threads() {

@@ -1,11 +1,13 @@
 ghost use Rattle.std.specs.Prelude.{◌≡◌, ℕ, ◌+◌, ◌^◌, ◌<◌, ◌≤◌, Some, length, IfOk, OnOk};
 ghost use Rattle.transition_formula.specs.Program.{Thread, IsProgram, IsThreadOf, numbered};
-ghost use Rattle.transition_formula.specs.Rows.{with_rows};
+ghost use Rattle.lin_rows.specs.System.{with_rows};
 ghost use Rattle.horn_rules.specs.Home.{State, Env, homes};
-ghost use Rattle.horn_rules.specs.Job.{IsAtSource, IsAtLocation, IsAtEdge, AreItsPremises, AreStepRows, AreEnvRows, AreInterRows, AreInstanceRows, said_rows};
+ghost use Rattle.horn_rules.specs.Job.{ComesTo, IsJob, premise_says};
+ghost use Rattle.horn_rules.specs.Case.{Case};
+ghost use Rattle.horn_rules.specs.inside.JobRows.{IsAtSource, IsAtLocation, IsAtEdge, AreItsPremises, AreStepRows, AreEnvRows, AreInterRows, AreRowsOfKind, said_rows};
 
 use crate::homes::named;
-use crate::premise::{push_held, push_location, push_rows};
+use crate::premise::{push_held, push_location};
 use lin_rows::Rows;
 use predicate_sets::HomeSet;
 use std::alloc::{AllocError, Global};
@@ -68,7 +70,7 @@ fn push_state(
     ensures program { OnOk result (IsProgram program.now) }
     ensures columns { OnOk result (rows.new.columns ≡ rows.old.columns) }
     ensures few { OnOk result (length rows.new.rows ≤ length rows.old.rows + 129) }
-    ensures rows { OnOk result ((i l : ℕ) (thread : Thread) → numbered (homes program.now) premise.now.fact.home.0 ≡ Some (State i l) → IsThreadOf program.now i thread → rows.new ≡ with_rows rows.old (said_rows (length program.now.columns) rows.old.columns thread l premise.now)) }
+    ensures rows { OnOk result ((i l : ℕ) (thread : Thread) → numbered (homes program.now) premise.now.fact.home.0 ≡ Some (State i l) → IsThreadOf program.now i thread → rows.new ≡ with_rows rows.old (said_rows (length program.now.columns) rows.old.columns thread l (premise_says program.now premise.now).atoms)) }
 {
     let (i, l) = location_of(program, premise);
     push_location(rows, row, program, i, l)?;
@@ -97,7 +99,7 @@ fn step_rows(
     let mut rows = Rows::new(alloc, edge.view().columns());
     let mut row = Vec::new(alloc);
     push_state(&mut rows, &mut row, program, premise)?;
-    push_rows(&mut rows, &edge.view())?;
+    rows.push_rows(&edge.view())?;
     Ok(rows)
 }
 
@@ -119,7 +121,7 @@ fn inter_rows(
     let mut row = Vec::new(alloc);
     push_state(&mut rows, &mut row, program, first)?;
     push_state(&mut rows, &mut row, program, second)?;
-    push_rows(&mut rows, &edge.view())?;
+    rows.push_rows(&edge.view())?;
     Ok(rows)
 }
 
@@ -140,7 +142,7 @@ fn env_rows(
     let mut rows = Rows::new(alloc, columns);
     let mut row = Vec::new(alloc);
     push_state(&mut rows, &mut row, program, first)?;
-    push_rows(&mut rows, &seen.view())?;
+    rows.push_rows(&seen.view())?;
     push_held(
         &mut rows,
         &mut row,
@@ -151,12 +153,18 @@ fn env_rows(
     Ok(rows)
 }
 
-/// The rows of an instance: those of its premises in order, and those of its step.
-pub fn instance_rows(alloc: Global, program: &Program, job: &Job<'_>) -> Result<Rows, AllocError>
-    requires { AreItsPremises program.now job.now.instance job.now.first job.now.second }
-    ensures { IfOk result (AreInstanceRows program.now job.now.instance job.now.first job.now.second) }
+/// The rows of an instance with its premises: those of its premises in order, and those of its step.
+pub(crate) fn rows_of_kind(
+    alloc: Global,
+    program: &Program,
+    instance: Instance,
+    first: &Option<Premise>,
+    second: &Option<Premise>,
+) -> Result<Rows, AllocError>
+    requires { AreItsPremises program.now instance first.now second.now }
+    ensures { IfOk result (AreRowsOfKind program.now instance first.now second.now) }
 {
-    match (job.instance, &job.first, &job.second) {
+    match (instance, first, second) {
         (Instance::Init(_), _, _) => init_rows(alloc, program),
         (Instance::Own(_, e), Some(premise), _) => step_rows(alloc, program, premise, e),
         (Instance::Guar(_, e), Some(premise), _) => step_rows(alloc, program, premise, e),
@@ -166,4 +174,12 @@ pub fn instance_rows(alloc: Global, program: &Program, job: &Job<'_>) -> Result<
         }
         _ => unreachable!(),
     }
+}
+
+/// The rows of a job's instance.
+pub fn instance_rows(alloc: Global, program: &Program, job: &Job<'_>) -> Result<Rows, AllocError>
+    requires { IsJob program.now job.now }
+    ensures { IfOk result (λ rows. (given : Case) → ComesTo program.now job.now given → rows ≡ given.system) }
+{
+    rows_of_kind(alloc, program, job.instance, &job.first, &job.second)
 }

@@ -1,43 +1,94 @@
-ghost use Rattle.horn_rules.specs.Laws.{HeldAtomsHold, PostsAreUnique, JobsAreCases, StartsAreDescribed, OwnStepsAreDescribed, OwnStepsAreTold, ToldStepsAreDescribed, InterferingStepsAreDescribed};
+ghost use Rattle.horn_rules.specs.Cover.{ClosedListsCover, ClosedLeastCovers, LeastIsClosed, CoveredListsDoNotFail, CoveredLeastDoesNotFail, CoveredListsAreSafe, CoveredLeastIsSafe};
+ghost use Rattle.horn_rules.specs.Laws.{CasesAreUnique, JobsHaveOneCase, AtomsArePlaced, PostsAreUnique, FactsAreGiven, GivenAtomsHold, EachInstanceGivesItsHome, InstancesAreExact, TablesAreUnique};
+ghost use Rattle.horn_rules.specs.Steps.{StartsAreDescribed, OwnStepsAreDescribed, OwnStepsAreTold, ToldStepsAreDescribed, InterferingStepsAreDescribed};
 
-/// The atoms of the fact that an instance gives hold at each whole point of its system: a law, and no code.
-pub fn held_atoms_hold()
-    ensures { HeldAtomsHold }
+use transition_formula::runs_end_in_reached_states;
+
+/// An instance comes to one case at most, and so does a job: a law, and no code.
+pub fn cases_are_unique()
+    ensures instances { CasesAreUnique }
+    ensures jobs { JobsHaveOneCase }
 {}
 
-/// An instance gives one thing at most: a law, and no code.
+/// How many columns stand in front of an atom, and that it stands within its case's system: a law, and no code.
+pub fn atoms_are_placed()
+    ensures { AtomsArePlaced }
+{}
+
+/// A case has one post at most: a law, and no code.
 pub fn posts_are_unique()
     ensures { PostsAreUnique }
 {}
 
-/// What the instance of a job comes to is a case of each rule that has instances of its kind: a law, and no code.
-pub fn jobs_are_cases()
-    ensures { JobsAreCases }
+/// What the fact of an instance says, the instance gives: a law, and no code.
+pub fn facts_are_given()
+    ensures { FactsAreGiven }
 {}
 
-/// The fact that a thread's start gives describes each initial state: a law, and no code.
+/// The atoms of what an instance gives hold at each whole point of its system: a law, and no code.
+pub fn given_atoms_hold()
+    ensures { GivenAtomsHold }
+{}
+
+/// Where no home has predicates, each instance that is not refuted gives exactly the bare fact of its home: a law, and no code.
+pub fn without_predicates_each_instance_gives_its_home()
+    ensures { EachInstanceGivesItsHome }
+{}
+
+/// What a thread's start gives describes each initial state: a law, and no code.
 pub fn starts_are_described()
     ensures { StartsAreDescribed }
 {}
 
-/// Own steps lead from states that a fact describes to states that the fact given by them describes: a law, and no code.
+/// Own steps lead from states that a statement describes to states that what they give describes: a law, and no code.
 pub fn own_steps_are_described()
     ensures { OwnStepsAreDescribed }
 {}
 
-/// The environment fact that an own step gives describes the step: a law, and no code.
+/// What an own step gives to the other threads tells of the step: a law, and no code.
 pub fn own_steps_are_told()
     ensures { OwnStepsAreTold }
 {}
 
-/// A step that an environment fact describes leads another thread's fact to one that describes the state after: a law, and no
-/// code.
+/// A step that is told leads another thread's statement to one that describes the state after: a law, and no code.
 pub fn told_steps_are_described()
     ensures { ToldStepsAreDescribed }
 {}
 
-/// A step from a state that facts of both threads describe leads the other thread's fact to one that describes the state
+/// A step from a state that statements of both threads describe leads the other thread's statement to one that describes the state
 /// after: a law, and no code.
 pub fn interfering_steps_are_described()
     ensures { InterferingStepsAreDescribed }
+{}
+
+/// What is closed under a rule describes every state that a run comes to: a law, and no code.
+pub fn closed_sets_cover()
+    ensures lists { ClosedListsCover }
+    ensures least { ClosedLeastCovers }
+{}
+
+/// The least set is closed where its instances give their facts: a law, and no code.
+pub fn the_least_set_is_closed()
+    ensures { LeastIsClosed }
+{}
+
+/// Where what covers all runs has nothing at the failing location of a thread, no run comes there; where it has none of any thread, no
+/// run fails: a law, and no code.
+pub fn where_nothing_fails_no_run_does()
+    ensures lists { CoveredListsDoNotFail }
+    ensures least { CoveredLeastDoesNotFail }
+    ensures safe_lists { CoveredListsAreSafe }
+    ensures safe_least { CoveredLeastIsSafe }
+{
+    runs_end_in_reached_states();
+}
+
+/// The list of instances over facts has exactly those that come to a case, each once: a law, and no code.
+pub fn instances_are_exact()
+    ensures { InstancesAreExact }
+{}
+
+/// The least set has one table at most: a law, and no code.
+pub fn tables_are_unique()
+    ensures { TablesAreUnique }
 {}

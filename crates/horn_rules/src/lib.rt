@@ -7,6 +7,8 @@ mod home_text;
 mod homes;
 mod job;
 mod laws;
+mod lines;
+mod placing;
 mod posted;
 mod premise;
 
@@ -14,9 +16,14 @@ pub use home_text::push_home;
 pub use homes::{home_count, named, number};
 pub use job::{Job, Premise, instance_rows};
 pub use laws::{
-    held_atoms_hold, interfering_steps_are_described, jobs_are_cases, own_steps_are_described,
-    own_steps_are_told, posts_are_unique, starts_are_described, told_steps_are_described,
+    atoms_are_placed, cases_are_unique, closed_sets_cover, facts_are_given, given_atoms_hold,
+    instances_are_exact, interfering_steps_are_described, own_steps_are_described,
+    own_steps_are_told, posts_are_unique, starts_are_described, tables_are_unique,
+    the_least_set_is_closed, told_steps_are_described, where_nothing_fails_no_run_does,
+    without_predicates_each_instance_gives_its_home,
 };
+pub use lines::{push_fact, table};
+pub use placing::{in_front, placed};
 pub use posted::{PostAnswer, Posted};
 
 #[cfg(test)]

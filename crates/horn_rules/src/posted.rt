@@ -1,5 +1,5 @@
 ghost use Rattle.std.specs.Prelude.{◌≡◌};
-ghost use Rattle.horn_rules.specs.Posted.{IsOutcome};
+ghost use Rattle.horn_rules.specs.Job.{IsOutcome};
 
 use crate::job::Job;
 use farkas_cert::LeaveKind;
@@ -13,7 +13,7 @@ pub struct Posted<'p> {
 }
 
 impl<'p> Model for Posted<'p> {
-    ghost use Rattle.horn_rules.specs.Posted.{IsOutcome, JobOutcome};
+    ghost use Rattle.horn_rules.specs.Job.{IsOutcome, JobOutcome};
 
     ghost Value = { JobOutcome };
 

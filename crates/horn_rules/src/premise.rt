@@ -1,38 +1,18 @@
-ghost use Rattle.std.specs.Prelude.{◌≡◌, ◌==◌, ◌+◌, ◌-◌, ◌^◌, ◌<◌, ◌≤◌, ◌∷◌, [], length, map, filter, filter_map, pos, IsSome, OnOk};
+ghost use Rattle.std.specs.Prelude.{◌≡◌, ◌+◌, ◌-◌, ◌^◌, ◌<◌, ◌≤◌, ◌∷◌, [], length, map, filter, filter_map, pos, IsSome, OnOk};
 ghost use Rattle.std.specs.List.{AllByRecursion};
-ghost use Rattle.thr_base.specs.Number.{Fits};
-ghost use Rattle.lin_rows.specs.System.{IsRowOver, with_row};
-ghost use Rattle.lin_rows.specs.View.{row_of};
+ghost use Rattle.thr_base.specs.Held.{holds, positions};
+ghost use Rattle.lin_rows.specs.System.{with_row, with_rows};
 ghost use Rattle.transition_formula.specs.Program.{Thread, IsThreadOf, numbered};
-ghost use Rattle.transition_formula.specs.Rows.{column_is, with_rows};
-ghost use Rattle.horn_rules.specs.Instance.{widened};
-ghost use Rattle.horn_rules.specs.Job.{holds, held_atoms};
+ghost use Rattle.transition_formula.specs.Rows.{column_is};
+ghost use Rattle.horn_rules.specs.Case.{widened};
+ghost use Rattle.horn_rules.specs.Fact.{atoms_at};
 
-use lin_rows::{Atom, RowView, Rows, RowsView};
+use lin_rows::{Atom, Rows};
 use std::alloc::AllocError;
-use thr_base::{Loc, ThreadNo};
-use transition_formula::Program;
+use thr_base::{Loc, ThreadNo, holds};
+use transition_formula::{Program, push_column_is};
 
-/// Appends the row that gives a column its value. Here and below, `row` is room for the coefficients.
-fn push_column_is(
-    rows: &mut Rows,
-    row: &mut Vec<i128>,
-    column: u32,
-    value: i128,
-) -> Result<(), AllocError>
-    requires within { column < rows.old.columns }
-    requires fits { Fits value }
-    requires room { length rows.old.rows < 2 ^ 32 - 2 }
-    ensures { OnOk result (rows.new ≡ with_row rows.old (column_is rows.old.columns column value)) }
-{
-    let width = rows.view().columns();
-    row.clear();
-    row.resize(width as usize, 0)?;
-    row[column as usize] = 1;
-    rows.push(true, row.as_slice(), value)
-}
-
-/// Appends an atom of the first columns.
+/// Appends an atom of the first columns. Here and below, `row` is room for the coefficients.
 fn push_atom(rows: &mut Rows, row: &mut Vec<i128>, atom: &Atom) -> Result<(), AllocError>
     requires within { length atom.now.coefficients ≤ rows.old.columns }
     requires room { length rows.old.rows < 2 ^ 32 - 2 }
@@ -43,15 +23,6 @@ fn push_atom(rows: &mut Rows, row: &mut Vec<i128>, atom: &Atom) -> Result<(), Al
     row.extend_from_slice(atom.coefficients())?;
     row.resize(width as usize, 0)?;
     rows.push(false, row.as_slice(), atom.bound())
-}
-
-/// Whether a position, from 1, is held.
-fn holds(held: u128, position: u32) -> bool
-    requires from_1 { 0 < position }
-    requires to_128 { position ≤ 128 }
-    ensures { result ≡ holds held position }
-{
-    held >> (position - 1) & 1 == 1
 }
 
 /// Appends the atom at a position where it is held.
@@ -91,41 +62,12 @@ pub(crate) fn push_held(
     requires one_each { AllByRecursion (λ atom. length atom.coefficients ≡ columns) atoms.now }
     requires room { length rows.old.rows < 2 ^ 31 }
     ensures few { OnOk result (length rows.new.rows ≤ length rows.old.rows + 128) }
-    ensures rows { OnOk result (rows.new ≡ with_rows rows.old (map (widened (rows.old.columns - columns)) (held_atoms atoms.now held))) }
+    ensures rows { OnOk result (rows.new ≡ with_rows rows.old (map (widened (rows.old.columns - columns)) (atoms_at atoms.now (positions held)))) }
 {
     'positions: for position in 1..129 {
         push_if_held(rows, row, columns, atoms, held, position)?;
     }
     Ok(())
-}
-
-fn push_row(rows: &mut Rows, row: &RowView<'_>) -> Result<(), AllocError>
-    requires over { IsRowOver rows.old.columns (row_of row.now) }
-    requires room { length rows.old.rows < 2 ^ 32 - 2 }
-    ensures { OnOk result (rows.new ≡ with_row rows.old (row_of row.now)) }
-{
-    rows.push(row.equal, row.coefficients, row.bound)
-}
-
-/// Appends rows.
-pub(crate) fn push_rows(rows: &mut Rows, more: &RowsView<'_>) -> Result<(), AllocError>
-    requires width { more.now.columns ≡ rows.old.columns }
-    requires room { length rows.old.rows + length more.now.rows < 2 ^ 32 - 1 }
-    ensures { OnOk result (rows.new ≡ with_rows rows.old more.now.rows) }
-{
-    'more: for place in 0..more.count() {
-        push_row(rows, &more.row(place))?;
-    }
-    Ok(())
-}
-
-/// The column of a thread's counter: the counters are the last columns.
-fn counter(program: &Program, i: ThreadNo) -> u32
-    requires { IsSome (numbered program.now.threads i.0) }
-    ensures counter { (thread : Thread) → IsThreadOf program.now i.0 thread → result ≡ thread.counter }
-    ensures within { result < length program.now.columns }
-{
-    program.columns() - program.threads() + i.0 - 1
 }
 
 /// Appends that a thread is at a location.
@@ -143,7 +85,7 @@ pub(crate) fn push_location(
     ensures count { OnOk result (length rows.new.rows ≡ length rows.old.rows + 1) }
     ensures row { OnOk result ((thread : Thread) → IsThreadOf program.now i.0 thread → rows.new ≡ with_row rows.old (column_is rows.old.columns thread.counter (pos l.0))) }
 {
-    let column = counter(program, i);
+    let column = program.counter(i);
     push_column_is(rows, row, column, i128::from(l.0))?;
     Ok(())
 }

@@ -1,12 +1,14 @@
 ghost use Rattle.std.specs.Prelude.{◌≡◌, ◌≤◌, ◌∷◌, [], map, IfOk};
-ghost use Rattle.horn_rules.specs.Job.{AreItsPremises};
+ghost use Rattle.horn_rules.specs.inside.JobRows.{AreItsPremises};
 ghost use Rattle.transition_formula.specs.Stored.{column_of, edge_of, thread_of};
-ghost use Rattle.horn_rules.specs.Worked.{bare_edge, counter_column, first_thread, second_thread, worked_columns, worked_program};
+ghost use Rattle.horn_rules.specs.inside.Worked.{bare_edge, counter_column, first_thread, second_thread, worked_columns, worked_program};
 
 use super::*;
+use crate::job::rows_of_kind;
 use lin_rows::Rows;
-use predicate_sets::Sets;
+use predicate_sets::{HomeSet, Sets};
 use std::alloc::{AllocError, Global};
+use std::sync::Arc;
 use std::test::Fail;
 use thr_base::{EdgeNo, Epoch, Fact, FactId, Home, HomeNo, Instance, Loc, ThreadNo};
 use transition_formula::{Column, Edge, Program, ThreadGraph};
@@ -122,13 +124,20 @@ fn homes_of_two_threads_in_order(rt: HostRuntime) -> Result<(), Fail> {
     Ok(())
 }
 
+fn no_predicates(alloc: Global, home: u32) -> Result<Arc<HomeSet>, AllocError>
+    requires { 1 ≤ home }
+    ensures { IfOk result (λ set. set.value ≡ []) }
+{
+    let sets = Sets::new(alloc, home)?;
+    sets.at(HomeNo(home))
+}
+
 /// A premise at a home without predicates.
 fn premise(alloc: Global, home: u32) -> Result<Premise, AllocError>
     requires { 1 ≤ home }
     ensures { IfOk result (λ premise. (premise.fact.home.0 ≡ home) × (premise.set.value ≡ [])) }
 {
-    let sets = Sets::new(alloc, home)?;
-    let set = sets.at(HomeNo(home))?;
+    let set = no_predicates(alloc, home)?;
     let fact = Fact {
         home: HomeNo(home),
         held: 0,
@@ -140,25 +149,19 @@ fn premise(alloc: Global, home: u32) -> Result<Premise, AllocError>
     })
 }
 
-/// The rows of an instance.
-fn rows_of(
-    alloc: Global,
-    program: &Program,
-    instance: Instance,
-    first: Option<Premise>,
-    second: Option<Premise>,
-) -> Result<Rows, AllocError>
-    requires { AreItsPremises program.now instance first second }
+/// The rows of the first thread's start.
+fn start(alloc: Global, program: &Program) -> Result<Rows, AllocError>
+    requires { program.now ≡ worked_program }
 {
-    let target = Sets::new(alloc, 1)?.at(HomeNo(1))?;
+    let target = no_predicates(alloc, 2)?;
     let job = Job {
         program,
         worker: 1,
-        instance,
-        home: HomeNo(1),
+        instance: Instance::Init(ThreadNo(1)),
+        home: HomeNo(2),
         epoch: Epoch(0),
-        first,
-        second,
+        first: None,
+        second: None,
         target,
     };
     instance_rows(alloc, program, &job)
@@ -170,7 +173,7 @@ fn own(alloc: Global, program: &Program) -> Result<Rows, AllocError>
 {
     let starts = premise(alloc, 2)?;
     let instance = Instance::Own(FactId(1), EdgeNo(1));
-    rows_of(alloc, program, instance, Some(starts), None)
+    rows_of_kind(alloc, program, instance, &Some(starts), &None)
 }
 
 /// Those of what the other thread is told of it.
@@ -179,7 +182,7 @@ fn guar(alloc: Global, program: &Program) -> Result<Rows, AllocError>
 {
     let starts = premise(alloc, 2)?;
     let instance = Instance::Guar(FactId(1), EdgeNo(1));
-    rows_of(alloc, program, instance, Some(starts), None)
+    rows_of_kind(alloc, program, instance, &Some(starts), &None)
 }
 
 /// Those of the first thread, which stays at its start in a step of the second that it is told of.
@@ -189,7 +192,7 @@ fn env(alloc: Global, program: &Program) -> Result<Rows, AllocError>
     let stays = premise(alloc, 2)?;
     let told = premise(alloc, 10)?;
     let instance = Instance::Env(FactId(1), FactId(2));
-    rows_of(alloc, program, instance, Some(stays), Some(told))
+    rows_of_kind(alloc, program, instance, &Some(stays), &Some(told))
 }
 
 /// Those of the first thread, which stays at its start in a step of the second from its start.
@@ -199,7 +202,7 @@ fn inter(alloc: Global, program: &Program) -> Result<Rows, AllocError>
     let stays = premise(alloc, 2)?;
     let starts = premise(alloc, 5)?;
     let instance = Instance::Inter(FactId(1), FactId(2), EdgeNo(1));
-    rows_of(alloc, program, instance, Some(stays), Some(starts))
+    rows_of_kind(alloc, program, instance, &Some(stays), &Some(starts))
 }
 
 /// The row at a place says that this sum of the columns is the bound.
@@ -217,7 +220,7 @@ fn is_row(rows: &Rows, place: u32, coefficients: &[i128], bound: i128) -> bool {
 fn a_start_and_a_step_of_a_thread(rt: HostRuntime) -> Result<(), Fail> {
     let alloc = rt.alloc();
     let program = worked(alloc)?;
-    let start = rows_of(alloc, &program, Instance::Init(ThreadNo(1)), None, None)?;
+    let start = start(alloc, &program)?;
     assert_eq!(rt; start.view().count(), 2);
     assert!(rt; is_row(&start, 0, &[1, 0], 1));
     assert!(rt; is_row(&start, 1, &[0, 1], 1));
@@ -260,14 +263,60 @@ fn texts_of_homes(rt: HostRuntime) -> Result<(), Fail> {
     Ok(())
 }
 
+fn fact(home: u32, held: u128) -> Fact
+    ensures { result.home.0 ≡ home }
+{
+    Fact {
+        home: HomeNo(home),
+        held,
+    }
+}
+
+/// The table of facts at three homes, of which one stands twice.
+fn three(alloc: Global, program: &Program) -> Result<Vec<u8>, AllocError>
+    requires { program.now ≡ worked_program }
+{
+    let facts = [fact(10, 0), fact(2, 5), fact(1, 1), fact(2, 5)];
+    table(alloc, program, &facts)
+}
+
+/// The line of a fact at the second thread's start.
+fn line(alloc: Global, program: &Program) -> Result<Vec<u8>, AllocError>
+    requires { program.now ≡ worked_program }
+{
+    let mut out = Vec::new(alloc);
+    push_fact(&mut out, program, &fact(5, 6))?;
+    Ok(out)
+}
+
+#[test]
+fn texts_of_facts(rt: HostRuntime) -> Result<(), Fail> {
+    let alloc = rt.alloc();
+    let program = worked(alloc)?;
+    let text = three(alloc, &program)?;
+    assert!(rt; text.as_slice() == b"s 1 0 : 1\ns 1 1 : 1 3\ne 2 1 :\nend\n".as_slice());
+    assert!(rt; line(alloc, &program)?.as_slice() == b"s 2 1 : 2 3\n".as_slice());
+    assert_eq!(rt; in_front(2, Instance::Own(FactId(1), EdgeNo(1))), 2);
+    assert_eq!(rt; in_front(2, Instance::Guar(FactId(1), EdgeNo(1))), 0);
+    Ok(())
+}
+
 #[test]
 fn laws_are_called() {
-    held_atoms_hold();
+    atoms_are_placed();
+    cases_are_unique();
+    closed_sets_cover();
+    facts_are_given();
+    given_atoms_hold();
+    instances_are_exact();
     posts_are_unique();
-    jobs_are_cases();
     starts_are_described();
     own_steps_are_described();
     own_steps_are_told();
+    tables_are_unique();
+    the_least_set_is_closed();
     told_steps_are_described();
     interfering_steps_are_described();
+    where_nothing_fails_no_run_does();
+    without_predicates_each_instance_gives_its_home();
 }

@@ -40,7 +40,7 @@ IsGcd-gcd_within (suc f) a (suc b) p =
     let r : a % suc b < suc b = mod-lt a (omega arith) in
     IsGcd-from_mod a (suc b) (gcd_within f (suc b) (a % suc b)) (IsGcd-gcd_within f (suc b) (a % suc b) (omega arith))
 
-IsGcd-gcd : (a b : ℕ) → IsGcd a b (gcd a b)
+pub IsGcd-gcd : (a b : ℕ) → IsGcd a b (gcd a b)
 IsGcd-gcd a b = IsGcd-gcd_within b a b (le_refl b)
 
 -- the greatest common divisor of a number and all numbers of a list
@@ -72,7 +72,7 @@ gcd_of-greatest d xs all = gcd_onto-greatest d 0 xs (dvd-zero d) all
 abbrev pub AllZero : List ℤ → Type 0
 AllZero xs = AllByRecursion (λ x. x ≡ pos 0) xs
 
-zero_from_abs : (x : ℤ) → 0 ∣ unsigned_abs x → x ≡ pos 0
+pub zero_from_abs : (x : ℤ) → 0 ∣ unsigned_abs x → x ≡ pos 0
 zero_from_abs (pos n) h = ap pos (eq-zero_of_zero-dvd h)
 zero_from_abs (negsuc n) h = absurd (suc-ne-zero n (eq-zero_of_zero-dvd h))
 
@@ -88,7 +88,7 @@ gcd_of-AllZero [] all = refl
 gcd_of-AllZero (x ∷ xs) all = ap (λ v. gcd_onto (gcd (unsigned_abs v) 0) xs) all.0 ∙ gcd_of-AllZero xs all.1
 
 -- ---- signs do not matter
-unsigned_abs-neg : (x : ℤ) → unsigned_abs (neg_ℤ x) ≡ unsigned_abs x
+pub unsigned_abs-neg : (x : ℤ) → unsigned_abs (neg_ℤ x) ≡ unsigned_abs x
 unsigned_abs-neg (pos zero) = refl
 unsigned_abs-neg (pos (suc n)) = refl
 unsigned_abs-neg (negsuc n) = refl

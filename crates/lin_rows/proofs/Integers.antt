@@ -1,5 +1,5 @@
 -- Laws of sums, products and orders of integers, which the crates above cite too.
-use Rattle.std.proofs.Common.{◌≡◌, ℕ, ◌+◌, ◌*◌, ◌≤◌, ◌<◌, ℤ, pos, negsuc, ◌+ℤ◌, ◌*ℤ◌, neg_ℤ, ◌≤ℤ◌, ◌<ℤ◌, arith, refl, ◌∙◌, ap, mul-le-mul_left, mod-lt}
+use Rattle.std.proofs.Common.{◌≡◌, ℕ, ◌+◌, ◌*◌, ◌≤◌, ◌<◌, ℤ, pos, negsuc, ◌+ℤ◌, ◌*ℤ◌, neg_ℤ, ◌≤ℤ◌, ◌<ℤ◌, arith, refl, ◌∙◌, ap, ap₂, div-one, List, [], ◌∷◌, map, mul-le-mul_left, mod-lt}
 use Rattle.std.specs.Int.{int_div_euclid, int_rem_euclid}
 use Rattle.std.proofs.Math.Nat.{div-add-mod}
 use Rattle.std.proofs.lemmas.Int.{ints, by_lt_z}
@@ -89,3 +89,18 @@ eq_of_mul-eq-mul_ℤ a b c p h =
 pub quotient-remainder : (b : ℤ) (g : ℕ) → 0 < g → pos g *ℤ int_div_euclid b (pos g) +ℤ int_rem_euclid b (pos g) ≡ b
 quotient-remainder (pos n) g p = omega (arith, ints, div-add-mod n g)
 quotient-remainder (negsuc n) g p = omega (arith, ints, div-add-mod n g, mod-lt n p)
+
+-- ---- by one and by nothing
+pub over_one : (x : ℤ) → int_div_euclid x (pos 1) ≡ x
+over_one (pos n) = ap pos (div-one n)
+over_one (negsuc n) = ap negsuc (div-one n)
+
+pub map-over_one : (xs : List ℤ) → map (λ x. int_div_euclid x (pos 1)) xs ≡ xs
+map-over_one [] = refl
+map-over_one (x ∷ xs) = ap₂ (λ y ys. y ∷ ys) (over_one x) (map-over_one xs)
+
+pub add-nothing_ℤ : (a b : ℤ) → b ≡ pos 0 → a +ℤ b ≡ a
+add-nothing_ℤ a b e = omega (arith, ints)
+
+pub nothing-add_ℤ : (a b c : ℤ) → a ≡ pos 0 → b ≡ c → a +ℤ b ≡ c
+nothing-add_ℤ a b c e f = omega (arith, ints)

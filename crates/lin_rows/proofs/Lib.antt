@@ -1,6 +1,11 @@
+pub mod Booleans
 pub mod Integers
 pub mod Divisors
 pub mod Numbers
 pub mod Lists
+pub mod StoredRows
+pub mod Views
 pub mod Points
+pub mod Systems
+pub mod Sums
 pub mod Atoms

@@ -1,9 +1,9 @@
 -- Numbers that fit.
-use Rattle.std.proofs.Common.{◌≡◌, ℕ, suc, ◌+◌, ◌<◌, ◌^◌, ℤ, pos, negsuc, SFits, to_z, of_z, to_z-of_z, neg_ℤ, unsigned_abs, zero, div-le_self, arith}
+use Rattle.std.proofs.Common.{◌≡◌, ℕ, suc, ◌+◌, ◌<◌, ◌^◌, ℤ, pos, negsuc, SFits, to_z, of_z, to_z-of_z, neg_ℤ, unsigned_abs, zero, div-le_self, true, ltb-true, lt-ltb, lit<, arith}
 use Rattle.std.specs.Int.{w128, int_div_euclid}
 use Rattle.std.proofs.lemmas.Int.{ints}
 use borrow.Author.Differences.{up, down}
-use Rattle.thr_base.specs.Number.{Fits}
+use Rattle.thr_base.specs.Number.{Fits, fits}
 
 -- What fits is in the range of an `i128`.
 pub SFits-from_Fits : (z : ℤ) → Fits z → SFits w128 z
@@ -36,3 +36,26 @@ Fits-out (negsuc n) h = (omega arith, omega arith)
 pub Fits-in : (z : ℤ) → up z < down z + 2 ^ 127 → down z < up z + 2 ^ 127 → Fits z
 Fits-in (pos n) a b = omega arith
 Fits-in (negsuc n) a b = omega arith
+
+-- ---- the test of what fits
+pub fits-true : (z : ℤ) → fits z ≡ true → Fits z
+fits-true (pos n) e = ltb-true n (2 ^ 127) e
+fits-true (negsuc n) e = ltb-true (suc n) (2 ^ 127) e
+
+pub true-fits : (z : ℤ) → Fits z → fits z ≡ true
+true-fits (pos n) h = lt-ltb n (2 ^ 127) h
+true-fits (negsuc n) h = lt-ltb (suc n) (2 ^ 127) h
+
+-- ---- small numbers, and absolute values
+pub zero_fits : Fits (pos 0)
+zero_fits = lit< tt
+
+pub one_fits : Fits (pos 1)
+one_fits = lit< tt
+
+pub minus_one_fits : Fits (negsuc 0)
+minus_one_fits = lit< tt
+
+pub Fits-unsigned_abs : (z : ℤ) → Fits z → Fits (pos (unsigned_abs z))
+Fits-unsigned_abs (pos n) h = h
+Fits-unsigned_abs (negsuc n) h = h

@@ -1,7 +1,7 @@
 -- Products of lists with points.
-use Rattle.std.proofs.Common.{◌≡◌, List, [], ◌∷◌, map, ℤ, pos, ◌+ℤ◌, ◌*ℤ◌, neg_ℤ, refl, sym, ◌∙◌, ap, ap₂, arith}
+use Rattle.std.proofs.Common.{◌≡◌, List, [], ◌∷◌, map, ℤ, pos, ◌+ℤ◌, ◌*ℤ◌, neg_ℤ, refl, sym, ◌∙◌, ap, ap₂, subst, ◌≤ℤ◌, MatchBool, arith}
 use Rattle.std.proofs.lemmas.Int.{ints}
-use Rattle.lin_rows.specs.Row.{product_of, scaled, sum_of}
+use Rattle.lin_rows.specs.Row.{Row, Meets, MeetsOver, product_of, scaled, sum_of}
 use Rattle.lin_rows.proofs.Integers.{mul_assoc_ℤ, mul-add_ℤ, add-mul_ℤ, neg-mul_ℤ, zero-mul_ℤ, mul-zero_ℤ}
 use Rattle.lin_rows.proofs.Divisors.{AllZero}
 
@@ -38,3 +38,9 @@ product_of-AllZero [] z all = refl
 product_of-AllZero (x ∷ xs) [] all = refl
 product_of-AllZero (x ∷ xs) (y ∷ z) all =
     ap₂ ◌+ℤ◌ (ap (λ v. v *ℤ y) all.0 ∙ zero-mul_ℤ y) (product_of-AllZero xs z all.1)
+
+-- a whole point is the rational one over 1
+pub MeetsOver-one : (row : Row) (z : List ℤ) → Meets row z → MeetsOver row z (pos 1)
+MeetsOver-one row z meets =
+    let one : row.bound ≡ row.bound *ℤ pos 1 = omega (arith, ints) in
+    subst (λ b. MatchBool row.equal (product_of row.coefficients z ≡ b) (product_of row.coefficients z ≤ℤ b)) one meets

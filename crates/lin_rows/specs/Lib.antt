@@ -3,6 +3,7 @@ pub mod System
 pub mod Gcd
 pub mod Atom
 pub mod Exact
+pub mod Sum
 pub mod Normal
 pub mod Stored
 pub mod View

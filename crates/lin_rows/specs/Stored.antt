@@ -1,11 +1,49 @@
--- The rows that a program holds.
-use Rattle.std.specs.Prelude.{ℕ, List, map}
+-- The rows that a program holds: what stands behind the coefficients of each, and the coefficients of all, one row behind the
+-- other. No public clause cites this file.
+use Rattle.std.specs.Prelude.{◌≡◌, ◌<◌, ◌-◌, ◌*◌, ◌^◌, ℕ, ℤ, pos, negsuc, List, [], ◌∷◌, length, take, drop}
+use Rattle.std.specs.List.{AllByRecursion}
+use Rattle.std.specs.Coded.{×_prop, Unit-prop, le_prop}
+use Rattle.thr_base.specs.Number.{Fits}
 use Rattle.lin_rows.specs.Row.{Row}
 use Rattle.lin_rows.specs.System.{System}
-use Rattle.lin_rows.specs.declared.rows.StoredRow.{StoredRow}
+use Rattle.lin_rows.specs.declared.stored.RightSide.{RightSide}
 
-abbrev pub stored_row : StoredRow → Row
-stored_row row = record { equal = row.equal; coefficients = row.coefficients.items; bound = row.bound }
+-- a row of these coefficients
+abbrev pub stored_row : List ℤ → RightSide → Row
+stored_row coefficients side = record { equal = side.equal; coefficients = coefficients; bound = side.bound }
 
-abbrev pub stored_system : ℕ → List StoredRow → System
-stored_system columns rows = record { columns = columns; rows = map stored_row rows }
+-- rows of which each has the next so many numbers of a list
+abbrev pub rows_of : ℕ → List RightSide → List ℤ → List Row
+rows_of columns [] numbers = []
+rows_of columns (side ∷ sides) numbers = stored_row (take columns numbers) side ∷ rows_of columns sides (drop columns numbers)
+
+abbrev pub stored_system : ℕ → List RightSide → List ℤ → System
+stored_system columns sides numbers = record { columns = columns; rows = rows_of columns sides numbers }
+
+abbrev pub BoundFits : RightSide → Type 0
+BoundFits side = Fits side.bound
+
+-- Each row has its coefficients, all numbers fit, and no count is too great.
+pub record IsStored (columns : ℕ) (sides : List RightSide) (numbers : List ℤ) : Type 0 where
+  pub count : length sides < 2 ^ 32 - 1
+  pub size : length numbers ≡ length sides * columns
+  pub numbers_fit : AllByRecursion Fits numbers
+  pub bounds_fit : AllByRecursion BoundFits sides
+
+-- What is known of all that is held.
+pub record IsHeld (columns : ℕ) (sides : List RightSide) (numbers : List ℤ) : Type 0 where
+  pub columns_fit : columns < 2 ^ 32
+  pub stored : IsStored columns sides numbers
+
+-- ---- each of these facts has one proof
+Fits-prop : (z : ℤ) → IsProp (Fits z)
+Fits-prop (pos n) = le_prop
+Fits-prop (negsuc n) = le_prop
+
+pub AllFit-prop : (numbers : List ℤ) → IsProp (AllByRecursion Fits numbers)
+AllFit-prop [] = Unit-prop
+AllFit-prop (z ∷ numbers) = ×_prop (Fits-prop z) (AllFit-prop numbers)
+
+pub AllBoundsFit-prop : (sides : List RightSide) → IsProp (AllByRecursion BoundFits sides)
+AllBoundsFit-prop [] = Unit-prop
+AllBoundsFit-prop (side ∷ sides) = ×_prop (Fits-prop side.bound) (AllBoundsFit-prop sides)

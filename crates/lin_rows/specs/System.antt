@@ -1,5 +1,5 @@
 -- Systems: lists of rows over the same columns.
-use Rattle.std.specs.Prelude.{◌≡◌, ◌<◌, ◌-◌, ◌^◌, ◌<ℤ◌, ℕ, ℤ, pos, List, [], ◌∷◌, ◌++◌, length}
+use Rattle.std.specs.Prelude.{◌≡◌, ◌<◌, ◌-◌, ◌^◌, ◌<ℤ◌, ℕ, ℤ, pos, List, [], ◌∷◌, ◌++◌, length, slice_range}
 use Rattle.std.specs.List.{AllByRecursion}
 use Rattle.lin_rows.specs.Row.{Row, RowFits, Meets, MeetsOver}
 
@@ -10,6 +10,14 @@ pub record System : Type 0 where
 -- the system with one more row, at its end
 abbrev pub with_row : System → Row → System
 with_row system row = record system { rows = system.rows ++ row ∷ [] }
+
+-- the system with more rows, at its end
+abbrev pub with_rows : System → List Row → System
+with_rows system rows = record system { rows = system.rows ++ rows }
+
+-- the rows from one place on up to another, as a system
+abbrev pub part_of : ℕ → ℕ → System → System
+part_of from to system = record system { rows = slice_range system.rows from to }
 
 -- The row has one coefficient per column, and its numbers fit.
 pub record IsRowOver (columns : ℕ) (row : Row) : Type 0 where

@@ -1,4 +1,4 @@
-ghost use Rattle.std.specs.Prelude.{◌≡◌, ◌≢◌, ◌↔◌, ℤ, pos, ◌-ℤ◌, neg_ℤ, List, map, IfOk};
+ghost use Rattle.std.specs.Prelude.{◌≡◌, ◌≢◌, ◌↔◌, ℤ, pos, ◌-ℤ◌, neg_ℤ, List, ◌++◌, map, IfOk, OnOk, OnErr};
 ghost use Rattle.std.specs.List.{AllByRecursion};
 ghost use Rattle.thr_base.specs.Number.{Fits};
 ghost use Rattle.lin_rows.specs.Row.{Meets};
@@ -49,14 +49,38 @@ impl Atom {
     {
         self.bound
     }
+
+    /// An exact copy.
+    pub fn try_clone(&self, alloc: Global) -> Result<Atom, AllocError>
+        ensures { IfOk result (λ copy. copy ≡ self.now) }
+    {
+        let coefficients = Vec::from_slice(alloc, self.coefficients())?;
+        Ok(Atom::of(coefficients, self.bound()))
+    }
 }
 
 /// The number with the other sign.
-fn opposite(number: i128) -> i128
+pub fn opposite(number: i128) -> i128
     requires { Fits number }
     ensures { result ≡ neg_ℤ number }
 {
     -number
+}
+
+/// Appends the numbers with the other signs.
+pub fn push_opposites(out: &mut Vec<i128>, numbers: &[i128]) -> Result<(), AllocError>
+    requires { AllByRecursion Fits numbers.now }
+    ensures ok { OnOk result (out.new.items ≡ out.old.items ++ map neg_ℤ numbers.now) }
+    ensures err { OnErr result (out.new.items ≡ out.old.items) }
+{
+    let before = out.len();
+    'numbers: for number in numbers {
+        if out.push(opposite(*number)).is_err() {
+            out.truncate(before);
+            return Err(AllocError);
+        }
+    }
+    Ok(())
 }
 
 /// The numbers with the other signs.
@@ -65,9 +89,7 @@ pub fn opposites_of(alloc: Global, numbers: &[i128]) -> Result<Vec<i128>, AllocE
     ensures { IfOk result (λ opposites. opposites.items ≡ map neg_ℤ numbers.now) }
 {
     let mut opposites = Vec::with_capacity(alloc, numbers.len())?;
-    for number in numbers {
-        opposites.push(opposite(*number))?;
-    }
+    push_opposites(&mut opposites, numbers)?;
     Ok(opposites)
 }
 

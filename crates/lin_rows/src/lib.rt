@@ -6,16 +6,23 @@
 mod atom;
 mod divisor;
 mod exact;
+mod laws;
 mod normal_form;
 mod row;
 mod rows;
+mod rows_view;
+mod stored;
+mod sum;
 
-pub use atom::{Atom, negate, opposites_of};
+pub use atom::{Atom, negate, opposite, opposites_of, push_opposites};
 pub use divisor::{divisor_of, floor_of};
 pub use exact::{product_if_fits, sum_if_fits};
+pub use laws::{parts_of_systems, sums_are_given_where_they_fit};
 pub use normal_form::{NormalForm, NormalStop, normal};
 pub use row::RowView;
-pub use rows::{Rows, RowsView};
+pub use rows::Rows;
+pub use rows_view::RowsView;
+pub use sum::sum_of_products;
 
 #[cfg(test)]
 mod tests;

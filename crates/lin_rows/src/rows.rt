@@ -1,57 +1,36 @@
-ghost use Rattle.std.specs.Prelude.{◌≡◌, ◌+◌, ◌-◌, ◌^◌, ◌<◌, [], Some, length, slice_get, OnOk, OnErr};
+ghost use Rattle.std.specs.Prelude.{◌≡◌, ◌+◌, ◌-◌, ◌^◌, ◌<◌, [], length, OnOk, OnErr};
 ghost use Rattle.std.specs.List.{AllByRecursion};
 ghost use Rattle.thr_base.specs.Number.{Fits};
 ghost use Rattle.lin_rows.specs.Row.{Row};
-ghost use Rattle.lin_rows.specs.System.{IsWellFormed, IsRowOver, with_row};
-ghost use Rattle.lin_rows.specs.View.{row_of};
+ghost use Rattle.lin_rows.specs.Stored.{IsStored, rows_of};
+ghost use Rattle.lin_rows.specs.System.{IsRowOver, with_row, with_rows};
+ghost use Rattle.lin_rows.specs.View.{row_of, system_of};
 
 use crate::row::RowView;
+use crate::rows_view::RowsView;
+use crate::stored::RightSide;
 use std::alloc::{AllocError, Global};
 use std::marker::Model;
-
-#[derive(Debug, Drop)]
-struct StoredRow {
-    equal: bool,
-    coefficients: Vec<i128>,
-    bound: i128,
-}
 
 /// A system of rows that grows.
 #[derive(Debug, Drop)]
 pub struct Rows {
     columns: u32,
-    rows: Vec<StoredRow>,
+    sides: Vec<RightSide>,
+    /// The coefficients of all rows, one row behind the other.
+    numbers: Vec<i128>,
 }
 
 impl Model for Rows {
-    ghost use Rattle.lin_rows.specs.System.{System, IsWellFormed};
+    ghost use Rattle.lin_rows.specs.System.{System};
 
     ghost Value = { System };
 
-    ghost use Rattle.lin_rows.specs.Stored.{stored_system};
+    ghost use Rattle.lin_rows.specs.Stored.{stored_system, IsHeld};
 
-    ghost view = { λ inside. stored_system inside.columns inside.rows.items };
+    ghost view = { λ inside. stored_system inside.columns inside.sides.items inside.numbers.items };
 
-    ghost invariant = { λ inside. IsWellFormed (stored_system inside.columns inside.rows.items) };
-}
-
-/// A system of rows, borrowed.
-#[derive(Debug, Drop)]
-pub struct RowsView<'a> {
-    columns: u32,
-    rows: &'a [StoredRow],
-}
-
-impl<'a> Model for RowsView<'a> {
-    ghost use Rattle.lin_rows.specs.System.{System, IsWellFormed};
-
-    ghost Value = { System };
-
-    ghost use Rattle.lin_rows.specs.Stored.{stored_system};
-
-    ghost view = { λ inside. stored_system inside.columns inside.rows.now };
-
-    ghost invariant = { λ inside. IsWellFormed (stored_system inside.columns inside.rows.now) };
+    ghost invariant = { λ inside. IsHeld inside.columns inside.sides.items inside.numbers.items };
 }
 
 impl Rows {
@@ -60,8 +39,25 @@ impl Rows {
     {
         Rows {
             columns,
-            rows: Vec::new(alloc),
+            sides: Vec::new(alloc),
+            numbers: Vec::new(alloc),
         }
+    }
+
+    /// Appends rows, whose coefficients stand one row behind the other.
+    fn append(&mut self, sides: &[RightSide], numbers: &[i128]) -> Result<(), AllocError>
+        requires stored { IsStored self.old.columns sides.now numbers.now }
+        requires room { length self.old.rows + length sides.now < 2 ^ 32 - 1 }
+        ensures ok { OnOk result (self.new ≡ with_rows self.old (rows_of self.old.columns sides.now numbers.now)) }
+        ensures err { OnErr result (self.new ≡ self.old) }
+    {
+        let before = self.sides.len();
+        self.sides.extend_from_slice(sides)?;
+        if self.numbers.extend_from_slice(numbers).is_err() {
+            self.sides.truncate(before);
+            return Err(AllocError);
+        }
+        Ok(())
     }
 
     /// Appends a row.
@@ -78,53 +74,38 @@ impl Rows {
         ensures ok { let row : Row = record { equal = equal; coefficients = coefficients.now; bound = bound } in OnOk result (self.new ≡ with_row self.old row) }
         ensures err { OnErr result (self.new ≡ self.old) }
     {
-        let alloc = *self.rows.allocator();
-        let coefficients = Vec::from_slice(alloc, coefficients)?;
-        self.rows.push(StoredRow {
-            equal,
-            coefficients,
-            bound,
-        })?;
-        Ok(())
+        self.append(&[RightSide { equal, bound }], coefficients)
     }
 
+    /// Appends a row of any system over as many columns.
+    pub fn push_row(&mut self, row: &RowView<'_>) -> Result<(), AllocError>
+        requires over { IsRowOver self.old.columns (row_of row.now) }
+        requires room { length self.old.rows < 2 ^ 32 - 2 }
+        ensures ok { OnOk result (self.new ≡ with_row self.old (row_of row.now)) }
+        ensures err { OnErr result (self.new ≡ self.old) }
+    {
+        self.push(row.equal, row.coefficients, row.bound)
+    }
+
+    #[tactic(auto, unfolding(crate::specs::View::system_of))]
+    /// Appends all rows of a system over as many columns.
+    pub fn push_rows(&mut self, more: &RowsView<'_>) -> Result<(), AllocError>
+        requires columns { (system_of more.now).columns ≡ self.old.columns }
+        requires room { length self.old.rows + length (system_of more.now).rows < 2 ^ 32 - 1 }
+        ensures ok { OnOk result (self.new ≡ with_rows self.old (system_of more.now).rows) }
+        ensures err { OnErr result (self.new ≡ self.old) }
+    {
+        self.append(more.sides, more.numbers)
+    }
+
+    #[tactic(auto, unfolding(crate::specs::View::system_of))]
     pub fn view(&self) -> RowsView<'_>
-        ensures { result ≡ self.now }
+        ensures { system_of result ≡ self.now }
     {
         RowsView {
             columns: self.columns,
-            rows: self.rows.as_slice(),
-        }
-    }
-}
-
-impl RowsView<'_> {
-    pub fn columns(&self) -> u32
-        ensures columns { result ≡ self.now.columns }
-        ensures well_formed { IsWellFormed self.now }
-    {
-        self.columns
-    }
-
-    /// The number of rows.
-    pub fn count(&self) -> u32
-        ensures count { result ≡ length self.now.rows }
-        ensures well_formed { IsWellFormed self.now }
-    {
-        self.rows.len() as u32
-    }
-
-    /// The row at a place from 0.
-    pub fn row(&self, n: u32) -> RowView<'_>
-        requires { n < length self.now.rows }
-        ensures row { slice_get self.now.rows n ≡ Some (row_of result) }
-        ensures over { IsRowOver self.now.columns (row_of result) }
-    {
-        let row = &self.rows[n as usize];
-        RowView {
-            equal: row.equal,
-            coefficients: row.coefficients.as_slice(),
-            bound: row.bound,
+            sides: self.sides.as_slice(),
+            numbers: self.numbers.as_slice(),
         }
     }
 }

@@ -112,3 +112,70 @@ fn sums_and_products_that_fit(rt: HostRuntime) {
     assert_eq!(rt; product_if_fits(-greatest, -1), Some(greatest));
     assert_eq!(rt; product_if_fits(1 << 64, -(1 << 63)), None);
 }
+
+#[test]
+fn parts_are_their_rows(rt: HostRuntime) -> Result<(), Fail> {
+    let mut rows = Rows::new(rt.alloc(), 2);
+    rows.push(false, &[1, 2], 3)?;
+    rows.push(true, &[4, 5], 6)?;
+    rows.push(false, &[7, 8], 9)?;
+    let whole = rows.view();
+    let last = {
+        let later = whole.part(1, 3);
+        assert_eq!(rt; later.count(), 2);
+        later.part(1, 2).row(0)
+    };
+    assert_eq!(rt; (pair_of(last.coefficients), last.bound), ([7, 8], 9));
+    assert_eq!(rt; whole.part(1, 1).count(), 0);
+    let mut more = Rows::new(rt.alloc(), 2);
+    more.push_row(&last)?;
+    more.push_rows(&whole.part(0, 2))?;
+    let copied = more.view();
+    assert_eq!(rt; copied.count(), 3);
+    assert_eq!(rt; pair_of(copied.row(2).coefficients), [4, 5]);
+    assert!(rt; copied.row(2).equal);
+    Ok(())
+}
+
+#[test]
+fn rows_without_columns(rt: HostRuntime) -> Result<(), Fail> {
+    let mut rows = Rows::new(rt.alloc(), 0);
+    rows.push(false, &[], 1)?;
+    rows.push(true, &[], 2)?;
+    let second = rows.view().part(1, 2).row(0);
+    assert_eq!(rt; (second.coefficients.len(), second.bound), (0, 2));
+    Ok(())
+}
+
+#[test]
+fn sums_from_left_to_right(rt: HostRuntime) {
+    let greatest = i128::MAX;
+    assert_eq!(rt; sum_of_products(&[2, -3], &[5, 1]), Ok(7));
+    assert_eq!(rt; sum_of_products(&[greatest, 1, -1], &[1, 1, 1]), Err(1));
+    assert_eq!(rt;
+        sum_of_products(&[greatest, -1, 1], &[1, 1, 1]),
+        Ok(greatest)
+    );
+    assert_eq!(rt; sum_of_products(&[1, 2], &[3, greatest]), Err(1));
+    assert_eq!(rt; sum_of_products(&[], &[]), Ok(0));
+}
+
+#[test]
+fn copies_and_opposites(rt: HostRuntime) -> Result<(), Fail> {
+    let row = RowView {
+        equal: false,
+        coefficients: &[2, -3],
+        bound: 9,
+    };
+    let Ok(NormalForm::Atom(atom)) = normal(rt.alloc(), &row) else {
+        panic!(rt; "no atom");
+    };
+    let copy = atom.try_clone(rt.alloc())?;
+    assert_eq!(rt; (pair_of(copy.coefficients()), copy.bound()), ([2, -3], 9));
+    let mut numbers = [7].to_vec(rt.alloc())?;
+    push_opposites(&mut numbers, &[opposite(1)])?;
+    assert_eq!(rt; numbers.as_slice(), [7, 1].as_slice());
+    let opposites = opposites_of(rt.alloc(), &[4, -4])?;
+    assert_eq!(rt; opposites.as_slice(), [-4, 4].as_slice());
+    Ok(())
+}

@@ -8,17 +8,16 @@ use Rattle.std.proofs.lemmas.Int.{ints}
 use Rattle.thr_base.specs.Number.{Fits, fits}
 use Rattle.lin_rows.specs.Exact.{fitting}
 use Rattle.lin_rows.specs.Row.{scaled}
-use Rattle.lin_rows.proofs.Integers.{mul-zero_ℤ}
+use Rattle.lin_rows.proofs.Integers.{mul-zero_ℤ, map-over_one}
 use Rattle.lin_rows.proofs.Lists.{AllByRecursion-map}
-use Rattle.lin_rows.proofs.Numbers.{Fits-int_div_euclid}
+use Rattle.lin_rows.proofs.Numbers.{Fits-int_div_euclid, fits-true}
 use Rattle.farkas_cert.specs.Divided.{divided, over}
 use Rattle.std.specs.Int.{int_div_euclid}
 use Rattle.lin_rows.specs.Gcd.{gcd_of}
 use Rattle.farkas_cert.specs.Line.{all_fit, combination, combination_fits, made_line}
-use Rattle.farkas_cert.proofs.ColumnSums.{fits-true}
 use Rattle.farkas_cert.proofs.Linear.{sum-none}
 use Rattle.farkas_cert.proofs.Divisors.{divided-same}
-use Rattle.plain_elim.specs.Combined.{combined_number, combined, in_front}
+use Rattle.plain_elim.specs.inside.Combined.{combined_number, combined, in_front}
 
 -- ---- what is done, and what is left
 
@@ -208,21 +207,13 @@ get_from_drop numbers given i e =
     let same = ap (λ xs. get_or xs 0 (pos 0)) e in
     rw (sym (add-zero i)) (sym left ∙ same ∙ right)
 
-over_one : (x : ℤ) → int_div_euclid x (pos 1) ≡ x
-over_one (pos n) = ap pos (div-one n)
-over_one (negsuc n) = ap negsuc (div-one n)
-
-map_over_one : (xs : List ℤ) → map (λ x. int_div_euclid x (pos 1)) xs ≡ xs
-map_over_one [] = refl
-map_over_one (x ∷ xs) = ap₂ (λ y ys. y ∷ ys) (over_one x) (map_over_one xs)
-
 -- Numbers whose divisor is at most 1 are divided already.
 pub divided_already : (xs : List ℤ) → gcd_of xs ≤ 1 → xs ≡ divided xs
 unfolding divided
 divided_already xs h = at (gcd_of xs) refl h where
   at : (g : ℕ) → gcd_of xs ≡ g → g ≤ 1 → xs ≡ map (over (gcd_of xs)) xs
   at zero e h = sym (divided-same xs e)
-  at (suc zero) e h = rw e (sym (map_over_one xs))
+  at (suc zero) e h = rw e (sym (map-over_one xs))
   at (suc (suc g)) e h = absurd (omega arith)
 
 pub divided_is : (xs ys : List ℤ) (d : ℤ) → d ≡ pos (gcd_of xs) → ys ≡ map (λ x. int_div_euclid x d) xs → ys ≡ divided xs

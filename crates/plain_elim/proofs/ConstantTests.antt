@@ -7,8 +7,8 @@ use Rattle.lin_rows.specs.System.{System}
 use Rattle.farkas_cert.specs.Cert.{Pairs}
 use Rattle.farkas_cert.specs.Line.{Line, is_nonzero, bound_of, multipliers_of, refuting, listed, is_false, has_variable}
 use Rattle.farkas_cert.specs.Elimination.{Work, Goes, Ends, tested, tested_by}
-use Rattle.plain_elim.specs.Held.{refuted_by}
-use Rattle.plain_elim.specs.Stages.{refutation_of}
+use Rattle.plain_elim.specs.inside.Held.{refuted_by}
+use Rattle.plain_elim.specs.inside.Stages.{refutation_of}
 
 -- one more multiplier
 abbrev listed_one : ℕ → ℤ → Pairs → Pairs

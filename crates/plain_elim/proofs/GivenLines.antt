@@ -1,21 +1,25 @@
 -- The numbers of a given row's line, as they are written.
-use Rattle.std.proofs.Common.{◌≡◌, ℕ, zero, suc, ◌+◌, ◌-◌, ◌<◌, refl, sym, ◌∙◌, ap, arith, List, [], ◌∷◌, ◌++◌, length, take, drop, append_assoc, append-nil, ◌≤◌, length-append, add-one}
-use Rattle.std.specs.Prelude.{ℤ, pos, replicate, slice_set, slice_get, Some}
+use Rattle.std.proofs.Common.{◌≡◌, ℕ, zero, suc, ◌+◌, ◌-◌, ◌<◌, refl, sym, ◌∙◌, ap, subst, arith, List, [], ◌∷◌, ◌++◌, length, take, drop, append_assoc, append-nil, ◌≤◌, length-append, add-one}
+use Rattle.std.specs.Prelude.{ℤ, pos, replicate, slice_set, slice_get, Option, Some, IsSome, false}
 use Rattle.std.specs.List.{AllByRecursion}
+use Rattle.std.specs.Option.{option_map, unwrap_or}
 use Rattle.std.proofs.lemmas.List.{take_all, drop_all, set-append_right}
 use Rattle.thr_base.specs.Number.{Fits}
 use Rattle.lin_rows.specs.Row.{Row, RowFits}
-use Rattle.lin_rows.proofs.Lists.{AllByRecursion-append}
+use Rattle.lin_rows.proofs.Lists.{AllByRecursion-append, slice_get-there}
+use Rattle.farkas_cert.specs.Cert.{row_numbered}
+use Rattle.farkas_cert.specs.Proof.{numbers_of}
 use Rattle.farkas_cert.specs.Line.{Line, given_line, given_lines}
 
-pub given_as_written : (xs : List ℤ) (b : ℤ) (n total place len : ℕ) (start extended pushed resized : List ℤ) → length xs ≡ n → place < total
-    → start ≡ [] → extended ≡ start ++ xs → pushed ≡ extended ++ b ∷ [] → len ≡ n + 1
+pub given_as_written : (xs : List ℤ) (b : ℤ) (n total place len : ℕ) (start pushed resized : List ℤ) → length xs ≡ n → place < total
+    → start ≡ [] → pushed ≡ start ++ (xs ++ b ∷ []) → len ≡ length pushed
     → resized ≡ take (n + 1 + total) pushed ++ replicate (n + 1 + total - len) (pos 0)
     → slice_set resized (n + 1 + place) (pos 1) ≡ xs ++ (b ∷ slice_set (replicate total (pos 0)) place (pos 1))
-given_as_written xs b n total place len start extended pushed resized l h e0 e1 e2 k e3 =
-    let front : pushed ≡ xs ++ b ∷ [] = rw (e2, e1, e0) refl in
+given_as_written xs b n total place len start pushed resized l h e0 e1 k e3 =
+    let front : pushed ≡ xs ++ b ∷ [] = rw (e1, e0) refl in
     let long : length (xs ++ b ∷ []) ≡ n + 1 = length-append xs (b ∷ []) ∙ omega arith in
     let all : take (n + 1 + total) (xs ++ b ∷ []) ≡ xs ++ b ∷ [] = take_all (n + 1 + total) (xs ++ b ∷ []) (omega arith) in
+    let size : len ≡ n + 1 = k ∙ ap length front ∙ long in
     let count : n + 1 + total - len ≡ total = omega arith in
     let whole : resized ≡ (xs ++ b ∷ []) ++ replicate total (pos 0) = e3 ∙ rw (front, all, count) refl in
     let at : n + 1 + place - (n + 1) ≡ place = omega arith in
@@ -54,3 +58,16 @@ pub given_ends : (total place : ℕ) (rows : List Row) (front whole : List Line)
     → front ++ given_lines total place (drop place rows) ≡ whole → front ≡ whole
 unfolding given_lines
 given_ends total place rows front whole h k = sym (append-nil front) ∙ ap (λ rs. front ++ given_lines total place rs) (sym (drop_all place rows h)) ∙ k
+
+-- ---- by the numbers of rows, from 1
+pub numbers_of-place : (rows : List Row) (place : ℕ) (row : Row) → slice_get rows place ≡ Some row → numbers_of (row_numbered rows (place + 1)) ≡ row.coefficients ++ row.bound ∷ []
+numbers_of-place rows place row is = ap (λ n. numbers_of (row_numbered rows n)) (add-one place) ∙ ap numbers_of is
+
+pub equality-place : (rows : List Row) (place : ℕ) (row : Row) → slice_get rows place ≡ Some row → unwrap_or (option_map (λ named. named.equal) (row_numbered rows (place + 1))) false ≡ row.equal
+equality-place rows place row is =
+    ap (λ n. unwrap_or (option_map (λ (named : Row). named.equal) (row_numbered rows n)) false) (add-one place) ∙ ap (λ (o : Option Row). unwrap_or (option_map (λ named. named.equal) o) false) is
+
+pub IsSome-place : (rows : List Row) (place : ℕ) → place < length rows → IsSome (row_numbered rows (place + 1))
+IsSome-place rows place within =
+    let there = slice_get-there rows place within in
+    subst (λ (o : Option Row). IsSome o) (sym (ap (row_numbered rows) (add-one place) ∙ there.1)) refl

@@ -10,7 +10,7 @@ use Rattle.farkas_cert.specs.Line.{Line, is_nonzero}
 use Rattle.farkas_cert.specs.BackSubstitution.{RationalPoint, Bounds, minus_products, bounds_from}
 use Rattle.lin_rows.proofs.Integers.{neg-mul_ℤ}
 use Rattle.farkas_cert.proofs.Integers.{linear, mul-positive_ℤ}
-use Rattle.plain_elim.specs.PointParts.{minus_product, narrowed_by}
+use Rattle.plain_elim.specs.inside.PointParts.{minus_product, narrowed_by}
 
 -- ---- a number less products
 pub minus_product-some : (t a n p : ℤ) → Some p ≡ fitting (a *ℤ n) → fitting (t +ℤ neg_ℤ p) ≡ minus_product t a n

@@ -8,11 +8,11 @@ use Rattle.lin_rows.specs.Row.{scaled}
 use Rattle.lin_rows.proofs.Integers.{mul-zero_ℤ}
 use Rattle.std.specs.Bool.{OnTrue}
 use Rattle.std.specs.List.{AllByRecursion}
+use Rattle.lin_rows.proofs.Numbers.{fits-true, true-fits}
 use Rattle.farkas_cert.proofs.Integers.{mul-positive_ℤ}
 use Rattle.plain_elim.proofs.PointFractions.{fitting_is}
 use Rattle.farkas_cert.specs.Line.{all_fit}
-use Rattle.farkas_cert.proofs.ColumnSums.{fits-true, true-fits}
-use Rattle.plain_elim.specs.PointParts.{IsPoint}
+use Rattle.plain_elim.specs.inside.PointParts.{IsPoint}
 use Rattle.farkas_cert.specs.BackSubstitution.{RationalPoint, assigned_by}
 
 -- ---- a list of which the first i numbers are multiplied by k

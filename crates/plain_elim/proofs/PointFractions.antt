@@ -5,14 +5,14 @@ use Rattle.std.proofs.lemmas.Int.{ints}
 use Rattle.thr_base.specs.Number.{Fits, fits}
 use Rattle.lin_rows.specs.Exact.{fitting}
 use Rattle.lin_rows.specs.Gcd.{gcd}
-use Rattle.lin_rows.proofs.Numbers.{Fits-int_div_euclid}
+use Rattle.lin_rows.proofs.Numbers.{Fits-int_div_euclid, fits-true}
+use Rattle.lin_rows.proofs.Divisors.{IsGcd-gcd}
 use Rattle.farkas_cert.specs.Divided.{over}
 use Rattle.farkas_cert.specs.BackSubstitution.{Fraction, fraction, is_below}
-use Rattle.farkas_cert.proofs.ColumnSums.{fits-true}
-use Rattle.farkas_cert.proofs.Divisors.{gcd-IsGcd, over-exact}
+use Rattle.farkas_cert.proofs.Divisors.{over-exact}
 use Rattle.farkas_cert.proofs.Eliminates.{gcd_positive, positive_abs}
 use Rattle.farkas_cert.proofs.Fractions.{positive_over}
-use Rattle.plain_elim.specs.PointParts.{IsFraction}
+use Rattle.plain_elim.specs.inside.PointParts.{IsFraction}
 
 -- what a number that is given where it fits says
 pub fitting_is : (z x : ℤ) → Some x ≡ fitting z → (x ≡ z) × Fits x
@@ -51,7 +51,7 @@ pub IsFraction-parts : (t s : ℤ) → Fits t → Fits s → pos 0 <ℤ s →
     let g = gcd (unsigned_abs t) (unsigned_abs s) in IsFraction (over g t) (over g s)
 IsFraction-parts t s ht hs h =
     let g = gcd (unsigned_abs t) (unsigned_abs s) in
-    let exact = over-exact g s (gcd-IsGcd (unsigned_abs t) (unsigned_abs s)).1 in
+    let exact = over-exact g s (IsGcd-gcd (unsigned_abs t) (unsigned_abs s)).1 in
     record {
       positive = positive_over (pos g) (over g s) s (divisor_positive t s h) exact h;
       numerator_fits = Fits-int_div_euclid t g ht;

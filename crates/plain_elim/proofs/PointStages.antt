@@ -7,7 +7,7 @@ use Rattle.farkas_cert.specs.Elimination.{Point, Leaves, point_from}
 use Rattle.farkas_cert.specs.declared.answers.LeaveKind.TheVariants.{Overflow}
 use Rattle.farkas_cert.proofs.Lists.{all_left, all_right}
 use Rattle.plain_elim.specs.declared.kept.Kept.{Kept as HeldKept}
-use Rattle.plain_elim.specs.Held.{kept_of, BoundsItsColumn}
+use Rattle.plain_elim.specs.inside.Held.{kept_of, BoundsItsColumn}
 
 -- what the program holds, latest first
 abbrev pub latest_first : List HeldKept → List Kept

@@ -1,6 +1,7 @@
 -- What the definition keeps true of its lines: they are as wide as those of the system, and what is kept bounds its column.
 use Rattle.std.proofs.Common.{◌≡◌, ℕ, suc, ◌+◌, ◌*◌, ◌<◌, refl, sym, ◌∙◌, ap, subst, arith, List, [], ◌∷◌, ◌++◌, map, length, Bool, true, false, cond, Option, Some, None, length-append}
 use Rattle.std.specs.Prelude.{ℤ, pos, neg_ℤ, ◌*ℤ◌, int_lt, unsigned_abs, replicate, slice_set, filter, flat_map, find, not}
+use Rattle.lin_rows.proofs.Lists.{AllByRecursion-append}
 use Rattle.farkas_cert.specs.declared.answers.LeaveKind.TheVariants.{Rows}
 use Rattle.std.specs.Int.{int_signum}
 use Rattle.std.specs.Option.{option_map}
@@ -16,10 +17,10 @@ use Rattle.farkas_cert.specs.Elimination.{Leaves, Work, Ends, stage_number, ever
 use Rattle.farkas_cert.proofs.Certificates.{appended}
 use Rattle.farkas_cert.proofs.Derived.{made_is}
 use Rattle.farkas_cert.proofs.Fuel.{all_open, all_within}
-use Rattle.farkas_cert.proofs.Lists.{all_filter, filter_all, all_both, all_append, all_from, all_map, all_flat_map, all_every, found}
+use Rattle.farkas_cert.proofs.Lists.{all_filter, filter_all, all_both, all_from, all_map, all_flat_map, all_every, found}
 use Rattle.farkas_cert.proofs.OpenColumns.{lowest_is, lowest_of_open}
-use Rattle.plain_elim.specs.Held.{BoundsColumn, BoundsItsColumn, IsOpen, IsReady, IsReadyNext}
-use Rattle.plain_elim.specs.Stages.{IsWide, IsWideWork, IsWideNext, KeepsOneMore}
+use Rattle.plain_elim.specs.inside.Held.{BoundsColumn, BoundsItsColumn, IsOpen, IsReady, IsReadyNext}
+use Rattle.plain_elim.specs.inside.Stages.{IsWide, IsWideWork, IsWideNext, KeepsOneMore}
 
 -- ---- given lines
 
@@ -175,7 +176,7 @@ pair_stage_wide system work h s = by_limit (are_too_many system made) where
       follows_wide system work (Bounded c (with_column c work.lines)) made pairs (bounded_by system c work.lines (lowest_within system work.lines s h.lines) wide) h.kept
       (λ lines e. let m = appended (without_column c work.lines) (pairs_at c work.lines) lines e in
       subst (λ (all : List Line). AllByRecursion (IsWide system) all) m.2
-      (all_append (IsWide system) (without_column c work.lines) m.0 (all_filter (IsWide system) (λ line. not (is_nonzero (coefficient_at c line))) work.lines wide)
+      (AllByRecursion-append (IsWide system) (without_column c work.lines) m.0 (all_filter (IsWide system) (λ line. not (is_nonzero (coefficient_at c line))) work.lines wide)
       (pairs_wide system c work.lines m.0 wide m.1)))
 
 taken_out_by_wide : (system : System) (work : Work) (o : Option Line) → find (λ line. line.equal) work.lines ≡ o → IsReady system work → 0 < length work.lines

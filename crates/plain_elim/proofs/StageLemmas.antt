@@ -15,8 +15,8 @@ use Rattle.farkas_cert.specs.BackSubstitution.{Kept, Solved, Bounded}
 use Rattle.farkas_cert.specs.Elimination.{Leaves, Work, Goes, Ends, stage_number, every, follows, substituted, equality_stage, paired, positives, negatives, with_column, without_column, pairs_at, are_too_many, pair_stage, taken_out, taken_out_by, tested, then_tested, stage, begun, Outcome}
 use Rattle.farkas_cert.specs.declared.answers.LeaveKind.TheVariants.{Rows, Overflow}
 use Rattle.plain_elim.specs.declared.kept.Kept.{Kept as HeldKept}
-use Rattle.plain_elim.specs.Held.{kept_of}
-use Rattle.plain_elim.specs.Stages.{pairs_of, made_with}
+use Rattle.plain_elim.specs.inside.Held.{kept_of}
+use Rattle.plain_elim.specs.inside.Stages.{pairs_of, made_with}
 use Rattle.std.proofs.lemmas.List.{length-map, length-reverse}
 use Rattle.plain_elim.proofs.Everyone.{filter-filter}
 use Rattle.plain_elim.proofs.Positions.{first_at, none_at}

@@ -16,11 +16,8 @@ use Rattle.farkas_cert.specs.declared.answers.Decided.{Decided}
 use Rattle.farkas_cert.specs.declared.answers.Decided.TheVariants as decided
 use Rattle.farkas_cert.proofs.Certificates.{certificate_is_sound}
 use Rattle.farkas_cert.proofs.Points.{point_is_sound}
-use Rattle.plain_elim.specs.Decision.{outcome_in, IsEvidence}
-use Rattle.plain_elim.specs.Held.{refuted_by}
-
-pub has_widths : (system : System) → IsWellFormed system → HasWidths system
-has_widths system formed = AllByRecursion-weaken _ _ (λ row over. over.width) system.rows formed.rows
+use Rattle.farkas_cert.specs.Decision.{outcome_in, IsEvidence}
+use Rattle.plain_elim.specs.inside.Held.{refuted_by}
 
 -- ---- one stage behind another
 

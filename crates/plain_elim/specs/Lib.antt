@@ -1,6 +1,1 @@
-pub mod Decision
-pub mod Held
-pub mod PointParts
-pub mod LineParts
-pub mod Combined
-pub mod Stages
+pub mod inside

@@ -4,8 +4,8 @@ ghost use Rattle.thr_base.specs.Number.{Fits};
 ghost use Rattle.lin_rows.specs.Exact.{fitting};
 ghost use Rattle.farkas_cert.specs.Line.{coefficient_at};
 ghost use Rattle.farkas_cert.specs.BackSubstitution as specs;
-ghost use Rattle.plain_elim.specs.Held.{BoundsColumn};
-ghost use Rattle.plain_elim.specs.PointParts.{minus_product, narrowed_by};
+ghost use Rattle.plain_elim.specs.inside.Held.{BoundsColumn};
+ghost use Rattle.plain_elim.specs.inside.PointParts.{minus_product, narrowed_by};
 
 use crate::fraction::Fraction;
 use crate::line::Line;

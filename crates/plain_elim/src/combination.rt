@@ -6,7 +6,7 @@ ghost use Rattle.thr_base.specs.Number.{Fits};
 ghost use Rattle.lin_rows.specs.Exact.{fitting};
 ghost use Rattle.farkas_cert.specs.Divided.{divided};
 ghost use Rattle.farkas_cert.specs.Line as specs;
-ghost use Rattle.plain_elim.specs.Combined.{combined_number, combined, numbers_in};
+ghost use Rattle.plain_elim.specs.inside.Combined.{combined_number, combined, numbers_in};
 
 use crate::line::{Line, number_at};
 use lin_rows::{divisor_of, floor_of, product_if_fits, sum_if_fits};

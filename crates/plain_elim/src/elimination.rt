@@ -1,23 +1,24 @@
 ghost use Rattle.std.specs.Prelude.{◌≡◌, length, IfOk};
 ghost use Rattle.lin_rows.specs.System.{HasWidths};
+ghost use Rattle.lin_rows.specs.View.{system_of};
 ghost use Rattle.farkas_cert.specs.Elimination as specs;
-ghost use Rattle.plain_elim.specs.Decision.{outcome_in, IsEvidence};
-ghost use Rattle.plain_elim.specs.Held.{work_of, refuted_by, IsReady};
+ghost use Rattle.farkas_cert.specs.Decision.{outcome_in, IsEvidence};
+ghost use Rattle.plain_elim.specs.inside.Held.{work_of, refuted_by, IsReady};
 
 use crate::point::point_of;
 use crate::stage::{begun, stage};
 use crate::work::{Next, Work};
-use farkas_cert::{Cert, CertAnswer, Decided, LeaveKind, check_cert};
+use farkas_cert::{Cert, CertAnswer, Decided, LeaveKind, NamedRows, check_named};
 use lin_rows::RowsView;
 use std::alloc::{AllocError, Global};
 
 /// The answer where multipliers refute the rows, by the check of their products and sums.
-fn refuted(rows: &RowsView<'_>, cert: Cert, number: u32) -> Decided
+fn refuted(rows: &NamedRows<'_>, cert: Cert, number: u32) -> Decided
     requires widths { HasWidths rows.now }
     requires leads { specs.outcome_of rows.now ≡ refuted_by rows.now cert number }
     ensures { outcome_in result ≡ specs.outcome_of rows.now }
 {
-    match check_cert(rows, cert.pairs()) {
+    match check_named(rows, cert.pairs()) {
         CertAnswer::Proves => Decided::Refuted(cert),
         CertAnswer::Fails | CertAnswer::Overflow { .. } => Decided::Leaves {
             stage: number,
@@ -29,7 +30,7 @@ fn refuted(rows: &RowsView<'_>, cert: Cert, number: u32) -> Decided
 /// Stages until no line is left, and then the point. Each takes another column.
 fn stages(
     alloc: Global,
-    rows: &RowsView<'_>,
+    rows: &NamedRows<'_>,
     columns: u32,
     first: Work,
 ) -> Result<Decided, AllocError>
@@ -60,9 +61,9 @@ fn stages(
     point_of(alloc, columns, work.kept)
 }
 
-/// What the elimination of the rows comes to: a certificate, a point, or the stage at which it leaves, from 1, or 0 where it
-/// leaves before the first.
-pub fn decide(alloc: Global, rows: &RowsView<'_>) -> Result<Decided, AllocError>
+/// What the elimination of the rows that a certificate can name comes to: those of a system, or these and the negation of an
+/// atom.
+pub fn decide_named(alloc: Global, rows: &NamedRows<'_>) -> Result<Decided, AllocError>
     ensures outcome { IfOk result (λ decided. outcome_in decided ≡ specs.outcome_of rows.now) }
     ensures evidence { IfOk result (IsEvidence rows.now) }
 {
@@ -73,4 +74,13 @@ pub fn decide(alloc: Global, rows: &RowsView<'_>) -> Result<Decided, AllocError>
         Next::Refutes(cert, number) => Ok(refuted(rows, cert, number)),
         Next::Leaves(stage, kind) => Ok(Decided::Leaves { stage, kind }),
     }
+}
+
+/// What the elimination of the rows comes to: a certificate, a point, or the stage at which it leaves, from 1, or 0 where it
+/// leaves before the first.
+pub fn decide(alloc: Global, rows: &RowsView<'_>) -> Result<Decided, AllocError>
+    ensures outcome { IfOk result (λ decided. outcome_in decided ≡ specs.outcome_of (system_of rows.now)) }
+    ensures evidence { IfOk result (IsEvidence (system_of rows.now)) }
+{
+    decide_named(alloc, &NamedRows::of(rows))
 }

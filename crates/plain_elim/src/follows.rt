@@ -1,8 +1,8 @@
 ghost use Rattle.std.specs.Prelude.{◌≡◌, ◌<◌, ◌-◌, ◌^◌, IfOk, length};
 ghost use Rattle.lin_rows.specs.System.{System};
 ghost use Rattle.farkas_cert.specs.Elimination as specs;
-ghost use Rattle.plain_elim.specs.Held.{kept_of, next_of};
-ghost use Rattle.plain_elim.specs.Stages.{after_stages, lines_in};
+ghost use Rattle.plain_elim.specs.inside.Held.{kept_of, next_of};
+ghost use Rattle.plain_elim.specs.inside.Stages.{after_stages, lines_in};
 
 use crate::kept::Kept;
 use crate::line::Line;

@@ -15,7 +15,7 @@ pub struct Fraction {
 
 impl Model for Fraction {
     ghost use Rattle.farkas_cert.specs.BackSubstitution as specs;
-    ghost use Rattle.plain_elim.specs.PointParts.{IsFraction};
+    ghost use Rattle.plain_elim.specs.inside.PointParts.{IsFraction};
 
     ghost Value = { specs.Fraction };
 

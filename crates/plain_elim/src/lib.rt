@@ -22,7 +22,7 @@ mod substitution;
 mod tested;
 mod work;
 
-pub use elimination::decide;
+pub use elimination::{decide, decide_named};
 
 #[cfg(test)]
 mod tests;

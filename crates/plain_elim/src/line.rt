@@ -16,7 +16,7 @@ pub struct Line {
 
 impl Model for Line {
     ghost use Rattle.farkas_cert.specs.Line as lines;
-    ghost use Rattle.plain_elim.specs.LineParts.{IsHeld};
+    ghost use Rattle.plain_elim.specs.inside.LineParts.{IsHeld};
 
     ghost Value = { lines.Line };
 

@@ -4,20 +4,17 @@ ghost use Rattle.lin_rows.specs.System.{System};
 ghost use Rattle.farkas_cert.specs.BackSubstitution.{Bounded};
 ghost use Rattle.farkas_cert.specs.Elimination as specs;
 ghost use Rattle.farkas_cert.specs.Line as line_specs;
-ghost use Rattle.plain_elim.specs.Held.{work_of, next_of};
-ghost use Rattle.plain_elim.specs.Stages.{after_stages, made_with};
+ghost use Rattle.plain_elim.specs.inside.Held.{work_of, next_of};
+ghost use Rattle.plain_elim.specs.inside.Stages.{after_stages, made_with};
 
 use crate::follows::follows;
 use crate::kept::Kept;
 use crate::line::Line;
 use crate::pairing::with_all_pairs;
 use crate::work::{Next, Work};
-use farkas_cert::LeaveKind;
-use lin_rows::RowsView;
+use farkas_cert::{LeaveKind, NamedRows};
 use std::alloc::{AllocError, Global};
-
-/// So many rows may be given and made by pairs.
-const ROW_LIMIT: u64 = 8192;
+use thr_base::MOST_ELIMINATION_ROWS;
 
 /// The lowest column of all lines.
 #[tactic(auto, unfolding(farkas_cert::specs::Line::lowest_of))]
@@ -50,13 +47,17 @@ fn count_negatives(lines: &[Line], column: u32) -> usize
 }
 
 /// How many lines pairs made so far and in a stage, where they are not too many.
-fn made_with(rows: &RowsView<'_>, made: u64, positives: usize, negatives: usize) -> Option<u64>
+fn made_with(rows: &NamedRows<'_>, made: u64, positives: usize, negatives: usize) -> Option<u64>
     ensures { result ≡ made_with rows.now made positives negatives }
 {
     let pairs = positives.checked_mul(negatives)?;
     let made = made.checked_add(pairs as u64)?;
     let all = made.checked_add(u64::from(rows.count()))?;
-    if all <= ROW_LIMIT { Some(made) } else { None }
+    if all <= u64::from(MOST_ELIMINATION_ROWS) {
+        Some(made)
+    } else {
+        None
+    }
 }
 
 /// The lines with a column, and those without it.
@@ -101,7 +102,7 @@ fn pairs_follow(
 
 /// The stage of the lowest column of all lines, where none is an equality. Once the column is known, a line without it is looked
 /// at once.
-pub fn pair_stage(alloc: Global, rows: &RowsView<'_>, work: Work) -> Result<Next, AllocError>
+pub fn pair_stage(alloc: Global, rows: &NamedRows<'_>, work: Work) -> Result<Next, AllocError>
     requires { length work.kept.items < rows.now.columns }
     ensures { IfOk result (λ next. next_of rows.now next ≡ specs.pair_stage rows.now (work_of work)) }
 {

@@ -2,7 +2,7 @@ ghost use Rattle.std.specs.Prelude.{◌≡◌, IfOk, true, pos, int_lt, map, ◌
 ghost use Rattle.std.specs.Option.{option_map};
 ghost use Rattle.farkas_cert.specs.Elimination as specs;
 ghost use Rattle.farkas_cert.specs.Line as line_specs;
-ghost use Rattle.plain_elim.specs.Stages.{lines_in};
+ghost use Rattle.plain_elim.specs.inside.Stages.{lines_in};
 
 use crate::combination::made_line;
 use crate::factors::common_divisor;

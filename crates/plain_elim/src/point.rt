@@ -2,8 +2,8 @@ ghost use Rattle.std.specs.Prelude.{◌≡◌, ◌<◌, ◌^◌, length, map, re
 ghost use Rattle.std.specs.List.{AllByRecursion};
 ghost use Rattle.farkas_cert.specs.BackSubstitution.{set_column};
 ghost use Rattle.farkas_cert.specs.Elimination as specs;
-ghost use Rattle.plain_elim.specs.Decision.{outcome_in};
-ghost use Rattle.plain_elim.specs.Held.{kept_of, BoundsItsColumn};
+ghost use Rattle.farkas_cert.specs.Decision.{outcome_in};
+ghost use Rattle.plain_elim.specs.inside.Held.{kept_of, BoundsItsColumn};
 
 use crate::bounds::{Bounds, bound_on};
 use crate::kept::Kept;

@@ -20,7 +20,7 @@ pub struct RationalPoint {
 
 impl Model for RationalPoint {
     ghost use Rattle.farkas_cert.specs.BackSubstitution as specs;
-    ghost use Rattle.plain_elim.specs.PointParts.{IsPoint};
+    ghost use Rattle.plain_elim.specs.inside.PointParts.{IsPoint};
 
     ghost Value = { specs.RationalPoint };
 

@@ -2,16 +2,16 @@ ghost use Rattle.std.specs.Prelude.{◌≡◌, ◌<◌, ◌-◌, ◌^◌, ◌&&�
 ghost use Rattle.std.specs.List.{AllByRecursion};
 ghost use Rattle.thr_base.specs.Number.{Fits};
 ghost use Rattle.farkas_cert.specs.Line as specs;
-ghost use Rattle.plain_elim.specs.Stages.{IsWide, refutation_of};
+ghost use Rattle.plain_elim.specs.inside.Stages.{IsWide, refutation_of};
 
 use crate::line::{Line, is_nonzero};
-use farkas_cert::Cert;
-use lin_rows::{RowsView, opposites_of};
+use farkas_cert::{Cert, NamedRows};
+use lin_rows::opposites_of;
 use std::alloc::{AllocError, Global};
 
 /// The multipliers that are not 0, with the numbers of their rows.
 fn listed(alloc: Global, multipliers: &[i128]) -> Result<Cert, AllocError>
-    requires few { length multipliers.now < 2 ^ 32 - 1 }
+    requires few { length multipliers.now < 2 ^ 32 }
     requires fit { AllByRecursion Fits multipliers.now }
     ensures { IfOk result (λ cert. cert ≡ specs.listed 1 multipliers.now) }
 {
@@ -32,7 +32,7 @@ fn is_turned(line: &Line, columns: u32) -> bool
 }
 
 /// The multipliers by which a false line refutes, as a certificate.
-fn certificate(alloc: Global, rows: &RowsView<'_>, line: &Line) -> Result<Cert, AllocError>
+fn certificate(alloc: Global, rows: &NamedRows<'_>, line: &Line) -> Result<Cert, AllocError>
     requires { IsWide rows.now line.now }
     ensures { IfOk result (λ cert. cert ≡ specs.listed 1 (specs.refuting rows.now.columns line.now)) }
 {
@@ -49,7 +49,7 @@ fn certificate(alloc: Global, rows: &RowsView<'_>, line: &Line) -> Result<Cert, 
 /// The certificate of the first false line, where there is one.
 pub fn refutation(
     alloc: Global,
-    rows: &RowsView<'_>,
+    rows: &NamedRows<'_>,
     lines: &[Line],
 ) -> Result<Option<Cert>, AllocError>
     requires { AllByRecursion (IsWide rows.now) lines.now }

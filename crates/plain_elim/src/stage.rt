@@ -1,6 +1,6 @@
 ghost use Rattle.std.specs.Prelude.{◌≡◌, ◌<◌, length, position, IfOk};
 ghost use Rattle.farkas_cert.specs.Elimination as specs;
-ghost use Rattle.plain_elim.specs.Held.{work_of, next_of, IsReady, IsReadyNext};
+ghost use Rattle.plain_elim.specs.inside.Held.{work_of, next_of, IsReady, IsReadyNext};
 
 use crate::given::given_lines;
 use crate::line::Line;
@@ -8,11 +8,11 @@ use crate::pair_stage::pair_stage;
 use crate::substitution::equality_stage;
 use crate::tested::tested;
 use crate::work::{Next, Work};
-use lin_rows::RowsView;
+use farkas_cert::NamedRows;
 use std::alloc::{AllocError, Global};
 
 /// The given rows after the constant test.
-pub fn begun(alloc: Global, rows: &RowsView<'_>) -> Result<Next, AllocError>
+pub fn begun(alloc: Global, rows: &NamedRows<'_>) -> Result<Next, AllocError>
     ensures next { IfOk result (λ next. next_of rows.now next ≡ specs.begun rows.now) }
     ensures ready { IfOk result (λ next. IsReadyNext rows.now (next_of rows.now next)) }
 {
@@ -33,7 +33,7 @@ fn first_equality(lines: &[Line]) -> Option<usize>
 }
 
 /// A stage takes a column out, by the first equality where there is one.
-fn taken_out(alloc: Global, rows: &RowsView<'_>, work: Work) -> Result<Next, AllocError>
+fn taken_out(alloc: Global, rows: &NamedRows<'_>, work: Work) -> Result<Next, AllocError>
     requires { length work.kept.items < rows.now.columns }
     ensures { IfOk result (λ next. next_of rows.now next ≡ specs.taken_out rows.now (work_of work)) }
 {
@@ -44,7 +44,7 @@ fn taken_out(alloc: Global, rows: &RowsView<'_>, work: Work) -> Result<Next, All
 }
 
 /// A stage, with the constant test behind it.
-pub fn stage(alloc: Global, rows: &RowsView<'_>, work: Work) -> Result<Next, AllocError>
+pub fn stage(alloc: Global, rows: &NamedRows<'_>, work: Work) -> Result<Next, AllocError>
     requires ready { IsReady rows.now (work_of work) }
     requires some { 0 < length work.lines.items }
     requires few { length work.kept.items < rows.now.columns }

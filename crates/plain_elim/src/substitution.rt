@@ -1,7 +1,7 @@
 ghost use Rattle.std.specs.Prelude.{◌≡◌, ◌<◌, IfOk, Some, map, length, position};
 ghost use Rattle.farkas_cert.specs.Elimination as specs;
-ghost use Rattle.plain_elim.specs.Held.{work_of, next_of};
-ghost use Rattle.plain_elim.specs.Stages.{lines_in};
+ghost use Rattle.plain_elim.specs.inside.Held.{work_of, next_of};
+ghost use Rattle.plain_elim.specs.inside.Stages.{lines_in};
 
 use crate::combination::made_line;
 use crate::factors::{common_divisor, with_sign_of};
@@ -9,7 +9,8 @@ use crate::follows::follows;
 use crate::kept::Kept;
 use crate::line::{Line, is_nonzero};
 use crate::work::{Next, Work};
-use lin_rows::{RowsView, floor_of};
+use farkas_cert::NamedRows;
+use lin_rows::floor_of;
 use std::alloc::{AllocError, Global};
 
 /// The line from which the equality takes the column out. A line without the column stays as it is.
@@ -55,7 +56,7 @@ fn all_substituted(
 /// The stage of the first equality, which stands at a place.
 pub fn equality_stage(
     alloc: Global,
-    rows: &RowsView<'_>,
+    rows: &NamedRows<'_>,
     work: Work,
     place: usize,
 ) -> Result<Next, AllocError>

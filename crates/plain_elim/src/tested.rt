@@ -2,13 +2,13 @@ ghost use Rattle.std.specs.Prelude.{◌≡◌, ◌≤◌, IfOk, length, filter};
 ghost use Rattle.std.specs.List.{AllByRecursion};
 ghost use Rattle.farkas_cert.specs.Elimination as specs;
 ghost use Rattle.farkas_cert.specs.Line as line_specs;
-ghost use Rattle.plain_elim.specs.Held.{work_of, next_of};
-ghost use Rattle.plain_elim.specs.Stages.{IsWide};
+ghost use Rattle.plain_elim.specs.inside.Held.{work_of, next_of};
+ghost use Rattle.plain_elim.specs.inside.Stages.{IsWide};
 
 use crate::line::Line;
 use crate::refuting::refutation;
 use crate::work::{Next, Work};
-use lin_rows::RowsView;
+use farkas_cert::NamedRows;
 use std::alloc::{AllocError, Global};
 
 /// The lines with a variable.
@@ -25,7 +25,7 @@ fn with_variable(alloc: Global, columns: u32, lines: Vec<Line>) -> Result<Vec<Li
 }
 
 /// The first false line without a variable refutes; the other lines without a variable are removed.
-pub fn tested(alloc: Global, rows: &RowsView<'_>, work: Work) -> Result<Next, AllocError>
+pub fn tested(alloc: Global, rows: &NamedRows<'_>, work: Work) -> Result<Next, AllocError>
     requires wide { AllByRecursion (IsWide rows.now) work.lines.items }
     requires few { length work.kept.items ≤ rows.now.columns }
     ensures { IfOk result (λ next. next_of rows.now next ≡ specs.tested rows.now (length work.kept.items) (work_of work)) }

@@ -1,27 +1,16 @@
 -- Atoms that are equal, and lists that have none twice.
 use Rattle.std.proofs.Common.{◌≡◌, ◌≢◌, ℕ, zero, suc, ◌<◌, List, [], ◌∷◌, ◌++◌, map, take, length, length-append, get_or, ℤ, pos, ◌-ℤ◌, neg_ℤ, false, refl, sym, ap, ap₂, ◌∙◌, arith}
-use Rattle.std.proofs.lemmas.Int.{ints}
-use Rattle.std.proofs.Math.IntN.{neg_ℤ-neg_ℤ}
+use Rattle.thr_base.specs.Limits.{most_predicates}
 use Rattle.lin_rows.specs.Row.{Row}
-use Rattle.lin_rows.specs.Atom.{inequality, negation}
+use Rattle.lin_rows.specs.Atom.{inequality}
 use Rattle.lin_rows.proofs.Lists.{AllByRecursion-append}
-use Rattle.predicate_sets.specs.HomeSet.{Lacks, AreDistinct, IsHomeSet, most_atoms}
+use Rattle.predicate_sets.specs.HomeSet.{Lacks, AreDistinct, IsHomeSet}
 
 pub is_inequality : (a : Row) → a.equal ≡ false → a ≡ inequality a.coefficients a.bound
 is_inequality a p = ap (λ v. record a { equal = v }) p
 
 pub same_parts : (a b : Row) → a.equal ≡ false → b.equal ≡ false → a.coefficients ≡ b.coefficients → a.bound ≡ b.bound → a ≡ b
 same_parts a b p q e f = is_inequality a p ∙ ap₂ inequality e f ∙ sym (is_inequality b q)
-
-negations-negated : (xs : List ℤ) → map neg_ℤ (map neg_ℤ xs) ≡ xs
-negations-negated [] = refl
-negations-negated (x ∷ xs) = ap₂ (λ y ys. y ∷ ys) (neg_ℤ-neg_ℤ x) (negations-negated xs)
-
-bound-negated : (b : ℤ) → neg_ℤ (neg_ℤ b -ℤ pos 1) -ℤ pos 1 ≡ b
-bound-negated b = omega (arith, ints)
-
-pub negation-negation : (a : Row) → a.equal ≡ false → negation (negation a) ≡ a
-negation-negation a p = ap₂ inequality (negations-negated a.coefficients) (bound-negated a.bound) ∙ sym (is_inequality a p)
 
 pub lacks_more : (set : List Row) (n : ℕ) (atom d : Row) → n < length set → Lacks (take n set) atom → get_or set n d ≢ atom → Lacks (take (suc n) set) atom
 lacks_more [] n atom d h before other = absurd (omega arith)
@@ -33,7 +22,7 @@ AreDistinct-append [] atom distinct lacks = (tt, tt)
 AreDistinct-append (x ∷ set) atom distinct lacks =
     (AllByRecursion-append (λ other. other ≢ x) set (atom ∷ []) distinct.0 (λ e. lacks.0 (sym e), tt), AreDistinct-append set atom distinct.1 lacks.1)
 
-pub home_set_grows : (set : List Row) (atom : Row) → IsHomeSet set → length set < most_atoms → Lacks set atom → IsHomeSet (set ++ atom ∷ [])
+pub home_set_grows : (set : List Row) (atom : Row) → IsHomeSet set → length set < most_predicates → Lacks set atom → IsHomeSet (set ++ atom ∷ [])
 home_set_grows set atom is room lacks = record {
   few = omega (arith, length-append set (atom ∷ []), room);
   distinct = AreDistinct-append set atom is.distinct lacks;

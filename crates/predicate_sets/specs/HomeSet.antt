@@ -1,11 +1,8 @@
 -- The list of the predicates of a home.
 use Rattle.std.specs.Prelude.{◌≡◌, ◌≢◌, ◌≤◌, ℕ, zero, suc, List, [], ◌∷◌, length, slice_get, Some}
 use Rattle.std.specs.List.{AllByRecursion}
+use Rattle.thr_base.specs.Limits.{most_predicates}
 use Rattle.lin_rows.specs.Row.{Row}
-
--- how many atoms a home has at most
-abbrev pub most_atoms : ℕ
-most_atoms = 128
 
 -- The atom stands nowhere in the list.
 abbrev pub Lacks : List Row → Row → Type 0
@@ -23,5 +20,5 @@ AreDistinct (atom ∷ set) = Lacks set atom × AreDistinct set
 
 -- What is known of each list that a program holds.
 pub record IsHomeSet (set : List Row) : Type 0 where
-  pub few : length set ≤ most_atoms
+  pub few : length set ≤ most_predicates
   pub distinct : AreDistinct set

@@ -1,11 +1,10 @@
 ghost use Rattle.std.specs.Prelude.{◌≡◌, ◌↔◌, ◌<◌, ◌∷◌, [], ◌++◌, length, slice_get, IfOk, IsTrue, MatchOption};
-ghost use Rattle.predicate_sets.specs.HomeSet.{most_atoms, IsHomeSet, Lacks};
+ghost use Rattle.thr_base.specs.Limits.{most_predicates};
+ghost use Rattle.predicate_sets.specs.HomeSet.{IsHomeSet, Lacks};
 
-use lin_rows::{Atom, negate};
+use lin_rows::Atom;
 use std::alloc::{AllocError, Global};
 use std::marker::Model;
-
-pub(crate) const MOST_ATOMS: usize = 128;
 
 /// The predicates of a home, at most 128 and no two equal. What a fact holds of them is told by position, from 1.
 #[derive(Debug, Drop)]
@@ -44,7 +43,7 @@ impl HomeSet {
     /// A list of its own, with one more atom at its end.
     #[tactic(auto, using(crate::proofs::Atoms::home_set_grows))]
     pub(crate) fn with(&self, alloc: Global, atom: Atom) -> Result<HomeSet, AllocError>
-        requires room { length self.now < most_atoms }
+        requires room { length self.now < most_predicates }
         requires lacks { Lacks self.now atom }
         ensures { IfOk result (λ set. set ≡ self.now ++ atom ∷ []) }
     {
@@ -78,16 +77,7 @@ fn copies_of(alloc: Global, atoms: &[Atom]) -> Result<Vec<Atom>, AllocError>
 {
     let mut copies = Vec::new(alloc);
     for atom in atoms {
-        copies.push(copy_of(alloc, atom)?)?;
+        copies.push(atom.try_clone(alloc)?)?;
     }
     Ok(copies)
-}
-
-/// The negation of the negation: atoms are made by `normal` and `negate` alone.
-fn copy_of(alloc: Global, atom: &Atom) -> Result<Atom, AllocError>
-    ensures { IfOk result (λ copy. copy ≡ atom.now) }
-{
-    let _ = atom.bound(); // its contract says that `atom` is an inequality
-    let negated = negate(alloc, atom)?;
-    negate(alloc, &negated)
 }

@@ -1,13 +1,14 @@
 ghost use Rattle.std.specs.Prelude.{◌≡◌, ◌<◌, [], ◌∷◌, ◌++◌, length, replicate, IfOk};
-ghost use Rattle.predicate_sets.specs.HomeSet.{most_atoms, Lacks};
-ghost use Rattle.predicate_sets.specs.Sets.{HasHome, set_at, with_set, IsAddAnswer};
+ghost use Rattle.thr_base.specs.Limits.{most_predicates};
+ghost use Rattle.predicate_sets.specs.HomeSet.{IsHomeSet, Lacks};
+ghost use Rattle.predicate_sets.specs.Sets.{AreHomeSets, HasHome, set_at, with_set, IsAddAnswer};
 
-use crate::home_set::{HomeSet, MOST_ATOMS, place_of};
+use crate::home_set::{HomeSet, place_of};
 use lin_rows::Atom;
 use std::alloc::{AllocError, Global};
 use std::marker::Model;
 use std::sync::Arc;
-use thr_base::HomeNo;
+use thr_base::{HomeNo, MOST_PREDICATES};
 
 /// The predicates of all homes.
 #[derive(Drop)]
@@ -21,7 +22,11 @@ impl Model for Sets {
 
     ghost Value = { List (List Row) };
 
+    ghost use Rattle.predicate_sets.specs.Sets.{AreHomeSets};
+
     ghost view = { λ inside. map (λ set. set.value) inside.homes.items };
+
+    ghost invariant = { λ inside. AreHomeSets (map (λ set. set.value) inside.homes.items) };
 }
 
 /// The position of an atom that was added, and whether it is new.
@@ -48,6 +53,14 @@ impl Sets {
         Ok(Sets { homes: sets })
     }
 
+    /// The number of homes.
+    pub fn count(&self) -> usize
+        ensures count { result ≡ length self.now }
+        ensures home_sets { AreHomeSets self.now }
+    {
+        self.homes.len()
+    }
+
     /// Appends an atom to a home's list. A list that was handed out stays as it is: the home gets a new one.
     pub fn add(&mut self, home: HomeNo, atom: Atom) -> Result<Added, AddStop>
         requires { HasHome self.old home.0 }
@@ -59,7 +72,7 @@ impl Sets {
         if let Some(known) = place_of(set.atoms(), &atom) {
             return Ok(Added::Known(known as u32 + 1));
         }
-        if count == MOST_ATOMS {
+        if count == MOST_PREDICATES as usize {
             return Err(AddStop::Full);
         }
         let alloc = *self.homes.allocator();
@@ -73,7 +86,8 @@ impl Sets {
     /// A home's list, shared. Want of memory comes where the list has as many owners as can be counted.
     pub fn at(&self, home: HomeNo) -> Result<Arc<HomeSet>, AllocError>
         requires { HasHome self.now home.0 }
-        ensures { IfOk result (λ set. set.value ≡ set_at self.now home.0) }
+        ensures set { IfOk result (λ set. set.value ≡ set_at self.now home.0) }
+        ensures home_set { IsHomeSet (set_at self.now home.0) }
     {
         Arc::try_clone(&self.homes[home.0 as usize - 1])
     }
@@ -83,12 +97,13 @@ impl Sets {
         requires { HasHome self.old home.0 }
         ensures { self.new ≡ with_set self.old home.0 set.value }
     {
+        let _ = set.atoms(); // its contract says that they are few, and no two equal
         self.homes[home.0 as usize - 1] = set;
     }
 }
 
 fn grown(alloc: Global, set: &HomeSet, atom: Atom) -> Result<Arc<HomeSet>, AllocError>
-    requires room { length set.now < most_atoms }
+    requires room { length set.now < most_predicates }
     requires lacks { Lacks set.now atom }
     ensures { IfOk result (λ grown. grown.value ≡ set.now ++ atom ∷ []) }
 {

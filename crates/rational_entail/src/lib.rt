@@ -1,5 +1,5 @@
 //! Whether rows have a rational point, and whether they entail an atom, each with its evidence. The layers above learn that the
-//! evidence holds, and that the solver leaves rows undecided exactly where the elimination does; which certificate or point
+//! evidence holds, and that the solver leaves rows undecided exactly where one definition says; which certificate or point
 //! they are given, they do not learn.
 #![tactic(auto)]
 

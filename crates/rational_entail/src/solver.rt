@@ -1,15 +1,24 @@
 ghost use Rattle.std.specs.Prelude.{IfOk};
-ghost use Rattle.plain_elim.specs.Decision.{IsEvidence};
+ghost use Rattle.lin_rows.specs.View.{system_of};
+ghost use Rattle.farkas_cert.specs.Decision.{IsEvidence};
 ghost use Rattle.rational_entail.specs.Entailment.{LeavesAlike};
 
-use farkas_cert::Decided;
+use farkas_cert::{Decided, NamedRows};
 use lin_rows::RowsView;
 use std::alloc::{AllocError, Global};
 
-/// A certificate that refutes the rows, a rational point of them, or the stage and the kind with which their elimination leaves.
-pub fn decide(alloc: Global, rows: &RowsView<'_>) -> Result<Decided, AllocError>
+/// What is found of the rows of a system, or of these and the negation of an atom.
+pub(crate) fn decide_named(alloc: Global, rows: &NamedRows<'_>) -> Result<Decided, AllocError>
     ensures evidence { IfOk result (IsEvidence rows.now) }
     ensures leaves { IfOk result (LeavesAlike rows.now) }
 {
-    plain_elim::decide(alloc, rows)
+    plain_elim::decide_named(alloc, rows)
+}
+
+/// A certificate that refutes the rows, a rational point of them, or the stage and the kind with which they are left undecided.
+pub fn decide(alloc: Global, rows: &RowsView<'_>) -> Result<Decided, AllocError>
+    ensures evidence { IfOk result (IsEvidence (system_of rows.now)) }
+    ensures leaves { IfOk result (LeavesAlike (system_of rows.now)) }
+{
+    decide_named(alloc, &NamedRows::of(rows))
 }

@@ -1,6 +1,9 @@
 pub mod Edge
+pub mod Held
 pub mod InMemory
+pub mod Limits
 pub mod MemFiles
 pub mod Number
 pub mod Outside
 pub mod Reading
+pub mod Refusals

@@ -4,6 +4,7 @@
 
 mod failing_calls;
 mod file_store;
+mod held;
 mod honest_store;
 mod limits;
 mod mem_files;
@@ -15,14 +16,22 @@ mod open_gate;
 mod out_sink;
 mod outside;
 mod reading;
+mod recorded;
+mod refusals;
 mod room;
 mod room_sink;
 mod stops;
 mod zero_sink;
 
 pub use file_store::FileStore;
+pub use held::{holds, positions_are_those_held, positions_of, with_position};
 pub use honest_store::HonestStore;
-pub use limits::Limits;
+pub use limits::{
+    ANNOTATION_LIMIT, DEFAULT_LIMITS, Limits, MOST_COLUMNS, MOST_EDGES, MOST_ELIMINATION_ROWS,
+    MOST_GENERATED, MOST_INPUTS, MOST_LEVELS, MOST_LIMITS, MOST_LOCATIONS, MOST_PATHS,
+    MOST_PREDICATES, MOST_TESTS, MOST_THREADS, MOST_TREE_COLUMNS, MOST_TREE_ROWS, TEXT_LIMIT,
+    limits_are_as_defined,
+};
 pub use mem_sink::MemSink;
 pub use mem_store::MemStore;
 pub use names::{EdgeNo, Epoch, Fact, FactId, Home, HomeNo, Instance, Loc, RuleName, ThreadNo};
@@ -31,6 +40,12 @@ pub use open_gate::OpenGate;
 pub use out_sink::OutSink;
 pub use outside::{Failed, Gate, Sink, Store};
 pub use reading::{read_all, write_all};
+pub use recorded::Recorded;
+pub use refusals::{
+    ATOMIC_BODY, BAD_BYTE, BAD_MAIN, BAD_NUMBER, COEFFICIENT, EXPECTED, NO_THREAD, NOT_BUILT,
+    NOT_IN_PROFILE, NOT_LINEAR, NOT_TEXT, TOO_MANY, TWICE_NAMED, UNKNOWN_NAME,
+    codes_are_as_defined, is_earlier,
+};
 pub use room_sink::RoomSink;
 pub use stops::{LineStop, ReadStop, Refusal, Stop};
 pub use zero_sink::ZeroSink;

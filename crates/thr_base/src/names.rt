@@ -39,7 +39,7 @@ pub enum RuleName {
 
 /// That the predicates at some positions of a home's list hold there. Bit `k - 1` of `held` stands for
 /// position `k`, from 1.
-#[derive(Clone, Copy, Debug, PartialEq, Eq)]
+#[derive(Clone, Copy, Debug, PartialEq, Eq, PartialOrd, Ord)]
 pub struct Fact {
     pub home: HomeNo,
     pub held: u128,
@@ -48,7 +48,7 @@ pub struct Fact {
 /// An application of a proof rule to facts: a thread's start, its own step, the step that it guarantees
 /// to the others, a step of the environment of another thread, and under the rule of Owicki and Gries the
 /// interference of another thread's step, from a state that the second fact describes.
-#[derive(Clone, Copy, Debug, PartialEq, Eq)]
+#[derive(Clone, Copy, Debug, PartialEq, Eq, PartialOrd, Ord)]
 pub enum Instance {
     Init(ThreadNo),
     Own(FactId, EdgeNo),

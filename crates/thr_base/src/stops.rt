@@ -1,5 +1,6 @@
 ghost use Rattle.std.specs.Prelude.{◌≡◌};
-ghost use Rattle.thr_base.specs.declared.stops.Stop.TheVariants.{Memory};
+ghost use Rattle.thr_base.specs.declared.stops.Stop.TheVariants.{Memory, Refused};
+ghost use Rattle.thr_base.specs.declared.stops.LineStop.TheVariants.{Memory as NoMemory};
 
 use std::alloc::{AllocError, AllocFailed};
 use thiserror::Error;
@@ -38,6 +39,14 @@ impl<T: Drop> From<AllocFailed<T>> for Stop {
     }
 }
 
+impl From<Refusal> for Stop {
+    ghost from_gives = { λ refusal stop. stop ≡ Refused refusal };
+
+    fn from(refusal: Refusal) -> Stop {
+        Stop::Refused(refusal)
+    }
+}
+
 /// Why a text of lines was not read.
 #[derive(Clone, Copy, Debug, Error, PartialEq, Eq)]
 pub enum LineStop {
@@ -46,6 +55,22 @@ pub enum LineStop {
     BadLine(u32),
     #[error("out of memory")]
     Memory,
+}
+
+impl From<AllocError> for LineStop {
+    ghost from_gives = { λ _ stop. stop ≡ NoMemory };
+
+    fn from(_error: AllocError) -> LineStop {
+        LineStop::Memory
+    }
+}
+
+impl<T: Drop> From<AllocFailed<T>> for LineStop {
+    ghost from_gives = { λ _ stop. stop ≡ NoMemory };
+
+    fn from(_error: AllocFailed<T>) -> LineStop {
+        LineStop::Memory
+    }
 }
 
 /// Why a file was not read whole.

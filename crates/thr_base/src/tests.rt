@@ -168,6 +168,58 @@ fn the_standard_output_is_written(rt: HostRuntime) {
     );
 }
 
+/// An output that takes one byte at once.
+struct OneAtOnce;
+
+impl Print for OneAtOnce {
+    fn print<D: Display + Drop>(&self, _value: D) -> io::Result<()> {
+        Ok(())
+    }
+
+    fn println<D: Display + Drop>(&self, _value: D) -> io::Result<()> {
+        Ok(())
+    }
+
+    fn write_all(&self, _bytes: &[u8]) -> io::Result<()> {
+        Ok(())
+    }
+
+    fn write_some(&self, bytes: &[u8]) -> io::Result<usize> {
+        Ok(bytes.len().min(1))
+    }
+}
+
+#[test]
+fn a_short_write_tells_how_much_it_took(rt: HostRuntime) {
+    assert_eq!(rt; OutSink::new(&OneAtOnce).write(b"ab"), Ok(1));
+}
+
+#[test]
+fn positions_are_held_in_rising_order(rt: HostRuntime) -> Result<(), Fail> {
+    let held = with_position(with_position(with_position(0, 128), 1), 3);
+    assert_eq!(rt;
+        positions_of(rt.alloc(), held)?.as_slice(),
+        [1, 3, 128].as_slice()
+    );
+    assert_eq!(rt; (holds(held, 3), holds(held, 2)), (true, false));
+    positions_are_those_held();
+    Ok(())
+}
+
+#[test]
+fn the_lower_place_comes_first(rt: HostRuntime) {
+    let [first, second, third] = [(7, 3), (6, 4), (8, 4)].map(|(code, place)| Refusal {
+        code,
+        place,
+    });
+    assert_eq!(rt; is_earlier(first, second), true);
+    assert_eq!(rt; is_earlier(second, third), true);
+    assert_eq!(rt; is_earlier(third, second), false);
+    assert_eq!(rt; is_earlier(first, first), false);
+    limits_are_as_defined();
+    codes_are_as_defined();
+}
+
 #[test]
 fn stops_say_why(rt: HostRuntime) -> Result<(), Fail> {
     let refused = Stop::Refused(Refusal { code: 14, place: 3 });

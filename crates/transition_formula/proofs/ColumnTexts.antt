@@ -1,38 +1,114 @@
 -- The texts of columns are words that differ.
-use Rattle.std.proofs.Common.{◌≡◌, ◌≢◌, ℕ, ◌+◌, ◌-◌, ◌<◌, ◌≤◌, Bool, true, false, ◌&&◌, List, [], ◌∷◌, ◌++◌, length, get_or, map, refl, sym, ap, ◌∙◌, arith, inl, inr, ◌⊎◌, length-append}
+use Rattle.std.proofs.Common.{◌≡◌, ◌≢◌, ℕ, ◌+◌, ◌-◌, ◌<◌, ◌≤◌, Bool, true, false, ◌&&◌, ◌||◌, ◌^◌, pos, codes, Option, Some, None, List, [], ◌∷◌, ◌++◌, length, get_or, map, refl, sym, ap, ◌∙◌, arith, inl, inr, ◌⊎◌, length-append}
 use Rattle.std.specs.List.{AllByRecursion, AllPairs, list_all}
 use Rattle.std.proofs.Math.ListN.{get_or-append}
-use Rattle.std.proofs.lemmas.Bool.Decides.{leb_tells}
+use Rattle.std.specs.Char.{is_ascii_digit, IsAsciiDigit}
+use Rattle.std.proofs.lemmas.Bool.Decides.{leb_tells, nat_tests}
 use Rattle.std.proofs.lemmas.List.{length-map, get_or-map, get_or-append_right, append_cancel_right}
-use Rattle.lin_rows.proofs.Lists.{AllByRecursion-append, AllByRecursion-map, AllByRecursion-at}
-use Rattle.transition_formula.specs.Program.{Column, IsColumnText, IsTextOf, IsProgram, is_text_byte, Program}
+use Rattle.lin_rows.proofs.Lists.{AllByRecursion-append, AllByRecursion-map, AllByRecursion-at, AllByRecursion-weaken}
+use Rattle.thr_base.specs.Number.{Fits, number_text}
+use Rattle.thr_base.proofs.Numbers.{IsTextOf-number_text}
+use Rattle.transition_formula.specs.ColumnText.{is_name_start, is_c_name, IsSharedText, variable, started, done, IsOwnName, local, declared_again, temporary, counter, own_text, IsTextOf}
+use Rattle.transition_formula.specs.Program.{Column, IsColumn, IsProgram, Program}
 use Rattle.transition_formula.specs.AtomText.{column_texts}
-use Rattle.transition_formula.specs.AtomReading.{IsPlain, IsWord}
+use Rattle.transition_formula.specs.inside.AtomReading.{IsPlain, IsWord, is_text_byte}
+use Rattle.transition_formula.proofs.Words.{each-from_digits}
 
-text_byte-is_not : (b c : ℕ) → is_text_byte b ≡ true → is_text_byte c ≡ false → b ≢ c
-text_byte-is_not b c passes fails e = let wrong : is_text_byte c ≡ true = rw (← e) passes in cc
+-- ---- the bytes of texts
 
-text_byte-plain : (b : ℕ) → is_text_byte b ≡ true → IsPlain b
-text_byte-plain b passes = record { no_blank = text_byte-is_not b 32 passes refl; no_star = text_byte-is_not b 42 passes refl; no_minus = text_byte-is_not b 45 passes refl }
+name_start-byte : (b : ℕ) → is_name_start b ≡ true → is_text_byte b ≡ true
+name_start-byte b e = grind (arith, nat_tests)
+
+name-byte : (b : ℕ) → (is_name_start b || is_ascii_digit b) ≡ true → is_text_byte b ≡ true
+name-byte b e = grind (arith, nat_tests)
+
+digit-byte : (b : ℕ) → IsAsciiDigit b → is_text_byte b ≡ true
+digit-byte b e = grind (arith, nat_tests)
+
+both_true-left : (a b : Bool) → (a && b) ≡ true → a ≡ true
+both_true-left true b e = refl
+both_true-left false b e = e
+
+both_true-right : (a b : Bool) → (a && b) ≡ true → b ≡ true
+both_true-right true b e = e
+both_true-right false b e = cc
 
 each-from_list_all : (p : ℕ → Bool) (P : ℕ → Type 0) → ((b : ℕ) → p b ≡ true → P b) → (xs : List ℕ) → list_all p xs ≡ true → AllByRecursion P xs
 each-from_list_all p P gives [] all = tt
 each-from_list_all p P gives (x ∷ xs) all = (gives x (both_true-left (p x) (list_all p xs) all), each-from_list_all p P gives xs (both_true-right (p x) (list_all p xs) all))
-  where
-    both_true-left : (a b : Bool) → (a && b) ≡ true → a ≡ true
-    both_true-left true b e = refl
-    both_true-left false b e = e
 
-    both_true-right : (a b : Bool) → (a && b) ≡ true → b ≡ true
-    both_true-right true b e = e
-    both_true-right false b e = cc
+-- a letter, a digit, or one of _ . $ #
+abbrev pub IsTextByte : ℕ → Type 0
+IsTextByte b = is_text_byte b ≡ true
 
-IsWord-column : (text : List ℕ) → IsColumnText text → IsWord text
-IsWord-column text is = record { some = is.some; bytes = each-from_list_all is_text_byte IsPlain text_byte-plain text is.bytes }
+name-bytes : (name : List ℕ) → is_c_name name ≡ true → AllByRecursion IsTextByte name
+name-bytes [] e = cc
+name-bytes (b ∷ bytes) e = (
+  name_start-byte b (both_true-left (is_name_start b) _ e),
+  each-from_list_all (λ c. is_name_start c || is_ascii_digit c) IsTextByte name-byte bytes (both_true-right (is_name_start b) _ e),
+)
+
+name-some : (name : List ℕ) → is_c_name name ≡ true → 0 < length name
+name-some [] e = cc
+name-some (b ∷ bytes) e = omega arith
+
+number-bytes : (n : ℕ) → Fits (pos n) → AllByRecursion IsTextByte (number_text (pos n))
+number-bytes n fits = each-from_digits IsTextByte digit-byte (number_text (pos n)) (IsTextOf-number_text (pos n) fits).digits
+
+shared-bytes : (threads : ℕ) (text : List ℕ) → Fits (pos threads) → IsSharedText threads text → AllByRecursion IsTextByte text
+shared-bytes threads text few (variable _ is) = name-bytes text is
+shared-bytes threads _ few (started i at) =
+    AllByRecursion-append IsTextByte (codes "$run") (number_text (pos i)) (refl, (refl, (refl, (refl, tt)))) (number-bytes i (omega (arith, few, at.1)))
+shared-bytes threads _ few (done i at) =
+    AllByRecursion-append IsTextByte (codes "$done") (number_text (pos i)) (refl, (refl, (refl, (refl, (refl, tt))))) (number-bytes i (omega (arith, few, at.1)))
+
+own-bytes : (name : List ℕ) → IsOwnName name → AllByRecursion IsTextByte name
+own-bytes name (local _ is) = name-bytes name is
+own-bytes _ (declared_again name n is many fits) =
+    AllByRecursion-append IsTextByte name (codes "#" ++ number_text (pos n)) (name-bytes name is) (refl, number-bytes n fits)
+own-bytes _ (temporary k some fits) = (refl, number-bytes k fits)
+own-bytes _ counter = (refl, (refl, (refl, tt)))
+
+own_text-bytes : (i : ℕ) (name : List ℕ) → Fits (pos i) → AllByRecursion IsTextByte name → AllByRecursion IsTextByte (own_text i name)
+own_text-bytes i name fits all = (refl, AllByRecursion-append IsTextByte (number_text (pos i)) (codes "." ++ name) (number-bytes i fits) (refl, all))
+
+-- the text of a column has letters, digits and _ . $ # alone
+pub text-bytes : (threads : ℕ) (owner : Option ℕ) (text : List ℕ) → Fits (pos threads) → IsTextOf threads owner text → AllByRecursion IsTextByte text
+text-bytes threads None text few is = shared-bytes threads text few is
+text-bytes threads (Some i) text few is =
+    rw is.text_is (own_text-bytes i is.name (omega (arith, few, is.thread_is.1)) (own-bytes is.name is.name_is))
+
+shared-some : (threads : ℕ) (text : List ℕ) → IsSharedText threads text → 0 < length text
+shared-some threads text (variable _ is) = name-some text is
+shared-some threads _ (started i at) = omega arith
+shared-some threads _ (done i at) = omega arith
+
+-- and at least one of these
+pub text-some : (threads : ℕ) (owner : Option ℕ) (text : List ℕ) → IsTextOf threads owner text → 0 < length text
+text-some threads None text is = shared-some threads text is
+text-some threads (Some i) text is = rw is.text_is (omega arith)
+
+-- ---- words
+
+text_byte-is_not : (b c : ℕ) → is_text_byte b ≡ true → is_text_byte c ≡ false → b ≢ c
+text_byte-is_not b c passes fails e = let wrong : is_text_byte c ≡ true = rw (← e) passes in cc
+
+text_byte-plain : (b : ℕ) → IsTextByte b → IsPlain b
+text_byte-plain b passes = record { no_blank = text_byte-is_not b 32 passes refl; no_star = text_byte-is_not b 42 passes refl; no_minus = text_byte-is_not b 45 passes refl }
+
+IsWord-column : (threads : ℕ) (column : Column) → Fits (pos threads) → IsColumn threads column → IsWord column.text
+IsWord-column threads column few is = record {
+  some = text-some threads column.owner column.text is.text_is;
+  bytes = AllByRecursion-weaken IsTextByte IsPlain text_byte-plain column.text (text-bytes threads column.owner column.text few is.text_is);
+}
 
 -- no quote
-no_quotes : (text : List ℕ) → IsColumnText text → AllByRecursion (λ b. b ≢ 39) text
-no_quotes text is = each-from_list_all is_text_byte (λ b. b ≢ 39) (λ b passes. text_byte-is_not b 39 passes refl) text is.bytes
+no_quotes : (threads : ℕ) (column : Column) → Fits (pos threads) → IsColumn threads column → AllByRecursion (λ b. b ≢ 39) column.text
+no_quotes threads column few is =
+    AllByRecursion-weaken IsTextByte (λ b. b ≢ 39) (λ b passes. text_byte-is_not b 39 passes refl) column.text (text-bytes threads column.owner column.text few is.text_is)
+
+few-threads : (program : Program) → IsProgram program → Fits (pos (length program.threads))
+few-threads program is = omega (arith, is.few_threads)
 
 IsWord-after : (text : List ℕ) → IsWord text → IsWord (text ++ (39 ∷ []))
 IsWord-after text is = record {
@@ -56,7 +132,7 @@ column_texts-are columns = ap (λ rest. texts_of columns ++ rest) (afters-are co
 pub column_texts-words : (program : Program) → IsProgram program → AllByRecursion IsWord (column_texts program.columns)
 column_texts-words program is =
     let texts = texts_of program.columns in
-    let words : AllByRecursion IsWord texts = AllByRecursion-map (λ (column : Column). IsTextOf column.owner column.text) IsWord (λ (column : Column). column.text) (λ column is_its. IsWord-column column.text is_its.is_text) program.columns is.texts_are in
+    let words : AllByRecursion IsWord texts = AllByRecursion-map (IsColumn (length program.threads)) IsWord (λ (column : Column). column.text) (λ column is_its. IsWord-column (length program.threads) column (few-threads program is) is_its) program.columns is.columns_are in
     rw (column_texts-are program.columns) (AllByRecursion-append IsWord texts (afters_of texts) words
     (AllByRecursion-map IsWord IsWord (λ (text : List ℕ). text ++ (39 ∷ [])) IsWord-after texts words))
 
@@ -96,6 +172,6 @@ pub column_texts-apart : (program : Program) → IsProgram program → (i j : �
     → get_or (column_texts program.columns) j [] ≢ get_or (column_texts program.columns) i []
 column_texts-apart program is i j below within =
     let texts = texts_of program.columns in
-    let plain : AllByRecursion (λ text. AllByRecursion (λ b. b ≢ 39) text) texts = AllByRecursion-map (λ (column : Column). IsTextOf column.owner column.text) (λ text. AllByRecursion (λ b. b ≢ 39) text) (λ (column : Column). column.text) (λ column is_its. no_quotes column.text is_its.is_text) program.columns is.texts_are in
+    let plain : AllByRecursion (λ text. AllByRecursion (λ b. b ≢ 39) text) texts = AllByRecursion-map (IsColumn (length program.threads)) (λ text. AllByRecursion (λ b. b ≢ 39) text) (λ (column : Column). column.text) (λ column is_its. no_quotes (length program.threads) column (few-threads program is) is_its) program.columns is.columns_are in
     let length_is : length texts ≡ length program.columns = length-map program.columns (λ (column : Column). column.text) in
     rw (column_texts-are program.columns) (texts-apart texts is.texts_differ plain i j below (omega arith))

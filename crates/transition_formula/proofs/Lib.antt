@@ -14,3 +14,7 @@ pub mod Terms
 pub mod ColumnTexts
 pub mod ReadTerms
 pub mod NormalAtoms
+pub mod Runs
+pub mod FittingLists
+pub mod FormValues
+pub mod FormSteps

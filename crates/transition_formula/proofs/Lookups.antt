@@ -5,6 +5,7 @@ use Rattle.std.specs.Option.{IsSome}
 use Rattle.std.specs.List.{slice_get, AllByRecursion}
 use Rattle.std.proofs.lemmas.List.{take_more}
 use Rattle.std.proofs.lemmas.Option.{get_or_from_slice_get, slice_get_within}
+use Rattle.lin_rows.proofs.Lists.{AllByRecursion-slice_get}
 use Rattle.transition_formula.specs.Program.{numbered}
 
 -- an element that is there, of a list that is mapped
@@ -19,12 +20,6 @@ numbered-mapped f xs zero x h e = cc
 numbered-mapped f xs (suc k) x h e = slice_get-mapped f xs k x h (simp unary_clauses at e)
 
 -- what holds of each element holds of the one of a number
-pub AllByRecursion-slice_get : {A : Type 0} (P : A → Type 0) (xs : List A) (k : ℕ) (x : A) → AllByRecursion P xs → slice_get xs k ≡ Some x → P x
-AllByRecursion-slice_get P [] zero x all e = cc
-AllByRecursion-slice_get P [] (suc k) x all e = cc
-AllByRecursion-slice_get P (y ∷ ys) zero x all e = let same : y ≡ x = cc in subst P same all.0
-AllByRecursion-slice_get P (y ∷ ys) (suc k) x all e = AllByRecursion-slice_get P ys k x all.1 e
-
 pub AllByRecursion-numbered : {A : Type 0} (P : A → Type 0) (xs : List A) (i : ℕ) (x : A) → AllByRecursion P xs → numbered xs i ≡ Some x → P x
 AllByRecursion-numbered P xs zero x all e = cc
 AllByRecursion-numbered P xs (suc k) x all e = AllByRecursion-slice_get P xs k x all e

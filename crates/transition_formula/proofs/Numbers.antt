@@ -3,8 +3,8 @@ use Rattle.std.proofs.Common.{◌≡◌, ℕ, zero, suc, ◌+◌, List, [], ◌�
 use Rattle.std.specs.List.{AllByRecursion}
 use Rattle.std.proofs.lemmas.List.{set-append_right}
 use Rattle.thr_base.specs.Number.{Fits}
-use Rattle.lin_rows.proofs.Lists.{AllByRecursion-append, AllByRecursion-map}
-use Rattle.lin_rows.proofs.Numbers.{Fits-neg}
+use Rattle.lin_rows.proofs.Lists.{AllByRecursion-append, AllByRecursion-map, AllByRecursion-take, AllByRecursion-drop}
+use Rattle.lin_rows.proofs.Numbers.{Fits-neg, zero_fits, one_fits, minus_one_fits}
 use Rattle.transition_formula.specs.Rows.{zeros, unit}
 
 pub AllByRecursion-replicate : {A : Type 0} (P : A → Type 0) (n : ℕ) (x : A) → P x → AllByRecursion P (replicate n x)
@@ -15,25 +15,6 @@ pub AllByRecursion-set : {A : Type 0} (P : A → Type 0) (xs : List A) (i : ℕ)
 AllByRecursion-set P [] i x all p = tt
 AllByRecursion-set P (y ∷ ys) zero x all p = (p, all.1)
 AllByRecursion-set P (y ∷ ys) (suc i) x all p = (all.0, AllByRecursion-set P ys i x all.1 p)
-
-pub AllByRecursion-take : {A : Type 0} (P : A → Type 0) (n : ℕ) (xs : List A) → AllByRecursion P xs → AllByRecursion P (take n xs)
-AllByRecursion-take P zero xs all = tt
-AllByRecursion-take P (suc n) [] all = tt
-AllByRecursion-take P (suc n) (x ∷ xs) all = (all.0, AllByRecursion-take P n xs all.1)
-
-pub AllByRecursion-drop : {A : Type 0} (P : A → Type 0) (n : ℕ) (xs : List A) → AllByRecursion P xs → AllByRecursion P (drop n xs)
-AllByRecursion-drop P zero xs all = all
-AllByRecursion-drop P (suc n) [] all = tt
-AllByRecursion-drop P (suc n) (x ∷ xs) all = AllByRecursion-drop P n xs all.1
-
-zero_fits : Fits (pos 0)
-zero_fits = omega arith
-
-one_fits : Fits (pos 1)
-one_fits = omega arith
-
-minus_one_fits : Fits (negsuc 0)
-minus_one_fits = omega arith
 
 pub zeros_fit : (n : ℕ) → AllByRecursion Fits (zeros n)
 zeros_fit n = AllByRecursion-replicate Fits n (pos 0) zero_fits

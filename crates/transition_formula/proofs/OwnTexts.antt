@@ -1,13 +1,20 @@
 -- The texts of the columns of the first two threads.
-use Rattle.std.proofs.Common.{◌≡◌, ℕ, ◌<◌, List, [], ◌∷◌, length, pos, Some, refl, arith}
+use Rattle.std.proofs.Common.{◌≡◌, ℕ, ◌≤◌, List, ◌∷◌, codes, refl, arith}
 use Rattle.std.specs.Fmt.{digits}
-use Rattle.thr_base.specs.Number.{number_text}
-use Rattle.transition_formula.specs.Program.{TellsOwner}
+use Rattle.transition_formula.specs.ColumnText.{IsOwnName, IsOwnText, counter_text}
 
-pub first-own : (name : List ℕ) → 0 < length name → TellsOwner (Some 1) (116 ∷ 49 ∷ 46 ∷ name)
+pub first-own : (threads : ℕ) (name : List ℕ) → 1 ≤ threads → IsOwnName name → IsOwnText threads 1 (116 ∷ 49 ∷ 46 ∷ name)
 unfolding digits
-first-own name some = (name, some, refl)
+first-own threads name many is = record { thread_is = (omega arith, many); name = name; name_is = is; text_is = refl }
 
-pub second-own : (name : List ℕ) → 0 < length name → TellsOwner (Some 2) (116 ∷ 50 ∷ 46 ∷ name)
+pub second-own : (threads : ℕ) (name : List ℕ) → 2 ≤ threads → IsOwnName name → IsOwnText threads 2 (116 ∷ 50 ∷ 46 ∷ name)
 unfolding digits
-second-own name some = (name, some, refl)
+second-own threads name many is = record { thread_is = (omega arith, many); name = name; name_is = is; text_is = refl }
+
+pub first-counter : 116 ∷ 49 ∷ 46 ∷ codes "$pc" ≡ counter_text 1
+unfolding digits
+first-counter = refl
+
+pub second-counter : 116 ∷ 50 ∷ 46 ∷ codes "$pc" ≡ counter_text 2
+unfolding digits
+second-counter = refl

@@ -6,9 +6,9 @@ use Rattle.std.proofs.lemmas.Bool.{ne_eqb}
 use Rattle.std.specs.List.{range_with_len, list_any}
 use Rattle.std.proofs.lemmas.List.Elements.{filter-append}
 use Rattle.lin_rows.specs.Row.{Row}
-use Rattle.lin_rows.specs.System.{System, with_row}
+use Rattle.lin_rows.specs.System.{System, with_row, with_rows}
 use Rattle.transition_formula.specs.Program.{Column}
-use Rattle.transition_formula.specs.Rows.{start_row, start_rows, is_kept, with_rows}
+use Rattle.transition_formula.specs.Rows.{start_row, start_rows, is_kept}
 use Rattle.transition_formula.specs.Stored.{edge_of, set_of}
 use Rattle.transition_formula.specs.declared.graph.Line.{Line}
 use Rattle.transition_formula.specs.declared.graph.Edge.{Edge as StoredEdge}

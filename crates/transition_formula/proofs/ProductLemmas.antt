@@ -3,18 +3,12 @@ use Rattle.std.proofs.Common.{◌≡◌, ℕ, zero, suc, ◌<◌, ◌≤◌, ℤ
 use Rattle.std.proofs.lemmas.Int.{ints}
 use Rattle.std.proofs.lemmas.List.{take-append-drop, length-replicate, length-set, length-map}
 use Rattle.lin_rows.specs.Row.{product_of}
-use Rattle.lin_rows.proofs.Integers.{mul-zero_ℤ, zero-mul_ℤ, one-mul_ℤ}
+use Rattle.lin_rows.proofs.Integers.{mul-zero_ℤ, zero-mul_ℤ, one-mul_ℤ, add-nothing_ℤ, nothing-add_ℤ}
 use Rattle.lin_rows.proofs.Points.{product_of-neg}
 use Rattle.transition_formula.specs.Rows.{zeros, unit}
 
 regroup : (a b c : ℤ) → a +ℤ (b +ℤ c) ≡ (a +ℤ b) +ℤ c
 regroup a b c = omega (arith, ints)
-
-add-nothing : (a b : ℤ) → b ≡ pos 0 → a +ℤ b ≡ a
-add-nothing a b e = omega (arith, ints)
-
-nothing-add : (a b c : ℤ) → a ≡ pos 0 → b ≡ c → a +ℤ b ≡ c
-nothing-add a b c e f = omega (arith, ints)
 
 pub product_of-append : (xs ys zs ws : List ℤ) → length xs ≡ length zs → product_of (xs ++ ys) (zs ++ ws) ≡ product_of xs zs +ℤ product_of ys ws
 product_of-append [] ys [] ws e = omega (arith, ints)
@@ -32,10 +26,10 @@ product_of-zeros (suc n) (v ∷ z) = ap₂ ◌+ℤ◌ (zero-mul_ℤ v) (product_
 pub product_of-unit : (n c : ℕ) (k : ℤ) (z : List ℤ) → c < n → product_of (unit n c k) z ≡ k *ℤ get_or z c (pos 0)
 product_of-unit zero c k z h = absurd (omega arith)
 product_of-unit (suc n) zero k [] h = sym (mul-zero_ℤ k)
-product_of-unit (suc n) zero k (v ∷ z) h = add-nothing (k *ℤ v) (product_of (zeros n) z) (product_of-zeros n z)
+product_of-unit (suc n) zero k (v ∷ z) h = add-nothing_ℤ (k *ℤ v) (product_of (zeros n) z) (product_of-zeros n z)
 product_of-unit (suc n) (suc c) k [] h = sym (mul-zero_ℤ k)
 product_of-unit (suc n) (suc c) k (v ∷ z) h =
-    nothing-add (pos 0 *ℤ v) (product_of (unit n c k) z) (k *ℤ get_or z c (pos 0)) (zero-mul_ℤ v) (product_of-unit n c k z (omega arith))
+    nothing-add_ℤ (pos 0 *ℤ v) (product_of (unit n c k) z) (k *ℤ get_or z c (pos 0)) (zero-mul_ℤ v) (product_of-unit n c k z (omega arith))
 
 pub product_of-one : (n c : ℕ) (z : List ℤ) → c < n → product_of (unit n c (pos 1)) z ≡ get_or z c (pos 0)
 product_of-one n c z h = product_of-unit n c (pos 1) z h ∙ one-mul_ℤ (get_or z c (pos 0))
@@ -71,7 +65,7 @@ pub test_product : (n : ℕ) (xs before after inputs : List ℤ) → n ≤ lengt
     → product_of (take n xs ++ (zeros n ++ drop n xs)) (before ++ (after ++ inputs)) ≡ product_of xs (before ++ inputs)
 test_product n xs before after inputs h one two =
     product_of-three (take n xs) (zeros n) (drop n xs) before after inputs (length-front n xs h ∙ sym one) (length-replicate n (pos 0) ∙ sym two)
-    ∙ ap (λ v. product_of (take n xs) before +ℤ v) (nothing-add _ _ (product_of (drop n xs) inputs) (product_of-zeros n after) refl)
+    ∙ ap (λ v. product_of (take n xs) before +ℤ v) (nothing-add_ℤ _ _ (product_of (drop n xs) inputs) (product_of-zeros n after) refl)
     ∙ sym (parts_product n xs before inputs h one)
 
 set_difference : (p q r a b w k : ℤ) → p ≡ neg_ℤ a → q ≡ b → r ≡ neg_ℤ w → k ≡ a +ℤ w → p +ℤ (q +ℤ r) ≡ b +ℤ neg_ℤ k

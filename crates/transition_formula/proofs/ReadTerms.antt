@@ -8,9 +8,9 @@ use Rattle.std.proofs.Common.{length-drop}
 use Rattle.thr_base.specs.Number.{Fits}
 use Rattle.lin_rows.proofs.Lists.{AllByRecursion-append, AllByRecursion-at}
 use Rattle.transition_formula.specs.AtomText.{joint, factor, term_text, terms_text}
-use Rattle.transition_formula.specs.AtomReading.{IsWord, HasTerms}
+use Rattle.transition_formula.specs.inside.AtomReading.{IsWord, HasTerms}
 use Rattle.transition_formula.proofs.AtomTexts.{terms_text-drop}
-use Rattle.transition_formula.proofs.Numbers.{AllByRecursion-drop}
+use Rattle.lin_rows.proofs.Lists.{AllByRecursion-drop}
 use Rattle.transition_formula.proofs.Terms.{term_text-some, term_text-none}
 
 -- an integer is 0 or not

@@ -6,7 +6,7 @@ use Rattle.std.proofs.Math.Seq.{take-append_seam, drop-append_seam}
 use Rattle.thr_base.specs.Number.{Fits, number_text}
 use Rattle.lin_rows.proofs.Lists.{AllByRecursion-append}
 use Rattle.transition_formula.specs.AtomText.{factor, joint, term_text}
-use Rattle.transition_formula.specs.AtomReading.{IsPlain, IsWord, HasNoMinus, is_negative}
+use Rattle.transition_formula.specs.inside.AtomReading.{IsPlain, IsWord, HasNoMinus, is_negative}
 use Rattle.transition_formula.proofs.Words.{number_text-plain, no_blanks, factor-one, factor-more}
 
 pub size-some : (k : ℤ) → k ≢ pos 0 → unsigned_abs k ≢ 0

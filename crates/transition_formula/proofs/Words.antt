@@ -9,7 +9,7 @@ use Rattle.thr_base.specs.Number.{Fits, number_text}
 use Rattle.thr_base.proofs.Numbers.{IsTextOf-number_text}
 use Rattle.lin_rows.proofs.Lists.{AllByRecursion-weaken}
 use Rattle.transition_formula.specs.AtomText.{factor}
-use Rattle.transition_formula.specs.AtomReading.{IsPlain, IsWord}
+use Rattle.transition_formula.specs.inside.AtomReading.{IsPlain, IsWord}
 
 position_from-step : (mark i b : ℕ) (xs : List ℕ) → b ≢ mark → position_from (λ c. c == mark) i (b ∷ xs) ≡ position_from (λ c. c == mark) (i + 1) xs
 position_from-step mark i b xs other = elim (eqb_tells b mark) [ inl p ↦ absurd (other p.1) | inr p ↦ rw p.0 refl ]
@@ -28,16 +28,17 @@ position_from-unmarked mark i (b ∷ front) none = position_from-step mark i b f
 pub position-unmarked : (mark : ℕ) (front : List ℕ) → AllByRecursion (λ b. b ≢ mark) front → position (λ b. b == mark) front ≡ None
 position-unmarked mark front none = position_from-zero (λ b. b == mark) front ∙ position_from-unmarked mark 0 front none
 
--- digits are plain
+-- what holds of digits holds of each byte of digits
+pub each-from_digits : (P : ℕ → Type 0) → ((b : ℕ) → IsAsciiDigit b → P b) → (xs : List ℕ) → ((k : ℕ) → k < length xs → IsAsciiDigit (get_or xs k 0)) → AllByRecursion P xs
+each-from_digits P gives [] digits = tt
+each-from_digits P gives (x ∷ xs) digits = (gives x (digits 0 (omega arith)), each-from_digits P gives xs (λ k h. digits (suc k) (omega arith)))
 
-plain-from_digits : (xs : List ℕ) → ((k : ℕ) → k < length xs → IsAsciiDigit (get_or xs k 0)) → AllByRecursion IsPlain xs
-plain-from_digits [] digits = tt
-plain-from_digits (x ∷ xs) digits =
-    let first : IsAsciiDigit x = digits 0 (omega arith) in
-    (record { no_blank = λ e. omega (arith, first); no_star = λ e. omega (arith, first); no_minus = λ e. omega (arith, first) }, plain-from_digits xs (λ k h. digits (suc k) (omega arith)))
+-- digits are plain
+digit-plain : (b : ℕ) → IsAsciiDigit b → IsPlain b
+digit-plain b digit = record { no_blank = λ e. omega (arith, digit); no_star = λ e. omega (arith, digit); no_minus = λ e. omega (arith, digit) }
 
 pub number_text-plain : (n : ℕ) → Fits (pos n) → AllByRecursion IsPlain (number_text (pos n))
-number_text-plain n fits = plain-from_digits (number_text (pos n)) (IsTextOf-number_text (pos n) fits).digits
+number_text-plain n fits = each-from_digits IsPlain digit-plain (number_text (pos n)) (IsTextOf-number_text (pos n) fits).digits
 
 number_text-some : (n : ℕ) → Fits (pos n) → 0 < length (number_text (pos n))
 number_text-some n fits = (IsTextOf-number_text (pos n) fits).some

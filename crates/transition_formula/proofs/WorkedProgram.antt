@@ -5,15 +5,16 @@ use Rattle.std.specs.Str.{bytes_eq}
 use Rattle.std.proofs.lemmas.Slice.Eq.{bytes_eq-Decides}
 use Rattle.std.proofs.lemmas.Map.Made.{AllPairs-from_IsDistinct}
 use Rattle.thr_base.specs.Number.{Fits}
+use Rattle.transition_formula.specs.ColumnText.{variable, local, counter}
 use Rattle.transition_formula.specs.Program.{Column, Thread, IsThreadOf, IsCounter, IsThread, IsEdge, IsProgram}
-use Rattle.transition_formula.specs.Worked.{first_counter_column, second_counter_column, first_edge, second_edge, worked_thread, worked_program}
-use Rattle.transition_formula.proofs.OwnTexts.{first-own, second-own}
+use Rattle.transition_formula.specs.inside.Worked.{first_counter_column, second_counter_column, first_edge, second_edge, worked_thread, worked_program}
+use Rattle.transition_formula.proofs.OwnTexts.{first-own, second-own, first-counter, second-counter}
 
 first_counts : (column : Column) → Some first_counter_column ≡ Some column → IsCounter 1 column
-first_counts column at = let same : first_counter_column ≡ column = cc in subst (λ found. IsCounter 1 found) same (record { owned = refl; starts = refl })
+first_counts column at = let same : first_counter_column ≡ column = cc in subst (λ found. IsCounter 1 found) same (record { owned = refl; named = first-counter; starts = refl })
 
 second_counts : (column : Column) → Some second_counter_column ≡ Some column → IsCounter 2 column
-second_counts column at = let same : second_counter_column ≡ column = cc in subst (λ found. IsCounter 2 found) same (record { owned = refl; starts = refl })
+second_counts column at = let same : second_counter_column ≡ column = cc in subst (λ found. IsCounter 2 found) same (record { owned = refl; named = second-counter; starts = refl })
 
 small : (n : ℕ) → n < 10 → Fits (pos n)
 small n h = omega arith
@@ -105,19 +106,17 @@ worked-is = record {
   few_columns = omega arith;
   few_threads = omega arith;
   has_counters = omega arith;
-  texts_are = (
-    record { is_text = record { some = omega arith; bytes = refl; no_number = refl }; tells_owner = refl },
+  columns_are = (
+    record { text_is = variable (120 ∷ []) refl; start_fits = small 0 (omega arith) },
     (
-      record { is_text = record { some = omega arith; bytes = refl; no_number = refl }; tells_owner = first-own (108 ∷ []) (omega arith) },
+      record { text_is = first-own 2 (108 ∷ []) (omega arith) (local (108 ∷ []) refl); start_fits = tt },
       (
-        record { is_text = record { some = omega arith; bytes = refl; no_number = refl }; tells_owner = first-own (36 ∷ 112 ∷ 99 ∷ []) (omega arith) },
-        (record { is_text = record { some = omega arith; bytes = refl; no_number = refl }; tells_owner = second-own (36 ∷ 112 ∷ 99 ∷ []) (omega arith) }, tt),
+        record { text_is = first-own 2 (36 ∷ 112 ∷ 99 ∷ []) (omega arith) counter; start_fits = small 1 (omega arith) },
+        (record { text_is = second-own 2 (36 ∷ 112 ∷ 99 ∷ []) (omega arith) counter; start_fits = small 1 (omega arith) }, tt),
       ),
     ),
   );
   texts_differ = AllPairs-from_IsDistinct bytes_eq-Decides _ texts-differ;
-  starts_fit = (small 0 (omega arith), (tt, (small 1 (omega arith), (small 1 (omega arith), tt))));
-  owners_exist = (tt, ((omega arith, omega arith), ((omega arith, omega arith), ((omega arith, omega arith), tt))));
   others_start = ((λ e. refl, λ e. refl), ((λ e. cc, λ e. cc), tt));
   threads_are = threads-are;
 }

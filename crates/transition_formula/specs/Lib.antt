@@ -1,8 +1,13 @@
+pub mod ColumnText
 pub mod Program
 pub mod Step
+pub mod Run
 pub mod Rows
+pub mod Forms
 pub mod AtomText
-pub mod AtomReading
 pub mod Stored
+pub mod StoredStep
+pub mod StoredRun
 pub mod Laws
-pub mod Worked
+pub mod FormLaws
+pub mod inside

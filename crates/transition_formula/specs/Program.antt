@@ -1,11 +1,12 @@
 -- Programs: the columns of a state, and each thread as a graph of locations and edges. Threads and edges are numbered from 1,
 -- columns and locations from 0, where location 0 is the failing one.
-use Rattle.std.specs.Prelude.{Bool, true, false, ◌==◌, ◌||◌, codes, slice_index, ◌++◌, ◌≡◌, ◌≢◌, ◌↔◌, ◌+◌, ◌-◌, ◌^◌, ◌<◌, ◌≤◌, ℕ, zero, suc, ℤ, pos, List, length, map, take, nat_eq, Option, Some, None, IsSome, IsNone, slice_get, AllPairs}
-use Rattle.std.specs.List.{AllByRecursion, IsDistinct, list_all, list_any}
-use Rattle.std.specs.Char.{is_ascii_alphanumeric, is_ascii_digit}
-use Rattle.thr_base.specs.Number.{Fits, number_text}
+use Rattle.std.specs.Prelude.{◌≡◌, ◌≢◌, ◌↔◌, ◌+◌, ◌-◌, ◌<◌, ◌≤◌, ℕ, zero, suc, ℤ, pos, List, length, map, take, nat_eq, Option, Some, None, IsSome, IsNone, slice_get, AllPairs}
+use Rattle.std.specs.List.{AllByRecursion, IsDistinct}
+use Rattle.thr_base.specs.Limits.{most_threads, most_locations, most_edges, most_inputs, most_tests}
+use Rattle.thr_base.specs.Number.{Fits}
 use Rattle.lin_rows.specs.Row.{Row}
 use Rattle.lin_rows.specs.System.{IsRowOver}
+use Rattle.transition_formula.specs.ColumnText.{IsTextOf, counter_text}
 
 -- coefficients . z + constant
 pub record Form : Type 0 where
@@ -58,40 +59,15 @@ pub record IsEdgeOf (program : Program) (i e : ℕ) (thread : Thread) (edge : Ed
 abbrev pub first_counter : Program → ℕ
 first_counter program = length program.columns - length program.threads
 
--- a letter, a digit, or one of _ . $ #
-abbrev pub is_text_byte : ℕ → Bool
-is_text_byte b = is_ascii_alphanumeric b || list_any (λ c. b == c) (codes "_.$#")
-
--- The text of a column: at least one such byte, and no digit in front.
-pub record IsColumnText (text : List ℕ) : Type 0 where
-  pub some : 0 < length text
-  pub bytes : list_all is_text_byte text ≡ true
-  pub no_number : is_ascii_digit (slice_index text 0) ≡ false
-
--- a letter, a digit, or _
-abbrev pub is_name_byte : ℕ → Bool
-is_name_byte b = is_ascii_alphanumeric b || list_any (λ c. b == c) (codes "_")
-
--- A shared column has a C name, so there is no `.` in it. A thread's own begins with `t`, the thread's number and `.`, and something
--- stands behind.
-abbrev pub TellsOwner : Option ℕ → List ℕ → Type 0
-TellsOwner None text = list_all is_name_byte text ≡ true
-TellsOwner (Some i) text = (name : List ℕ) × (0 < length name) × (text ≡ codes "t" ++ (number_text (pos i) ++ (codes "." ++ name)))
-
--- The text of a column with this owner.
-pub record IsTextOf (owner : Option ℕ) (text : List ℕ) : Type 0 where
-  pub is_text : IsColumnText text
-  pub tells_owner : TellsOwner owner text
-
 -- A value that a column has initially fits.
 abbrev pub StartFits : Option ℤ → Type 0
 StartFits None = Unit {0}
 StartFits (Some v) = Fits v
 
--- An owner is one of so many threads.
-abbrev pub IsOwner : ℕ → Option ℕ → Type 0
-IsOwner threads None = Unit {0}
-IsOwner threads (Some i) = (0 < i) × (i ≤ threads)
+-- What is asked of a column of a program of so many threads.
+pub record IsColumn (threads : ℕ) (column : Column) : Type 0 where
+  pub text_is : IsTextOf threads column.owner column.text
+  pub start_fits : StartFits column.start
 
 -- A column that is no counter has a value initially exactly where it is shared.
 abbrev pub StartsWhereShared : Column → Type 0
@@ -108,16 +84,17 @@ pub record IsEdge (program : Program) (thread : Thread) (edge : Edge) : Type 0 w
   pub leaves_no_failure : 0 < edge.from
   pub from_location : edge.from < thread.locations
   pub to_location : edge.to < thread.locations
-  pub few_inputs : edge.inputs ≤ 2 ^ 20
-  pub few_tests : length edge.tests ≤ 2 ^ 20
+  pub few_inputs : edge.inputs ≤ most_inputs
+  pub few_tests : length edge.tests ≤ most_tests
   pub tests_over : AllByRecursion (IsRowOver (length program.columns + edge.inputs)) edge.tests
   pub forms_over : AllByRecursion (λ set. IsFormOver (length program.columns + edge.inputs) set.1) edge.sets
   pub sets_no_counter : AllByRecursion (λ set. set.0 < first_counter program) edge.sets
   pub sets_none_twice : IsDistinct nat_eq (map (λ set. set.0) edge.sets)
 
--- The column of a counter is its thread's, and starts at location 1.
+-- The column of a counter is its thread's, has its text, and starts at location 1.
 pub record IsCounter (i : ℕ) (column : Column) : Type 0 where
   pub owned : column.owner ≡ Some i
+  pub named : column.text ≡ counter_text i
   pub starts : column.start ≡ Some (pos 1)
 
 -- What is asked of thread i of a program. Its counter is the i-th of the last columns.
@@ -125,18 +102,20 @@ pub record IsThread (program : Program) (i : ℕ) (thread : Thread) : Type 0 whe
   pub in_order : suc thread.counter ≡ first_counter program + i
   pub counts : (column : Column) → slice_get program.columns thread.counter ≡ Some column → IsCounter i column
   pub has_start : 2 ≤ thread.locations
-  pub few_locations : thread.locations ≤ 256
-  pub few_edges : length thread.edges ≤ 2 ^ 16
+  pub few_locations : thread.locations ≤ most_locations
+  pub few_edges : length thread.edges ≤ most_edges
   pub edges_are : AllByRecursion (IsEdge program thread) thread.edges
+
+-- how many columns a program has at most
+abbrev pub most_program_columns : ℕ
+most_program_columns = 4096
 
 -- What is asked of a program.
 pub record IsProgram (program : Program) : Type 0 where
-  pub few_columns : length program.columns ≤ 2 ^ 12
-  pub few_threads : length program.threads ≤ 8
+  pub few_columns : length program.columns ≤ most_program_columns
+  pub few_threads : length program.threads ≤ most_threads
   pub has_counters : length program.threads ≤ length program.columns
-  pub texts_are : AllByRecursion (λ column. IsTextOf column.owner column.text) program.columns
+  pub columns_are : AllByRecursion (IsColumn (length program.threads)) program.columns
   pub texts_differ : AllPairs (λ a b. a ≢ b) (map (λ column. column.text) program.columns)
-  pub starts_fit : AllByRecursion (λ column. StartFits column.start) program.columns
-  pub owners_exist : AllByRecursion (λ column. IsOwner (length program.threads) column.owner) program.columns
   pub others_start : AllByRecursion StartsWhereShared (take (first_counter program) program.columns)
   pub threads_are : (i : ℕ) (thread : Thread) → IsThreadOf program i thread → IsThread program i thread

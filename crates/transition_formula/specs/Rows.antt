@@ -104,7 +104,3 @@ seen_system program thread edge =
 -- What rows are what all threads see of edge e of thread i.
 abbrev pub AreSeenRows : Program → ℕ → ℕ → System → Type 0
 AreSeenRows program i e rows = (thread : Thread) (edge : Edge) → IsEdgeOf program i e thread edge → rows ≡ seen_system program thread edge
-
--- the system with more rows, at its end
-abbrev pub with_rows : System → List Row → System
-with_rows system rows = record system { rows = system.rows ++ rows }

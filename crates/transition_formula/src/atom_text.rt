@@ -1,4 +1,4 @@
-ghost use Rattle.std.specs.Prelude.{◌≡◌, ◌==◌, ◌&&◌, ◌<◌, ◌≤◌, ◌+◌, ◌++◌, ℕ, List, pos, unsigned_abs, true, Some, length, slice_get, OnOk};
+ghost use Rattle.std.specs.Prelude.{◌≡◌, ◌==◌, ◌&&◌, ◌<◌, ◌≤◌, ◌+◌, ◌++◌, ℕ, List, pos, unsigned_abs, true, Some, length, slice_get, OnOk, OnErr};
 ghost use Rattle.std.specs.List.{AllByRecursion};
 ghost use Rattle.thr_base.specs.Number.{Fits};
 ghost use Rattle.transition_formula.specs.Program.{IsProgram};
@@ -100,7 +100,22 @@ fn push_terms(out: &mut Vec<u8>, program: &Program, coefficients: &[i128]) -> Re
     Ok(())
 }
 
-/// Appends the text of an atom, over the columns or, with `env`, over those before and after a step.
+/// Appends the text of an atom; where memory is wanting, a part of it.
+pub(crate) fn push_parts(
+    out: &mut Vec<u8>,
+    program: &Program,
+    atom: &Atom,
+) -> Result<(), AllocError>
+    requires { length atom.now.coefficients ≤ length program.now.columns + length program.now.columns }
+    ensures { OnOk result (out.new.items ≡ out.old.items ++ atom_text program.now.columns atom.now) }
+{
+    push_terms(out, program, atom.coefficients())?;
+    out.extend_from_slice(b" <= ")?;
+    push_number(out, atom.bound())
+}
+
+/// Appends the text of an atom, over the columns or, with `env`, over those before and after a step. It is made apart, so that
+/// nothing of it stands there where memory is wanting.
 pub fn push_atom(
     out: &mut Vec<u8>,
     program: &Program,
@@ -108,9 +123,10 @@ pub fn push_atom(
     env: bool,
 ) -> Result<(), AllocError>
     requires { length atom.now.coefficients ≡ atom_width program.now.columns env }
-    ensures { OnOk result (out.new.items ≡ out.old.items ++ atom_text program.now.columns atom.now) }
+    ensures ok { OnOk result (out.new.items ≡ out.old.items ++ atom_text program.now.columns atom.now) }
+    ensures err { OnErr result (out.new.items ≡ out.old.items) }
 {
-    push_terms(out, program, atom.coefficients())?;
-    out.extend_from_slice(b" <= ")?;
-    push_number(out, atom.bound())
+    let mut text = Vec::new(*out.allocator());
+    push_parts(&mut text, program, atom)?;
+    out.extend_from_slice(text.as_slice())
 }

@@ -1,5 +1,4 @@
-ghost use Rattle.std.specs.Prelude.{◌≡◌, ◌<◌, ◌++◌, map, neg_ℤ, OnOk};
-ghost use Rattle.std.specs.List.{AllByRecursion};
+ghost use Rattle.std.specs.Prelude.{◌≡◌, ◌<◌, ◌++◌, OnOk};
 ghost use Rattle.thr_base.specs.Number.{Fits};
 ghost use Rattle.transition_formula.specs.Rows.{zeros, unit};
 
@@ -29,23 +28,5 @@ pub(crate) fn push_unit(
     let start = row.len();
     push_zeros(row, count)?;
     row[start + place as usize] = number;
-    Ok(())
-}
-
-fn opposite(number: i128) -> i128
-    requires { Fits number }
-    ensures { result ≡ neg_ℤ number }
-{
-    -number
-}
-
-/// Appends the numbers with the other signs.
-pub(crate) fn push_opposites(row: &mut Vec<i128>, numbers: &[i128]) -> Result<(), AllocError>
-    requires { AllByRecursion Fits numbers.now }
-    ensures { OnOk result (row.new.items ≡ row.old.items ++ map neg_ℤ numbers.now) }
-{
-    'numbers: for number in numbers {
-        row.push(opposite(*number))?;
-    }
     Ok(())
 }

@@ -1,16 +1,16 @@
-ghost use Rattle.std.specs.Prelude.{◌≡◌, ◌==◌, ◌+◌, ◌-◌, ◌^◌, ◌<◌, ◌≤◌, ◌∷◌, [], ◌++◌, length, map, filter, Some, IfOk, OnOk, IsSome};
+ghost use Rattle.std.specs.Prelude.{◌≡◌, ◌==◌, ◌+◌, ◌-◌, ◌^◌, ◌<◌, ◌≤◌, ◌∷◌, [], ◌++◌, length, map, filter, Some, IfOk, OnOk, OnErr, IsSome};
 ghost use Rattle.std.specs.List.{AllByRecursion, list_any};
 ghost use Rattle.thr_base.specs.Number.{Fits};
-ghost use Rattle.lin_rows.specs.System.{IsRowOver, with_row};
-ghost use Rattle.lin_rows.specs.View.{row_of};
+ghost use Rattle.lin_rows.specs.System.{IsRowOver, with_row, with_rows};
+ghost use Rattle.lin_rows.specs.View.{row_of, system_of};
 ghost use Rattle.transition_formula.specs.Program.{IsProgram, Thread, IsEdge, IsThreadOf, IsFormOver, numbered};
-ghost use Rattle.transition_formula.specs.Rows.{column_is, edge_width, is_kept, kept_row, kept_columns, test_row, set_row, edge_system, AreEdgeRows, seen_system, AreSeenRows, with_rows};
+ghost use Rattle.transition_formula.specs.Rows.{column_is, edge_width, is_kept, kept_row, kept_columns, test_row, set_row, edge_system, AreEdgeRows, seen_system, AreSeenRows};
 ghost use Rattle.transition_formula.specs.Stored.{edge_of, form_of, set_of, thread_of};
 
-use crate::blocks::{push_opposites, push_unit, push_zeros};
+use crate::blocks::{push_unit, push_zeros};
 use crate::graph::{Edge, Line, ThreadGraph};
 use crate::program::Program;
-use lin_rows::{RowView, Rows, RowsView};
+use lin_rows::{RowView, Rows, RowsView, push_opposites};
 use std::alloc::{AllocError, Global};
 use thr_base::{EdgeNo, ThreadNo};
 
@@ -22,7 +22,7 @@ struct Shape {
 }
 
 /// Appends the row that gives a column its value. Here and below, `row` is room for the coefficients.
-pub(crate) fn push_column_is(
+pub fn push_column_is(
     rows: &mut Rows,
     row: &mut Vec<i128>,
     column: u32,
@@ -31,7 +31,8 @@ pub(crate) fn push_column_is(
     requires within { column < rows.old.columns }
     requires fits { Fits value }
     requires room { length rows.old.rows < 2 ^ 32 - 2 }
-    ensures { OnOk result (rows.new ≡ with_row rows.old (column_is rows.old.columns column value)) }
+    ensures ok { OnOk result (rows.new ≡ with_row rows.old (column_is rows.old.columns column value)) }
+    ensures err { OnErr result (rows.new ≡ rows.old) }
 {
     let width = rows.view().columns();
     row.clear();
@@ -136,9 +137,9 @@ fn push_tests(
     tests: &RowsView<'_>,
 ) -> Result<(), AllocError>
     requires width { rows.old.columns ≡ edge_width shape.columns shape.inputs }
-    requires over { AllByRecursion (IsRowOver (shape.columns + shape.inputs)) tests.now.rows }
-    requires room { length rows.old.rows + length tests.now.rows < 2 ^ 32 - 1 }
-    ensures { OnOk result (rows.new ≡ with_rows rows.old (map (test_row shape.columns) tests.now.rows)) }
+    requires over { AllByRecursion (IsRowOver (shape.columns + shape.inputs)) (system_of tests.now).rows }
+    requires room { length rows.old.rows + length (system_of tests.now).rows < 2 ^ 32 - 1 }
+    ensures { OnOk result (rows.new ≡ with_rows rows.old (map (test_row shape.columns) (system_of tests.now).rows)) }
 {
     'tests: for place in 0..tests.count() {
         push_test(rows, row, shape, &tests.row(place))?;

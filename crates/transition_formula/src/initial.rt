@@ -1,6 +1,7 @@
 ghost use Rattle.std.specs.Prelude.{◌≡◌, ◌-◌, ◌^◌, ◌<◌, [], length, IfOk, OnOk};
 ghost use Rattle.transition_formula.specs.Program.{StartFits};
-ghost use Rattle.transition_formula.specs.Rows.{start_row, init_system, with_rows};
+ghost use Rattle.lin_rows.specs.System.{with_rows};
+ghost use Rattle.transition_formula.specs.Rows.{start_row, init_system};
 
 use crate::edges::push_column_is;
 use crate::program::Program;

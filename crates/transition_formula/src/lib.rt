@@ -8,17 +8,27 @@ mod edges;
 mod graph;
 mod initial;
 mod laws;
+mod lines;
 mod program;
 mod read_term;
 mod reading;
+mod schedule;
+mod schedule_step;
 
 pub use atom_text::push_atom;
-pub use edges::{edge_rows, seen_rows};
+pub use edges::{edge_rows, push_column_is, seen_rows};
 pub use graph::{Column, Edge, Line, ThreadGraph};
 pub use initial::init_rows;
-pub use laws::{edge_rows_are_exact, init_rows_are_exact};
+pub use laws::{
+    edge_rows_are_exact, forms_are_exact, init_rows_are_exact, runs_end_in_reached_states,
+};
+pub use lines::sum_at;
 pub use program::Program;
 pub use reading::read_atom;
+pub use schedule::{Schedule, ScheduleSteps};
+pub use schedule_step::{ScheduleStep, Values};
 
+#[cfg(test)]
+mod form_tests;
 #[cfg(test)]
 mod tests;

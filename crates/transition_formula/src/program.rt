@@ -72,6 +72,15 @@ impl Program {
         &self.threads[i.0 as usize - 1]
     }
 
+    /// The column of a thread's counter.
+    pub fn counter(&self, i: ThreadNo) -> u32
+        requires { IsSome (numbered self.now.threads i.0) }
+        ensures counter { option_map (λ thread. thread.counter) (numbered self.now.threads i.0) ≡ Some result }
+        ensures within { result < length self.now.columns }
+    {
+        self.thread(i).counter
+    }
+
     /// How many locations a thread has, the failing one and the exit among them.
     pub fn locations(&self, i: ThreadNo) -> u32
         requires { IsSome (numbered self.now.threads i.0) }

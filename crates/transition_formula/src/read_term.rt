@@ -2,7 +2,7 @@ ghost use Rattle.std.specs.Prelude.{◌≡◌, ◌≢◌, ◌<◌, ◌≤◌, �
 ghost use Rattle.std.specs.List.{AllByRecursion};
 ghost use Rattle.thr_base.specs.Number.{Fits, number_text};
 ghost use Rattle.transition_formula.specs.AtomText.{factor, joint, term_text};
-ghost use Rattle.transition_formula.specs.AtomReading.{HasNoMinus, IsWord, is_negative};
+ghost use Rattle.transition_formula.specs.inside.AtomReading.{HasNoMinus, IsWord, is_negative};
 
 use thr_base::parse_number;
 

@@ -5,9 +5,9 @@ ghost use Rattle.lin_rows.specs.Row.{Row};
 ghost use Rattle.lin_rows.specs.Atom.{IsAtom, inequality};
 ghost use Rattle.transition_formula.specs.Program.{IsProgram};
 ghost use Rattle.transition_formula.specs.AtomText.{atom_text, atom_width, column_texts, IsAtomText};
-ghost use Rattle.transition_formula.specs.AtomReading.{HasTerms, IsWord};
+ghost use Rattle.transition_formula.specs.inside.AtomReading.{HasTerms, IsWord};
 
-use crate::atom_text::{push_atom, push_column, stays_first};
+use crate::atom_text::{push_column, push_parts, stays_first};
 use crate::program::Program;
 use crate::read_term::{behind, is_same, read_term};
 use lin_rows::{Atom, NormalForm, NormalStop, RowView, normal};
@@ -112,18 +112,12 @@ fn read_candidate(
 }
 
 /// Whether the text is the atom's.
-fn has_text(
-    alloc: Global,
-    program: &Program,
-    atom: &Atom,
-    text: &[u8],
-    env: bool,
-) -> Result<bool, AllocError>
-    requires { length atom.now.coefficients ≡ atom_width program.now.columns env }
+fn has_text(alloc: Global, program: &Program, atom: &Atom, text: &[u8]) -> Result<bool, AllocError>
+    requires { length atom.now.coefficients ≤ length program.now.columns + length program.now.columns }
     ensures { IfOk result (λ same. IsTrue same ↔ (text.now ≡ atom_text program.now.columns atom.now)) }
 {
     let mut written = Vec::new(alloc);
-    push_atom(&mut written, program, atom, env)?;
+    push_parts(&mut written, program, atom)?;
     Ok(is_same(text, written.as_slice()))
 }
 
@@ -152,7 +146,7 @@ pub fn read_atom(
     let Some(atom) = candidate else {
         return Ok(None);
     };
-    if has_text(alloc, program, &atom, text, env)? {
+    if has_text(alloc, program, &atom, text)? {
         Ok(Some(atom))
     } else {
         Ok(None)

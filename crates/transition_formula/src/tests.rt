@@ -3,7 +3,7 @@ ghost use Rattle.std.specs.List.{AllByRecursion};
 ghost use Rattle.thr_base.specs.Number.{Fits};
 ghost use Rattle.lin_rows.specs.Row.{Row};
 ghost use Rattle.transition_formula.specs.Stored.{column_of, edge_of, form_of, thread_of};
-ghost use Rattle.transition_formula.specs.Worked.{worked_columns, worked_test, own_form, shared_form, first_edge, second_edge, worked_thread, worked_threads, worked_program};
+ghost use Rattle.transition_formula.specs.inside.Worked.{worked_columns, worked_test, own_form, shared_form, first_edge, second_edge, worked_thread, worked_threads, worked_program};
 
 use super::*;
 use lin_rows::{Rows, RowsView};
@@ -194,6 +194,7 @@ fn parts_of_a_program(rt: HostRuntime) -> Result<(), Fail> {
     assert!(rt; program.column(1).start == None && program.column(0).start == Some(0));
     assert!(rt; program.owner(0) == None && program.owner(3) == Some(ThreadNo(2)));
     assert_eq!(rt; program.locations(ThreadNo(1)), 3);
+    assert_eq!(rt; program.counter(ThreadNo(2)), 3);
     assert_eq!(rt; program.edges(ThreadNo(2)).len(), 1);
     Ok(())
 }

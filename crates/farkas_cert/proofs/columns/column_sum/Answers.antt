@@ -3,7 +3,7 @@ use Rattle.std.specs.Int.{w128}
 use Rattle.thr_base.specs.Number.{Fits}
 use Rattle.lin_rows.proofs.Numbers.{read_back}
 use Rattle.farkas_cert.specs.Cert.{row_numbered}
-use Rattle.farkas_cert.specs.Columns.{number_at}
+use Rattle.farkas_cert.specs.inside.Columns.{number_at}
 use Rattle.farkas_cert.proofs.ColumnSums.{IsSome-InOrder, column_from-at, Fits-added}
 use Rattle.farkas_cert.proofs.columns.column_sum.Goals as goal
 

@@ -1,6 +1,6 @@
 use Rattle.std.proofs.Common.{◌≡◌, pos, drop}
 use Rattle.farkas_cert.specs.Proof.{products}
-use Rattle.farkas_cert.specs.Columns.{column_from}
+use Rattle.farkas_cert.specs.inside.Columns.{column_from}
 use Rattle.farkas_cert.proofs.columns.column_sum.Given as goal
 
 abbrev pub invariant-pairs : goal.invariant-pairs

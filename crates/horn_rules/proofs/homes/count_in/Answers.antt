@@ -1,5 +1,5 @@
 use Rattle.std.proofs.Common.{◌≡◌, length, sym, subst}
-use Rattle.horn_rules.specs.Stored.{homes_in}
+use Rattle.horn_rules.specs.inside.Kinds.{homes_in}
 use Rattle.horn_rules.proofs.Numbers.{count-locations, few-locations, edges-counted}
 use Rattle.horn_rules.proofs.homes.count_in.Goals as goal
 

@@ -1,7 +1,7 @@
 use Rattle.std.proofs.Common.{◌≡◌, ◌+◌, ◌-◌, suc, Some, length, sym, ap, subst, ◌∙◌, arith}
 use Rattle.std.proofs.lemmas.Option.{slice_get_within}
 use Rattle.std.proofs.lemmas.List.{take_all}
-use Rattle.horn_rules.specs.Home.{Env, IsHomeOf, by_thread, state_homes}
+use Rattle.horn_rules.specs.Home.{Env, IsHomeOf, by_number, state_homes}
 use Rattle.horn_rules.specs.Stored.{home_of}
 use Rattle.horn_rules.proofs.Numbers.{state_home-place, env_home-place, numbered-homes_left, numbered-homes_right}
 use Rattle.horn_rules.proofs.homes.number.Goals as goal
@@ -31,7 +31,7 @@ returns-in-Env c =
     let there = env_home-place c.args.program.now c.in-Env.thread.0 c.in-Env.edge.0 (subst (λ home. IsHomeOf c.args.program.now (home_of home)) c.in-Env.is c.requires) in
     let r = c.place_of-in-Env.result in
     let edge : suc (c.in-Env.edge.0 - 1) ≡ c.in-Env.edge.0 = omega (arith, there.0) in
-    let all = ap (λ threads. length (by_thread state_homes 1 threads)) (take_all c.threads-threads.result c.args.program.now.threads (omega (arith, c.threads-threads.ensures.threads))) in
+    let all = ap (λ threads. length (by_number state_homes 1 threads)) (take_all c.threads-threads.result c.args.program.now.threads (omega (arith, c.threads-threads.ensures.threads))) in
     numbered-homes_right c.args.program.now (c.count_before-states.result + r + 1) r (omega (arith, c.count_before-states.ensures.count, all))
     ∙ c.place_of-in-Env.ensures.place
     ∙ ap (λ e. Some (Env c.in-Env.thread.0 e)) edge

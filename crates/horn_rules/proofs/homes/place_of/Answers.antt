@@ -1,8 +1,8 @@
 use Rattle.std.proofs.Common.{◌≡◌, ◌+◌, ◌-◌, Some, sym, ◌∙◌, arith}
 use Rattle.std.specs.List.{slice_get}
 use Rattle.transition_formula.proofs.Lookups.{numbered-within}
-use Rattle.horn_rules.specs.Stored.{homes_in}
-use Rattle.horn_rules.proofs.Places.{numbered-next, by_thread-at}
+use Rattle.horn_rules.specs.inside.Kinds.{homes_in}
+use Rattle.horn_rules.proofs.Places.{numbered-next, by_number-at}
 use Rattle.horn_rules.proofs.Numbers.{few-homes_in, home-at}
 use Rattle.horn_rules.proofs.homes.place_of.Goals as goal
 
@@ -19,7 +19,7 @@ returns-clause-place c =
     let i = c.args.thread.0 in
     let number = numbered-within threads i there.thread there.thread_is in
     let at : slice_get threads (i - 1) ≡ Some there.thread = sym (numbered-next threads (i - 1) i (omega (arith, number.0))) ∙ there.thread_is in
-    by_thread-at (homes_in c.args.kind) 1 (i - 1) threads there.thread i (c.count_before.result + c.args.place) c.args.place at (omega (arith, number.0)) there.within (omega arith)
+    by_number-at (homes_in c.args.kind) 1 (i - 1) threads there.thread i (c.count_before.result + c.args.place) c.args.place at (omega (arith, number.0)) there.within (omega arith)
     ∙ home-at c.args.kind i there.thread c.args.place there.within
 
 pub returns-clause-few : goal.returns-clause-few

@@ -1,28 +1,14 @@
-use Rattle.std.proofs.Common.{rules, IfOk}
-use Rattle.horn_rules.specs.Job.{AreRowsOfKind}
-use Rattle.horn_rules.proofs.Jobs.{if-instance-rows}
+use Rattle.std.proofs.Common.{Ok, Err, Result, IfOk}
+use Rattle.lin_rows.specs.System.{System}
+use Rattle.horn_rules.proofs.Jobs.{its-premises, rows-of-job}
 use Rattle.horn_rules.proofs.job.instance_rows.Goals as goal
 
-pub returns-in-Own-Some-default : goal.returns-in-Own-Some-default
-returns-in-Own-Some-default c =
-    let job = c.args.job.now in
-    let by_kind : IfOk c.step_rows.result (AreRowsOfKind c.args.program.now job.instance job.first job.second) = search rules in
-    if-instance-rows _ _ _ _ _ by_kind
+pub rows_of_kind-requires : goal.rows_of_kind-requires
+rows_of_kind-requires c = its-premises c.args.program.now c.args.job.now c.requires
 
-pub returns-in-Guar-Some-default : goal.returns-in-Guar-Some-default
-returns-in-Guar-Some-default c =
-    let job = c.args.job.now in
-    let by_kind : IfOk c.step_rows-in-Guar-Some-default.result (AreRowsOfKind c.args.program.now job.instance job.first job.second) = search rules in
-    if-instance-rows _ _ _ _ _ by_kind
+if-made : {E : Type 0} (P Q : System → Type 0) (made : Result System E) → ((rows : System) → P rows → Q rows) → IfOk made P → IfOk made Q
+if-made P Q (Ok rows) each is = each rows is
+if-made P Q (Err e) each is = tt
 
-pub returns-in-Env-Some-Some : goal.returns-in-Env-Some-Some
-returns-in-Env-Some-Some c =
-    let job = c.args.job.now in
-    let by_kind : IfOk c.env_rows.result (AreRowsOfKind c.args.program.now job.instance job.first job.second) = search rules in
-    if-instance-rows _ _ _ _ _ by_kind
-
-pub returns-in-Inter-Some-Some : goal.returns-in-Inter-Some-Some
-returns-in-Inter-Some-Some c =
-    let job = c.args.job.now in
-    let by_kind : IfOk c.inter_rows.result (AreRowsOfKind c.args.program.now job.instance job.first job.second) = search rules in
-    if-instance-rows _ _ _ _ _ by_kind
+pub returns : goal.returns
+returns c = if-made _ _ c.rows_of_kind.result (λ rows are given comes. rows-of-job c.args.program.now c.args.job.now rows given are comes) c.rows_of_kind.ensures

@@ -1,5 +1,6 @@
 use Rattle.std.proofs.Common.{sym, ◌∙◌, ap, Some, [], arith}
-use Rattle.transition_formula.specs.Rows.{with_rows}
+use Rattle.lin_rows.specs.System.{with_rows}
+use Rattle.horn_rules.specs.Job.{premise_says}
 use Rattle.horn_rules.proofs.Premises.{same_edge, wide, room, inter_is}
 use Rattle.horn_rules.proofs.job.inter_rows.Goals as goal
 
@@ -23,12 +24,11 @@ push_rows-requires-clause-room c =
     (omega (arith, c.in_ok-push_state.ensures.few, c.in_ok-push_state-2.ensures.few)) (omega arith)
 
 pub returns : goal.returns
-returns c sets f g k l i other thread edge says_f says_g other_is at home_f home_g =
+returns c k l i other thread edge other_is at home_f home_g =
     let program = c.args.program.now in
-    let is_home = says_g.home_is ∙ ap (λ h. Some h) home_g in
-    let here = same_edge program _ _ _ _ c.args.e.0 thread edge (sym c.location_of.ensures ∙ is_home) at in
-    inter_is program sets c.args.first.now c.args.second.now f g l other thread edge _ _ _ _ _ says_f says_g (c.in_ok-edge.ensures thread edge here)
+    let here = same_edge program _ _ _ _ c.args.e.0 thread edge (sym c.location_of.ensures ∙ home_g) at in
+    inter_is program (premise_says program c.args.first.now) (premise_says program c.args.second.now) l other thread edge _ _ _ _ _ (c.in_ok-edge.ensures thread edge here)
     (c.new-rows.ensures ∙ ap (λ w. record { columns = w; rows = [] }) (c.columns.ensures.columns ∙ ap (λ system. system.columns) c.view.ensures))
-    (c.in_ok-push_state.ensures.rows k l other (says_f.home_is ∙ ap (λ h. Some h) home_f) other_is)
-    (c.in_ok-push_state-2.ensures.rows i edge.from thread is_home at.thread_is)
-    (c.in_ok-push_rows.ensures ∙ ap (λ system. with_rows c.push_state-2.new.rows system.rows) c.view-2.ensures)
+    (c.in_ok-push_state.ensures.rows k l other home_f other_is)
+    (c.in_ok-push_state-2.ensures.rows i edge.from thread home_g at.thread_is)
+    (c.in_ok-push_rows.ensures.ok ∙ ap (λ system. with_rows c.push_state-2.new.rows system.rows) c.view-2.ensures)

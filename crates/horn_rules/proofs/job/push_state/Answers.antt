@@ -9,5 +9,5 @@ push_held-requires-clause-one_each c =
 pub returns-clause-rows : goal.returns-clause-rows
 returns-clause-rows c i l thread home at =
     let same = sym c.location_of.ensures ∙ home in
-    said-next _ _ _ _ _ thread _ _ i l c.args.premise.now _ same (c.in_ok-push_location.ensures.row thread (same_thread c.args.program.now _ _ i l thread same at)) c.in_ok-push_held.ensures.rows
+    said-next c.args.program.now _ _ _ _ _ thread _ _ i l c.args.premise.now _ same (c.in_ok-push_location.ensures.row thread (same_thread c.args.program.now _ _ i l thread same at)) c.in_ok-push_held.ensures.rows
     c.columns.ensures.columns (c.atoms.ensures.atoms ∙ c.deref.ensures)

@@ -1,5 +1,6 @@
 use Rattle.std.proofs.Common.{sym, ◌∙◌, ap, Some, [], arith}
-use Rattle.transition_formula.specs.Rows.{with_rows}
+use Rattle.lin_rows.specs.System.{with_rows}
+use Rattle.horn_rules.specs.Job.{premise_says}
 use Rattle.horn_rules.proofs.Premises.{same_edge, wide, room, step_is}
 use Rattle.horn_rules.proofs.job.step_rows.Goals as goal
 
@@ -16,13 +17,10 @@ push_rows-requires-clause-room c =
     room c.args.program.now _ _ 129 r.thread r.edge _ _ c.new-rows.result c.push_state.new.rows _ c.in_ok-push_state.ensures.program at (c.in_ok-edge.ensures r.thread r.edge at) c.view-2.ensures c.new-rows.ensures c.in_ok-push_state.ensures.few (omega arith)
 
 pub returns : goal.returns
-returns c sets f i thread edge says at home =
+returns c i thread edge at home =
     let program = c.args.program.now in
-    let is_home = says.home_is ∙ ap (λ h. Some h) home in
-    let here = same_edge program _ _ _ _ c.args.e.0 thread edge (sym c.location_of.ensures ∙ is_home) at in
-    let rows_is = c.in_ok-edge.ensures thread edge here in
-    let whole = step_is program sets c.args.premise.now f thread edge _ _ _ _ says rows_is
+    let here = same_edge program _ _ _ _ c.args.e.0 thread edge (sym c.location_of.ensures ∙ home) at in
+    step_is program (premise_says program c.args.premise.now) thread edge _ _ _ _ (c.in_ok-edge.ensures thread edge here)
     (c.new-rows.ensures ∙ ap (λ w. record { columns = w; rows = [] }) (c.columns.ensures.columns ∙ ap (λ system. system.columns) c.view.ensures))
-    (c.in_ok-push_state.ensures.rows i edge.from thread is_home at.thread_is)
-    (c.in_ok-push_rows.ensures ∙ ap (λ system. with_rows c.push_state.new.rows system.rows) c.view-2.ensures) in
-    (whole, whole)
+    (c.in_ok-push_state.ensures.rows i edge.from thread home at.thread_is)
+    (c.in_ok-push_rows.ensures.ok ∙ ap (λ system. with_rows c.push_state.new.rows system.rows) c.view-2.ensures)

@@ -1,9 +1,17 @@
-use Rattle.std.proofs.Common.{◌-◌, length, ap, sym, ◌∙◌, arith}
+use Rattle.std.proofs.Common.{◌-◌, length, refl, ap, sym, ◌∙◌, arith}
 use Rattle.transition_formula.specs.Program.{numbered}
-use Rattle.horn_rules.specs.Instance.{widened}
-use Rattle.horn_rules.specs.Job.{holds}
-use Rattle.horn_rules.proofs.Premises.{held-next, held-room}
+use Rattle.horn_rules.specs.Case.{widened}
+use Rattle.thr_base.specs.Held.{holds}
+use Rattle.horn_rules.proofs.Premises.{held-start, held-next, held-room}
 use Rattle.horn_rules.proofs.premise.push_held.Goals as goal
+
+pub positions-init : goal.positions-init
+positions-init c = record {
+  made = held-start (widened (c.args.rows.now.columns - c.args.columns)) c.args.atoms.now c.args.rows.now.rows c.args.held;
+  width = refl;
+  room = omega arith;
+  from_1 = omega arith;
+}
 
 pub positions-preserved : goal.positions-preserved
 positions-preserved c =

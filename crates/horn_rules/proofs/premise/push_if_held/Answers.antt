@@ -1,7 +1,7 @@
 use Rattle.std.proofs.Common.{◌-◌, ◌∙◌, sym}
 use Rattle.std.proofs.lemmas.Bool.{ltb-false}
-use Rattle.horn_rules.specs.Instance.{widened}
-use Rattle.horn_rules.specs.Job.{holds}
+use Rattle.horn_rules.specs.Case.{widened}
+use Rattle.thr_base.specs.Held.{holds}
 use Rattle.horn_rules.proofs.Premises.{none_there}
 use Rattle.horn_rules.proofs.premise.push_if_held.Goals as goal
 

@@ -1,5 +1,14 @@
-use Rattle.horn_rules.proofs.Premises.{length-with_row}
+use Rattle.std.proofs.Common.{pos, ap, ◌∙◌}
+use Rattle.lin_rows.specs.System.{with_row}
+use Rattle.transition_formula.specs.Rows.{column_is}
+use Rattle.horn_rules.proofs.Premises.{counter-is, length-with_row}
 use Rattle.horn_rules.proofs.premise.push_location.Goals as goal
 
 pub returns-clause-count : goal.returns-clause-count
-returns-clause-count c = length-with_row _ _ _ c.in_ok-push_column_is.ensures
+returns-clause-count c = length-with_row _ _ _ c.in_ok-push_column_is.ensures.ok
+
+pub returns-clause-row : goal.returns-clause-row
+returns-clause-row c thread at =
+    let old = c.args.rows.now in
+    c.in_ok-push_column_is.ensures.ok
+    ∙ ap (λ column. with_row old (column_is old.columns column (pos c.args.l.0))) (counter-is c.args.program.now c.args.i.0 thread c.counter-column.result c.counter-column.ensures.counter at)

@@ -1,7 +1,7 @@
 use Rattle.std.proofs.Common.{arith}
 use Rattle.horn_rules.specs.Home.{homes}
 use Rattle.horn_rules.specs.Stored.{home_of}
-use Rattle.horn_rules.proofs.WorkedProgram.{numbered-there, home-numbered}
+use Rattle.horn_rules.proofs.Numbers.{numbered-there, home-numbered}
 use Rattle.horn_rules.proofs.tests.there_and_back.Goals as goal
 
 pub named-home-requires : goal.named-home-requires

@@ -1,7 +1,7 @@
 use Rattle.std.proofs.Common.{◌≡◌, ◌<◌, ◌∙◌, sym, Some, None, length, get_or, pos, add-one, to_z, rules, arith}
 use Rattle.std.specs.Int.{w128}
 use Rattle.lin_rows.proofs.Numbers.{read_back}
-use Rattle.plain_elim.specs.PointParts.{minus_product}
+use Rattle.plain_elim.specs.inside.PointParts.{minus_product}
 use Rattle.plain_elim.proofs.PointBounds.{others, length-others, minus_products-stops, minus_products-goes}
 use Rattle.plain_elim.proofs.bounds.minus_products.Goals as goal
 

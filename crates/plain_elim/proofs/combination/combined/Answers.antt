@@ -1,7 +1,7 @@
 use Rattle.std.proofs.Common.{◌≡◌, List, Some, get_or, ap, ap₂, ◌∙◌, arith, to_z, of_z, to_z-of_z}
 use Rattle.std.specs.Prelude.{ℤ, pos}
 use Rattle.std.specs.Int.{w128}
-use Rattle.plain_elim.specs.Combined.{combined}
+use Rattle.plain_elim.specs.inside.Combined.{combined}
 use Rattle.plain_elim.proofs.Combinations.{combined-more, combined-stops, combined-ends, number_fits}
 use Rattle.lin_rows.proofs.Numbers.{read_back}
 use Rattle.plain_elim.proofs.combination.combined.Goals as goal

@@ -1,6 +1,6 @@
 use Rattle.std.proofs.Common.{◌≡◌, ◌++◌, drop}
 use Rattle.std.specs.Option.{option_map}
-use Rattle.plain_elim.specs.Combined.{combined}
+use Rattle.plain_elim.specs.inside.Combined.{combined}
 use Rattle.plain_elim.proofs.combination.combined.Given as goal
 
 abbrev pub invariant-places : goal.invariant-places

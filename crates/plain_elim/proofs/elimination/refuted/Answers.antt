@@ -17,4 +17,4 @@ no_proof answer (inr is) e = subst IsProof (sym e ∙ is.2) tt
 pub returns-in-Fails : goal.returns-in-Fails
 returns-in-Fails c =
     unproved-leaves c.args.rows.now c.args.cert c.args.number c.requires.widths c.requires.leads
-    (λ proves. no_proof c.check_cert.result c.in-Fails.is (c.check_cert.ensures.proves.1 (subst (Proves c.args.rows.now) (sym c.pairs.ensures) proves)))
+    (λ proves. no_proof c.check_named.result c.in-Fails.is (c.check_named.ensures.proves.1 (subst (Proves c.args.rows.now) (sym c.pairs.ensures) proves)))

@@ -2,8 +2,8 @@ use Rattle.std.proofs.Common.{◌≡◌, ◌-◌, ◌+◌, ◌<◌, length, map,
 use Rattle.std.proofs.lemmas.Bool.Decides.{nat_tests}
 use Rattle.std.proofs.lemmas.List.{length-reverse, length-map}
 use Rattle.farkas_cert.specs.Elimination as specs
-use Rattle.plain_elim.specs.Decision.{outcome_in}
-use Rattle.plain_elim.specs.Held.{kept_of, work_of, next_of, IsReadyNext}
+use Rattle.farkas_cert.specs.Decision.{outcome_in}
+use Rattle.plain_elim.specs.inside.Held.{kept_of, work_of, next_of, IsReadyNext}
 use Rattle.plain_elim.proofs.Stages.{all-unreversed, stages-closed, stages-end, leads-on, stage-keeps}
 use Rattle.plain_elim.proofs.elimination.stages.Goals as goal
 

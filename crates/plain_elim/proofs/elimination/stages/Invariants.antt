@@ -1,6 +1,6 @@
 use Rattle.std.proofs.Common.{◌≡◌, ◌-◌, length}
 use Rattle.farkas_cert.specs.Elimination.{outcome_of, stages}
-use Rattle.plain_elim.specs.Held.{work_of, IsReady}
+use Rattle.plain_elim.specs.inside.Held.{work_of, IsReady}
 use Rattle.plain_elim.proofs.elimination.stages.Given as goal
 
 abbrev pub invariant-stages : goal.invariant-stages

@@ -3,8 +3,8 @@ use Rattle.farkas_cert.specs.Line.{lowest_of}
 use Rattle.farkas_cert.specs.Elimination.{Ends, Leaves, pair_stage, positives, negatives}
 use Rattle.farkas_cert.specs.declared.answers.LeaveKind.TheVariants.{Rows}
 use Rattle.plain_elim.specs.declared.work.Next.{Next as HeldNext}
-use Rattle.plain_elim.specs.Held.{work_of, next_of}
-use Rattle.plain_elim.specs.Stages.{after_stages}
+use Rattle.plain_elim.specs.inside.Held.{work_of, next_of}
+use Rattle.plain_elim.specs.inside.Stages.{after_stages}
 use Rattle.plain_elim.proofs.StageLemmas.{if_ok, kept_count, pairs_followed, pair_stage_goes, pair_stage_leaves, positives_with_column, negatives_with_column}
 use Rattle.plain_elim.proofs.pair_stage.pair_stage.Goals as goal
 

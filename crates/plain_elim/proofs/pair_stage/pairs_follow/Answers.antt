@@ -4,8 +4,8 @@ use Rattle.lin_rows.specs.System.{System}
 use Rattle.farkas_cert.specs.BackSubstitution.{Bounded}
 use Rattle.farkas_cert.specs.Elimination.{follows, pairs_at}
 use Rattle.plain_elim.specs.declared.work.Next.{Next}
-use Rattle.plain_elim.specs.Held.{next_of}
-use Rattle.plain_elim.specs.Stages.{after_stages}
+use Rattle.plain_elim.specs.inside.Held.{next_of}
+use Rattle.plain_elim.specs.inside.Stages.{after_stages}
 use Rattle.plain_elim.proofs.StageLemmas.{if_ok}
 use Rattle.plain_elim.proofs.pair_stage.pairs_follow.Goals as goal
 

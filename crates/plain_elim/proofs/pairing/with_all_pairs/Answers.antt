@@ -3,7 +3,7 @@ use Rattle.std.specs.Prelude.{pos, int_lt}
 use Rattle.std.specs.Option.{option_map}
 use Rattle.farkas_cert.specs.Line.{Line, coefficient_at}
 use Rattle.farkas_cert.specs.Elimination.{paired, negatives}
-use Rattle.plain_elim.specs.Stages.{lines_in}
+use Rattle.plain_elim.specs.inside.Stages.{lines_in}
 use Rattle.plain_elim.proofs.Everyone.{flat-more, flat-skips, flat-stops, flat-ends}
 use Rattle.plain_elim.proofs.StageLemmas.{pairs_at-is}
 use Rattle.plain_elim.proofs.pairing.with_all_pairs.Goals as goal

@@ -1,7 +1,7 @@
 use Rattle.std.proofs.Common.{◌≡◌, ◌++◌, drop}
 use Rattle.std.specs.Option.{option_map}
 use Rattle.farkas_cert.specs.Elimination.{positives}
-use Rattle.plain_elim.specs.Stages.{pairs_of}
+use Rattle.plain_elim.specs.inside.Stages.{pairs_of}
 use Rattle.plain_elim.proofs.pairing.with_all_pairs.Given as goal
 
 abbrev pub invariant-loop-positive : goal.invariant-loop-positive

@@ -1,6 +1,6 @@
 use Rattle.std.proofs.Common.{◌≡◌, ◌∙◌, Some, None, length, add-one, rules}
 use Rattle.farkas_cert.specs.BackSubstitution.{set_column}
-use Rattle.plain_elim.specs.Held.{kept_of}
+use Rattle.plain_elim.specs.inside.Held.{kept_of}
 use Rattle.plain_elim.proofs.PointStages.{point_from-stops, point_from-goes, point_from-end, bounds_of_rest, bounds_of_latest}
 use Rattle.plain_elim.proofs.point.point_from.Goals as goal
 

@@ -1,7 +1,7 @@
 use Rattle.std.proofs.Common.{◌≡◌, ◌<◌, ◌^◌, length, map, vec_len}
 use Rattle.std.specs.List.{AllByRecursion}
 use Rattle.farkas_cert.specs.Elimination.{point_from}
-use Rattle.plain_elim.specs.Held.{kept_of, BoundsItsColumn}
+use Rattle.plain_elim.specs.inside.Held.{kept_of, BoundsItsColumn}
 use Rattle.plain_elim.proofs.PointStages.{latest_first}
 use Rattle.plain_elim.proofs.point.point_from.Given as goal
 

@@ -5,7 +5,7 @@ use Rattle.farkas_cert.specs.Elimination as specs
 use Rattle.plain_elim.specs.declared.work.Next.{Next as HeldNext}
 use Rattle.plain_elim.specs.declared.kept.Kept.{Kept as HeldKept}
 use Rattle.std.specs.List.{AllByRecursion}
-use Rattle.plain_elim.specs.Held.{next_of, kept_of, BoundsItsColumn, IsReadyNext}
+use Rattle.plain_elim.specs.inside.Held.{next_of, kept_of, BoundsItsColumn, IsReadyNext}
 use Rattle.plain_elim.proofs.Ready.{tested_ready}
 use Rattle.plain_elim.proofs.StageLemmas.{if_ok, begun_is}
 use Rattle.plain_elim.proofs.stage.begun.Goals as goal

@@ -4,8 +4,8 @@ use Rattle.farkas_cert.specs.Elimination as specs
 use Rattle.plain_elim.specs.declared.work.Work.{Work as HeldWork}
 use Rattle.plain_elim.specs.declared.work.Next.{Next as HeldNext}
 use Rattle.plain_elim.specs.declared.work.Next.TheVariants as next
-use Rattle.plain_elim.specs.Held.{work_of, next_of, IsReady, IsReadyNext}
-use Rattle.plain_elim.specs.Stages.{IsWideWork, IsWideNext, KeepsOneMore}
+use Rattle.plain_elim.specs.inside.Held.{work_of, next_of, IsReady, IsReadyNext}
+use Rattle.plain_elim.specs.inside.Stages.{IsWideWork, IsWideNext, KeepsOneMore}
 use Rattle.plain_elim.proofs.Ready.{taken_out_wide, taken_out_keeps, tested_ready}
 use Rattle.plain_elim.proofs.StageLemmas.{if_ok, kept_count, stage_goes, stage_ends}
 use Rattle.plain_elim.proofs.stage.stage.Goals as goal

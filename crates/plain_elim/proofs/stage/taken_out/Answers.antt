@@ -3,7 +3,7 @@ use Rattle.std.specs.List.{position}
 use Rattle.farkas_cert.specs.Line.{Line}
 use Rattle.farkas_cert.specs.Elimination.{taken_out}
 use Rattle.plain_elim.specs.declared.work.Next.{Next as HeldNext}
-use Rattle.plain_elim.specs.Held.{work_of, next_of}
+use Rattle.plain_elim.specs.inside.Held.{work_of, next_of}
 use Rattle.plain_elim.proofs.StageLemmas.{if_ok, pairs_taken}
 use Rattle.plain_elim.proofs.stage.taken_out.Goals as goal
 

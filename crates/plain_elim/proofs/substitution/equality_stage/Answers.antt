@@ -2,8 +2,8 @@ use Rattle.std.proofs.Common.{◌≡◌, ◌∙◌, ap, refl, map}
 use Rattle.farkas_cert.specs.Line.{lowest_column}
 use Rattle.farkas_cert.specs.Elimination.{taken_out, every, substituted}
 use Rattle.plain_elim.specs.declared.work.Next.{Next}
-use Rattle.plain_elim.specs.Held.{work_of, next_of}
-use Rattle.plain_elim.specs.Stages.{after_stages}
+use Rattle.plain_elim.specs.inside.Held.{work_of, next_of}
+use Rattle.plain_elim.specs.inside.Stages.{after_stages}
 use Rattle.plain_elim.proofs.StageLemmas.{if_ok, equality_taken}
 use Rattle.plain_elim.proofs.substitution.equality_stage.Goals as goal
 

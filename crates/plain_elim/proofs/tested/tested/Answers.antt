@@ -2,8 +2,8 @@ use Rattle.std.proofs.Common.{◌≡◌, ◌∙◌, ap, sym, length, arith}
 use Rattle.std.specs.Prelude.{filter}
 use Rattle.farkas_cert.specs.Line.{has_variable}
 use Rattle.farkas_cert.specs.Elimination.{Ends}
-use Rattle.plain_elim.specs.Held.{work_of, refuted_by}
-use Rattle.plain_elim.specs.Stages.{refutation_of}
+use Rattle.plain_elim.specs.inside.Held.{work_of, refuted_by}
+use Rattle.plain_elim.specs.inside.Stages.{refutation_of}
 use Rattle.plain_elim.proofs.ConstantTests.{tested-refutes, tested-goes}
 use Rattle.plain_elim.proofs.tested.tested.Goals as goal
 

@@ -1,11 +1,11 @@
-use Rattle.std.proofs.Common.{sym, ◌∙◌, subst}
-use Rattle.plain_elim.specs.Decision.{IsEvidence}
+use Rattle.std.proofs.Common.{sym, subst}
+use Rattle.lin_rows.specs.View.{system_of}
+use Rattle.farkas_cert.specs.Decision.{IsEvidence}
 use Rattle.rational_entail.specs.Entailment.{decided_in}
 use Rattle.rational_entail.proofs.Denials.{evidence-says}
 use Rattle.rational_entail.proofs.denial.entails.Goals as goal
 
 pub returns-clause-says : goal.returns-clause-says
 returns-clause-says c =
-    let of_decided = subst (IsEvidence c.view.result) (sym c.entailed_by.ensures) c.in_ok-decided.ensures.evidence in
-    evidence-says c.args.rows.now c.args.atom.now c.entailed_by.result
-    (subst (λ system. IsEvidence system (decided_in c.entailed_by.result)) (c.view.ensures ∙ c.in_ok-denied.ensures) of_decided)
+    let of_decided = subst (IsEvidence c.denying.result) (sym c.entailed_by.ensures) c.in_ok-decided.ensures.evidence in
+    evidence-says (system_of c.args.rows.now) c.args.atom.now c.entailed_by.result (subst (λ of. IsEvidence of (decided_in c.entailed_by.result)) c.denying.ensures of_decided)

@@ -10,7 +10,7 @@ push-requires-clause-coefficients c =
     let n = c.args.shape.columns in
     let front = c.split_at.ensures.front ∙ ap (λ (l : List ℤ). take n l) c.as_slice.ensures.value in
     let back = c.split_at.ensures.back ∙ ap (λ (l : List ℤ). drop n l) c.as_slice.ensures.value in
-    let before = c.in_ok-push_opposites.ensures ∙ ap (λ (l : List ℤ). c.clear.new.self.items ++ map neg_ℤ l) front in
-    let inputs = c.in_ok-push_opposites-2.ensures ∙ ap (λ (l : List ℤ). c.push_unit.new.row.items ++ map neg_ℤ l) back in
+    let before = c.in_ok-push_opposites.ensures.ok ∙ ap (λ (l : List ℤ). c.clear.new.self.items ++ map neg_ℤ l) front in
+    let inputs = c.in_ok-push_opposites-2.ensures.ok ∙ ap (λ (l : List ℤ). c.push_unit.new.row.items ++ map neg_ℤ l) back in
     subst (λ (l : List ℤ). AllByRecursion Fits l) (sym c.as_slice-2.ensures.value)
     (set_row_fits _ _ _ _ xs n c.args.column c.requires.over.coefficients_fit c.clear.ensures.items before c.in_ok-push_unit.ensures inputs)

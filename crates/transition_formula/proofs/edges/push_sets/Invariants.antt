@@ -1,5 +1,6 @@
 use Rattle.std.proofs.Common.{◌≡◌, map, take}
-use Rattle.transition_formula.specs.Rows.{set_row, with_rows}
+use Rattle.lin_rows.specs.System.{with_rows}
+use Rattle.transition_formula.specs.Rows.{set_row}
 use Rattle.transition_formula.specs.Stored.{set_of}
 use Rattle.transition_formula.proofs.edges.push_sets.Given as goal
 

@@ -1,10 +1,10 @@
 use Rattle.std.proofs.Common.{◌≡◌, ◌<◌, [], ℕ, List, Some, length, slice_get, Result, Ok, Err, OnOk, sym, subst, arith}
 use Rattle.std.proofs.lemmas.Option.{slice_get-get_or}
 use Rattle.transition_formula.specs.AtomText.{column_texts}
-use Rattle.transition_formula.specs.AtomReading.{IsWord}
+use Rattle.transition_formula.specs.inside.AtomReading.{IsWord}
 use Rattle.transition_formula.proofs.AtomTexts.{length-column_texts}
 use Rattle.transition_formula.proofs.ColumnTexts.{column_texts-words}
-use Rattle.transition_formula.proofs.Lookups.{AllByRecursion-slice_get}
+use Rattle.lin_rows.proofs.Lists.{AllByRecursion-slice_get}
 use Rattle.transition_formula.proofs.reading.put_name.Goals as goal
 
 -- what follows where a call succeeds

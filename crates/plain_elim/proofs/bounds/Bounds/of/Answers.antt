@@ -1,5 +1,5 @@
 use Rattle.std.proofs.Common.{◌≡◌, ◌≤◌, ◌∙◌, sym, Some, None, length, add-one, rules, arith}
-use Rattle.plain_elim.specs.PointParts.{narrowed_by}
+use Rattle.plain_elim.specs.inside.PointParts.{narrowed_by}
 use Rattle.plain_elim.proofs.PointBounds.{bounds_from-stops, bounds_from-goes, bounds_from-end}
 use Rattle.plain_elim.proofs.bounds.Bounds.of.Goals as goal
 

@@ -1,0 +1,4 @@
+-- What no public clause cites.
+pub mod Columns
+pub mod RowAnswer
+pub mod Weighing

@@ -1,0 +1,4 @@
+pub mod Kinds
+pub mod JobRows
+pub mod Lines
+pub mod Worked

@@ -1,0 +1,3 @@
+pub mod AtomReading
+pub mod FormParts
+pub mod Worked
