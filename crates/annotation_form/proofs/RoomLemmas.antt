@@ -2,7 +2,7 @@
 use Rattle.std.proofs.Common.{◌≡◌, ◌≢◌, ℕ, zero, suc, ◌<◌, ◌≤◌, List, [], ◌∷◌, ◌++◌, length, Some, refl, sym, ap, subst, ◌∙◌, arith}
 use Rattle.lin_rows.specs.Row.{Row}
 use Rattle.transition_formula.specs.Program.{Program, numbered}
-use Rattle.transition_formula.proofs.Lookups.{AllByRecursion-slice_get}
+use Rattle.lin_rows.proofs.Lists.{AllByRecursion-slice_get}
 use Rattle.horn_rules.specs.Home.{Home, homes}
 use Rattle.predicate_sets.specs.HomeSet.{Lacks, StandsAt}
 use Rattle.predicate_sets.specs.Sets.{set_at, with_set}

@@ -1,7 +1,7 @@
 ghost use Rattle.std.specs.Prelude.{◌≡◌, ◌≤◌, ◌<◌, ◌∷◌, [], map, length, IfOk};
 ghost use Rattle.predicate_sets.specs.Sets.{HasHome};
 ghost use Rattle.transition_formula.specs.Stored.{column_of, edge_of, thread_of};
-ghost use Rattle.horn_rules.specs.Worked.{bare_edge, counter_column, first_thread, second_thread, worked_columns, worked_program};
+ghost use Rattle.horn_rules.specs.inside.Worked.{bare_edge, counter_column, first_thread, second_thread, worked_columns, worked_program};
 
 use super::*;
 use lin_rows::Rows;

@@ -5,12 +5,11 @@ use Rattle.std.proofs.lemmas.List.{length-map, length-append, map-append}
 use Rattle.std.proofs.lemmas.Slice.Eq.{bytes_eq-Decides}
 use Rattle.lin_rows.proofs.Lists.{AllByRecursion-append, AllByRecursion-weaken}
 use Rattle.thr_base.specs.Number.{Fits}
-use Rattle.transition_formula.specs.ColumnText.{local, counter}
+use Rattle.transition_formula.specs.ColumnText.{own_text, local, counter}
 use Rattle.transition_formula.specs.Program.{Column, IsColumn, StartsWhereShared, IsCounter}
 use Rattle.threader_cli.proofs.NumberLemmas.{Fits-value_of}
 use Rattle.threader_cli.proofs.ReadingSteps.{left_true, right_true}
 use Rattle.threader_cli.proofs.TextLemmas.{Apart, Apart-append, variable_text, own_is_text, own_same, name_not_own, counter_no_name, name_word}
-use Rattle.transition_formula.specs.ColumnText.{own_text}
 use Rattle.threader_cli.specs.Data.{start_of, variable_column, local_column, counter_column, local_columns, counter_columns, count_locals}
 use Rattle.threader_cli.specs.Form.{is_called}
 use Rattle.threader_cli.specs.Proper.{is_proper_variable, is_proper_start}
