@@ -14,7 +14,7 @@ use Rattle.horn_rules.specs.Home.{Home, State, Env, by_number, state_homes, env_
 use Rattle.horn_rules.proofs.Places.{range-at}
 use Rattle.horn_rules.proofs.ByNumber.{by_number-there}
 use Rattle.horn_rules.proofs.Numbers.{state_home-place, env_home-place}
-use Rattle.annotation_form.specs.Reading.{IsSmall}
+use Rattle.annotation_form.specs.inside.Reading.{IsSmall}
 
 contains : {A : Type 0} (xs : List A) (p : ℕ) (x : A) → slice_get xs p ≡ Some x → Contains xs x
 contains xs p x e = (p, slice_get_within xs p x e, get_or_from_slice_get xs p x x e)

@@ -15,7 +15,7 @@ use Rattle.horn_rules.specs.Home.{Home, State, Env, home_width}
 use Rattle.horn_rules.specs.HomeText.{home_text}
 use Rattle.annotation_form.specs.Lines.{IsLine}
 use Rattle.annotation_form.specs.Predicates.{Predicate, IsPredicateOf, predicate_text, predicate_texts}
-use Rattle.annotation_form.specs.Reading.{IsSmall, IsHead, IsLineOf, is_env}
+use Rattle.annotation_form.specs.inside.Reading.{IsSmall, IsHead, IsLineOf, is_env}
 use Rattle.annotation_form.proofs.HomeTexts.{head-same, small-fits}
 use Rattle.annotation_form.proofs.Homes.{home-small}
 

@@ -14,7 +14,7 @@ use Rattle.horn_rules.proofs.StoredSets.{one-number}
 use Rattle.predicate_sets.specs.HomeSet.{AreDistinct, Lacks}
 use Rattle.predicate_sets.specs.Sets.{set_at, with_set}
 use Rattle.annotation_form.specs.Predicates.{Predicate, IsPredicateOf, AreAllowed, atoms_at, most_atoms_read, lists_of}
-use Rattle.annotation_form.specs.Reading.{HasRoom}
+use Rattle.annotation_form.specs.inside.Reading.{HasRoom}
 use Rattle.annotation_form.proofs.Cuts.{AllByRecursion-right}
 
 -- ---- the atoms at a home

@@ -2,7 +2,7 @@ ghost use Rattle.std.specs.Prelude.{◌≡◌, ◌≤◌, List, length, IfOk};
 ghost use Rattle.thr_base.specs.Limits.{text_limit};
 ghost use Rattle.annotation_form.specs.Predicates.{Predicate, IsPredicatesText, lists_of};
 ghost use Rattle.annotation_form.specs.BadLine.{IsReadAnswer};
-ghost use Rattle.annotation_form.specs.Reading.{IsLinesAnswer, IsReadOnly};
+ghost use Rattle.annotation_form.specs.inside.Reading.{IsLinesAnswer, IsReadOnly};
 
 use crate::adding::take_line;
 use crate::line::{is_same, split_at};

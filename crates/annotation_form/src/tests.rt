@@ -91,7 +91,7 @@ fn worked(alloc: Global) -> Result<Program, AllocError>
 /// What a text of the program is read as; it has 10 homes.
 fn read(alloc: Global, program: &Program, text: &[u8]) -> Result<Sets, LineStop>
     requires program { program.now ≡ worked_program }
-    requires length { length text.now ≤ 1048576 }
+    requires length { length text.now ≤ text_limit }
     ensures { IfOk result (λ sets. length sets ≡ 10) }
 {
     read_predicates(alloc, program, text)
