@@ -18,6 +18,8 @@ use Rattle.horn_rules.specs.Job.{ComesTo, IsOutcome, premise_says}
 use Rattle.horn_rules.specs.Stored.{sets_of, instance_of, AreStoredSetsOf}
 use Rattle.horn_rules.proofs.Cases.{jobs-one-case}
 use Rattle.horn_rules.proofs.StoredSets.{sets_of-numbered}
+use Rattle.farkas_cert.specs.declared.answers.LeaveKind.{LeaveKind}
+use Rattle.abstract_post.specs.Left.{IsJobLeft, IsLeft}
 use Rattle.serial_fix.specs.inside.Cases as cases
 use Rattle.serial_fix.specs.inside.Cases.{IsCase}
 use Rattle.serial_fix.specs.inside.Jobs.{Says, IsJobCase, ArePremises, init, own, guar, env}
@@ -111,3 +113,8 @@ outcome-is program lists job held are target fits fits_too (other, comes_other, 
     let same : other ≡ given = jobs-one-case program job other given comes_other mine in
     subst (λ (atoms : List Row). IsPost given atoms (option_map positions held)) (target ∙ sym (target-set program lists job.home.0 given.target are at))
     (subst (λ (c : Case). IsPost c job.target.value (option_map positions held)) same post)
+
+-- a job that is left is left at the case of its facts
+pub left-is : (program : Program) (job : Job) (given : Case) (kind : LeaveKind) → IsJobLeft program job kind → ComesTo program job given → IsLeft given job.target.value kind
+left-is program job given kind (other, comes_other, left) mine =
+    subst (λ (c : Case). IsLeft c job.target.value kind) (jobs-one-case program job other given comes_other mine) left

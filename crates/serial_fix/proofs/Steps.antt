@@ -114,7 +114,7 @@ nothing-held sets given fact is none = empty fact.held (λ k there.
 -- a word whose positions are within a list is below 2 ^ its length
 held-within : (held n : ℕ) → held < 2 ^ 128 → ((k : ℕ) → Contains (positions held) k → k ≤ n) → held < 2 ^ n
 held-within held n small each = elim (cases_lt 128 n) [
-  | inl above ↦ let most : 2 ^ 128 ≤ 2 ^ n = pow_mono (omega arith) in omega arith
+  | inl above ↦ let within : 128 ≤ n = omega arith in let most : 2 ^ 128 ≤ 2 ^ n = pow_mono {i = 128} {j = n} within in omega (arith, small, most)
   | inr within ↦ (words-below held n small (omega arith)).1 each
 ]
 

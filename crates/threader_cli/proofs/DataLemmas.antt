@@ -11,7 +11,7 @@ use Rattle.threader_cli.proofs.ColumnLemmas.{uses_fit, uses_known, known_place}
 use Rattle.threader_cli.proofs.EdgeLemmas.{thread_edges-are, thread_edges-few}
 use Rattle.threader_cli.proofs.NameLemmas.{list_any_append}
 use Rattle.threader_cli.proofs.PlaceLemmas.{length-seen}
-use Rattle.threader_cli.proofs.ProgramColumns.{AreNamed, IsColumn, length-locals, length-counters, variables-are, locals-are, counters-are, variables-start, locals-start, counter-at, texts-apart, names-apart}
+use Rattle.threader_cli.proofs.ProgramColumns.{AreNamed, length-locals, length-counters, variables-are, locals-are, counters-are, variables-start, locals-start, counter-at, texts-apart, names-apart}
 use Rattle.threader_cli.proofs.ReadingSteps.{left_true, right_true, false_of_not}
 use Rattle.threader_cli.proofs.TextLemmas.{Apart, AllPairs-Apart}
 use Rattle.threader_cli.specs.Accepted.{variable_names, function_names, find_function, are_new, locals_are_new_behind, text_declares, locals_are_new, uses_declared, has_few_accesses, numbers_fit, has_few_creations, is_small, main_declares, is_allowed}
