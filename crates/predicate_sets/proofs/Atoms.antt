@@ -1,5 +1,5 @@
 -- Atoms that are equal, and lists that have none twice.
-use Rattle.std.proofs.Common.{◌≡◌, ◌≢◌, ℕ, zero, suc, ◌<◌, List, [], ◌∷◌, ◌++◌, map, take, length, length-append, get_or, ℤ, pos, ◌-ℤ◌, neg_ℤ, false, refl, sym, ap, ap₂, ◌∙◌, arith}
+use Rattle.std.proofs.Common.{◌≡◌, ◌≢◌, ℕ, zero, suc, ◌<◌, List, [], ◌∷◌, ◌++◌, take, length, length-append, get_or, false, sym, ap, ap₂, ◌∙◌, arith}
 use Rattle.thr_base.specs.Limits.{most_predicates}
 use Rattle.lin_rows.specs.Row.{Row}
 use Rattle.lin_rows.specs.Atom.{inequality}

@@ -1,16 +1,11 @@
 -- Stores and sinks in memory, as contracts see them.
 use Rattle.std.specs.Prelude.{◌≡◌, ℕ, ◌+◌, min, List, Contains, map, Some, Vec, String, string_bytes}
 use Rattle.std.specs.declared.alloc.Global.{Global}
-use Rattle.thr_base.specs.Outside.{Files, OpenFile, StoreMeaning, SinkMeaning, count_end}
+use Rattle.thr_base.specs.Outside.{Files, StoreMeaning, SinkMeaning, count_end}
 
 -- the bytes of each name and file
 abbrev pub files_of : List (String Global × Vec ℕ Global) → Files
 files_of files = map (λ f. (string_bytes f.0, f.1.items)) files
-
--- files in memory, and what is left of the one that is open
-pub record MemFilesView : Type 0 where
-  pub told : Files
-  pub file : OpenFile
 
 -- calls that are counted, and the numbers of those that fail
 pub record FailingCallsView : Type 0 where
@@ -30,11 +25,6 @@ CountsCall old new = new ≡ record old { made = min (old.made + 1) count_end }
 pub record MemStoreView : Type 0 where
   pub store : StoreMeaning
   pub calls : FailingCallsView
-
--- what was written to a room of so many bytes
-pub record RoomView : Type 0 where
-  pub written : List ℕ
-  pub room : ℕ
 
 -- a sink of so many bytes
 pub record RoomSinkView : Type 0 where

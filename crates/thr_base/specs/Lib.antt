@@ -1,9 +1,10 @@
-pub mod Edge
+pub mod ColumnText
 pub mod Held
 pub mod InMemory
+pub mod inside
 pub mod Limits
-pub mod MemFiles
 pub mod Number
 pub mod Outside
 pub mod Reading
+pub mod RealFiles
 pub mod Refusals

@@ -1,5 +1,6 @@
 -- The limits of what is read, held and done, each once.
-use Rattle.std.specs.Prelude.{ℕ}
+use Rattle.std.specs.Prelude.{ℕ, ◌≤◌}
+use Rattle.thr_base.specs.declared.limits.Limits.{Limits}
 
 -- ---- texts, in bytes
 
@@ -77,6 +78,20 @@ most_refinements = 10000
 -- nodes of a counterexample tree, at least 1
 abbrev pub most_nodes : ℕ
 most_nodes = 1000
+
+-- workers, at least 1
+abbrev pub most_workers : ℕ
+most_workers = 65536
+
+-- What a run may use is within these.
+pub record AreAllowed (limits : Limits) : Type 0 where
+  pub some_facts : 1 ≤ limits.facts
+  pub few_facts : limits.facts ≤ most_facts
+  pub some_jobs : 1 ≤ limits.jobs
+  pub few_jobs : limits.jobs ≤ most_jobs
+  pub few_refinements : limits.refinements ≤ most_refinements
+  pub some_nodes : 1 ≤ limits.tree
+  pub few_nodes : limits.tree ≤ most_nodes
 
 -- statements of a thread of a generated program, at least 1
 abbrev pub most_generated : ℕ

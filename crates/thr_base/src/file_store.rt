@@ -1,6 +1,6 @@
 ghost use Rattle.std.specs.Prelude.{◌≡◌, None, false, IfOk, OnOk, OnErr, IsTrue};
 ghost use Rattle.thr_base.specs.Outside.{StoreMeaning, Closed, Lacks, Opens, Reads, StoreFails};
-ghost use Rattle.thr_base.specs.Edge.{untold};
+ghost use Rattle.thr_base.specs.RealFiles.{untold};
 
 use crate::outside::{Failed, Store};
 use std::fs;

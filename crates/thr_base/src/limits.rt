@@ -1,5 +1,5 @@
-ghost use Rattle.std.specs.Prelude.{◌≡◌};
-ghost use Rattle.thr_base.specs.Limits.{text_limit, annotation_limit, most_levels, most_threads, most_columns, most_locations, most_paths, most_edges, most_inputs, most_tests, most_predicates, most_tree_columns, most_tree_rows, most_elimination_rows, most_generated, most_facts, most_jobs, most_refinements, most_nodes, default_facts, default_jobs, default_refinements, default_nodes};
+ghost use Rattle.std.specs.Prelude.{◌≡◌, ◌↔◌, IsTrue};
+ghost use Rattle.thr_base.specs.Limits.{text_limit, annotation_limit, most_levels, most_threads, most_columns, most_locations, most_paths, most_edges, most_inputs, most_tests, most_predicates, most_tree_columns, most_tree_rows, most_elimination_rows, most_generated, most_facts, most_jobs, most_refinements, most_nodes, most_workers, AreAllowed, default_facts, default_jobs, default_refinements, default_nodes};
 
 /// What a run may use before it gives up. Each number is a count.
 #[derive(Clone, Copy, Debug, PartialEq, Eq)]
@@ -12,6 +12,21 @@ pub struct Limits {
     pub refinements: u32,
     /// Nodes of a counterexample tree, from 1 to 1,000.
     pub tree: u32,
+}
+
+impl Limits {
+    /// Whether each number is within its bounds.
+    pub fn are_allowed(&self) -> bool
+        ensures { IsTrue result ↔ AreAllowed self.now }
+    {
+        1 <= self.facts
+            && self.facts <= MOST_LIMITS.facts
+            && 1 <= self.jobs
+            && self.jobs <= MOST_LIMITS.jobs
+            && self.refinements <= MOST_LIMITS.refinements
+            && 1 <= self.tree
+            && self.tree <= MOST_LIMITS.tree
+    }
 }
 
 /// What a run may use where nothing else is asked.
@@ -72,7 +87,10 @@ pub const MOST_TREE_ROWS: u32 = 2_048;
 /// Rows that are given to one elimination and made by it.
 pub const MOST_ELIMINATION_ROWS: u32 = 8_192;
 
-/// Statements of a thread of a generated program.
+/// Workers of a run, at least 1.
+pub const MOST_WORKERS: u32 = 65_536;
+
+/// Statements of a thread of a generated program, at least 1.
 pub const MOST_GENERATED: u32 = 250;
 
 /// The limits of the code are those that definitions cite.
@@ -87,6 +105,7 @@ pub fn limits_are_as_defined()
     ensures predicates { MOST_PREDICATES ≡ most_predicates }
     ensures trees { (MOST_TREE_COLUMNS ≡ most_tree_columns) × (MOST_TREE_ROWS ≡ most_tree_rows) }
     ensures elimination { MOST_ELIMINATION_ROWS ≡ most_elimination_rows }
+    ensures workers { MOST_WORKERS ≡ most_workers }
     ensures generated { MOST_GENERATED ≡ most_generated }
     ensures most { MOST_LIMITS ≡ record { facts = most_facts; jobs = most_jobs; refinements = most_refinements; tree = most_nodes } }
     ensures default { DEFAULT_LIMITS ≡ record { facts = default_facts; jobs = default_jobs; refinements = default_refinements; tree = default_nodes } }

@@ -1,7 +1,7 @@
 ghost use Rattle.std.specs.Prelude.{◌≡◌, ◌+◌, ◌<◌, ◌≤◌, [], Some, None, length, drop, MatchOption, MatchBool};
 ghost use Rattle.thr_base.specs.Outside.{Closed, Left, Lacks, opened_file, file_named, FillsFront};
-ghost use Rattle.thr_base.specs.InMemory.{MemFilesView, files_of};
-ghost use Rattle.thr_base.specs.MemFiles.{file_at, left_of, IsOpenAt};
+ghost use Rattle.thr_base.specs.InMemory.{files_of};
+ghost use Rattle.thr_base.specs.inside.MemFiles.{MemFilesView, file_at, rest_of, IsOpenAt};
 
 use std::marker::Model;
 
@@ -19,7 +19,7 @@ impl Model for MemFiles {
     ghost Value = { MemFilesView };
 
     ghost view = { λ m. let told = files_of m.files.items in
-        record { told = told; file = left_of told m.current m.place } };
+        record { told = told; file = rest_of told m.current m.place } };
 
     ghost invariant = { λ m. IsOpenAt (files_of m.files.items) m.current m.place };
 }

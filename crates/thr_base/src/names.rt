@@ -38,7 +38,7 @@ pub enum RuleName {
 }
 
 /// That the predicates at some positions of a home's list hold there. Bit `k - 1` of `held` stands for
-/// position `k`, from 1.
+/// position `k`, from 1. The order is that of these numbers, and not the order in which texts list facts.
 #[derive(Clone, Copy, Debug, PartialEq, Eq, PartialOrd, Ord)]
 pub struct Fact {
     pub home: HomeNo,

@@ -1,5 +1,5 @@
 ghost use Rattle.std.specs.Prelude.{◌≡◌, ◌+◌, ◌<◌, ◌≤◌, ◌↔◌, [], ◌++◌, length, IfOk, MatchBool, vec_len, vec_capacity};
-ghost use Rattle.thr_base.specs.InMemory.{RoomView};
+ghost use Rattle.thr_base.specs.inside.MemFiles.{RoomView};
 
 use std::alloc::{AllocError, Global};
 use std::marker::Model;

@@ -1,6 +1,7 @@
 ghost use Rattle.std.specs.Prelude.{◌≡◌};
 ghost use Rattle.thr_base.specs.declared.stops.Stop.TheVariants.{Memory, Refused};
 ghost use Rattle.thr_base.specs.declared.stops.LineStop.TheVariants.{Memory as NoMemory};
+ghost use Rattle.thr_base.specs.declared.stops.ReadStop.TheVariants.{Memory as ReadNoMemory};
 
 use std::alloc::{AllocError, AllocFailed};
 use thiserror::Error;
@@ -82,4 +83,12 @@ pub enum ReadStop {
     TooLong,
     #[error("out of memory")]
     Memory,
+}
+
+impl From<AllocError> for ReadStop {
+    ghost from_gives = { λ _ stop. stop ≡ ReadNoMemory };
+
+    fn from(_error: AllocError) -> ReadStop {
+        ReadStop::Memory
+    }
 }

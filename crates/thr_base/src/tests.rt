@@ -207,6 +207,17 @@ fn positions_are_held_in_rising_order(rt: HostRuntime) -> Result<(), Fail> {
 }
 
 #[test]
+fn limits_are_within_their_bounds(rt: HostRuntime) {
+    assert!(rt; DEFAULT_LIMITS.are_allowed() && MOST_LIMITS.are_allowed());
+    let none = Limits {
+        facts: 0,
+        ..DEFAULT_LIMITS
+    };
+    assert!(rt; !none.are_allowed());
+    limits_are_as_defined();
+}
+
+#[test]
 fn the_lower_place_comes_first(rt: HostRuntime) {
     let [first, second, third] = [(7, 3), (6, 4), (8, 4)].map(|(code, place)| Refusal {
         code,
@@ -216,7 +227,6 @@ fn the_lower_place_comes_first(rt: HostRuntime) {
     assert_eq!(rt; is_earlier(second, third), true);
     assert_eq!(rt; is_earlier(third, second), false);
     assert_eq!(rt; is_earlier(first, first), false);
-    limits_are_as_defined();
     codes_are_as_defined();
 }
 

@@ -1,5 +1,5 @@
 -- The texts of columns are words that differ.
-use Rattle.std.proofs.Common.{◌≡◌, ◌≢◌, ℕ, ◌+◌, ◌-◌, ◌<◌, ◌≤◌, Bool, true, false, ◌&&◌, ◌||◌, ◌^◌, pos, codes, Option, Some, None, List, [], ◌∷◌, ◌++◌, length, get_or, map, refl, sym, ap, ◌∙◌, arith, inl, inr, ◌⊎◌, length-append}
+use Rattle.std.proofs.Common.{◌≡◌, ◌≢◌, ℕ, ◌+◌, ◌-◌, ◌<◌, ◌≤◌, Bool, true, false, ◌&&◌, ◌||◌, pos, codes, Option, Some, None, List, [], ◌∷◌, ◌++◌, length, get_or, map, refl, sym, ap, ◌∙◌, arith, inl, inr, ◌⊎◌, length-append}
 use Rattle.std.specs.List.{AllByRecursion, AllPairs, list_all}
 use Rattle.std.proofs.Math.ListN.{get_or-append}
 use Rattle.std.specs.Char.{is_ascii_digit, IsAsciiDigit}
@@ -8,7 +8,7 @@ use Rattle.std.proofs.lemmas.List.{length-map, get_or-map, get_or-append_right, 
 use Rattle.lin_rows.proofs.Lists.{AllByRecursion-append, AllByRecursion-map, AllByRecursion-at, AllByRecursion-weaken}
 use Rattle.thr_base.specs.Number.{Fits, number_text}
 use Rattle.thr_base.proofs.Numbers.{IsTextOf-number_text}
-use Rattle.transition_formula.specs.ColumnText.{is_name_start, is_c_name, IsSharedText, variable, started, done, IsOwnName, local, declared_again, temporary, counter, own_text, IsTextOf}
+use Rattle.thr_base.specs.ColumnText.{is_name_start, is_c_name, IsSharedText, variable, started, done, IsOwnName, local, declared_again, temporary, counter, own_text, IsTextOf}
 use Rattle.transition_formula.specs.Program.{Column, IsColumn, IsProgram, Program}
 use Rattle.transition_formula.specs.AtomText.{column_texts}
 use Rattle.transition_formula.specs.inside.AtomReading.{IsPlain, IsWord, is_text_byte}

@@ -1,23 +1,21 @@
 -- What forms that are made of others are worth.
-use Rattle.std.proofs.Common.{◌≡◌, ℕ, zero, suc, ◌<◌, ℤ, pos, ◌+ℤ◌, ◌*ℤ◌, Bool, true, false, ◌&&◌, cond, List, [], ◌∷◌, map, length, get_or, Option, Some, None, refl, sym, ap, ap₂, subst, ◌∙◌, arith}
+use Rattle.std.proofs.Common.{◌≡◌, ℕ, ◌<◌, ℤ, pos, ◌+ℤ◌, ◌*ℤ◌, true, List, [], ◌∷◌, map, length, get_or, Some, sym, ap, ap₂, subst, ◌∙◌, arith}
 use Rattle.std.specs.List.{AllByRecursion, list_all}
-use Rattle.std.specs.Option.{option_and_then}
 use Rattle.std.proofs.lemmas.Int.{ints}
-use Rattle.std.proofs.lemmas.List.{length-map, length-replicate, length-set}
+use Rattle.std.proofs.lemmas.List.{length-map, length-replicate}
 use Rattle.std.proofs.lemmas.Option.{option_and_then_some}
 use Rattle.thr_base.specs.Number.{Fits, fits}
 use Rattle.lin_rows.specs.Exact.{fitting}
-use Rattle.lin_rows.specs.Row.{product_of, scaled, sum_of}
+use Rattle.lin_rows.specs.Row.{product_of}
 use Rattle.lin_rows.specs.Sum.{sum_in_order}
 use Rattle.lin_rows.proofs.Booleans.{both_true, given_where_true}
 use Rattle.lin_rows.proofs.Integers.{mul-add_ℤ, zero-add_ℤ, add-zero_ℤ, add_assoc_ℤ}
-use Rattle.lin_rows.proofs.Numbers.{fits-true, true-fits, zero_fits}
+use Rattle.lin_rows.proofs.Numbers.{fits-true, zero_fits}
 use Rattle.lin_rows.proofs.Points.{product_of-scaled, product_of-sum_of}
 use Rattle.lin_rows.proofs.Sums.{sum_in_order-given}
 use Rattle.transition_formula.specs.Program.{Form, IsFormOver}
 use Rattle.transition_formula.specs.Step.{value_of}
-use Rattle.transition_formula.specs.Rows.{zeros}
-use Rattle.transition_formula.specs.Forms.{constant_form, column_form, form_fits, fitting_form, form_sum, form_multiple, added, multiplied, with_multiple, with_multiples, composed, value_if_fits}
+use Rattle.transition_formula.specs.Forms.{constant_form, column_form, form_fits, fitting_form, form_sum, form_multiple, added, multiplied, with_multiple, with_multiples, composed}
 use Rattle.transition_formula.specs.FormLaws.{FormsAreMade, SumsAreExact, MultiplesAreExact, CompositionsAreExact, ValuesAreExact}
 use Rattle.transition_formula.proofs.FittingLists.{length-sum_of}
 use Rattle.transition_formula.proofs.Numbers.{zeros_fit}

@@ -1,7 +1,7 @@
 -- The texts of the columns of the first two threads.
 use Rattle.std.proofs.Common.{◌≡◌, ℕ, ◌≤◌, List, ◌∷◌, codes, refl, arith}
 use Rattle.std.specs.Fmt.{digits}
-use Rattle.transition_formula.specs.ColumnText.{IsOwnName, IsOwnText, counter_text}
+use Rattle.thr_base.specs.ColumnText.{IsOwnName, IsOwnText, counter_text}
 
 pub first-own : (threads : ℕ) (name : List ℕ) → 1 ≤ threads → IsOwnName name → IsOwnText threads 1 (116 ∷ 49 ∷ 46 ∷ name)
 unfolding digits

@@ -1,8 +1,7 @@
 -- What runs say of the states that are reached.
-use Rattle.std.proofs.Common.{◌≡◌, ℤ, List, [], ◌∷◌, ◌++◌, refl, subst, sym, inl, inr}
+use Rattle.std.proofs.Common.{ℤ, List, [], ◌∷◌, ◌++◌, refl, subst, sym, inl, inr}
 use Rattle.transition_formula.specs.Program.{Program}
-use Rattle.transition_formula.specs.Step.{IsInitial}
-use Rattle.transition_formula.specs.Run.{RunStep, Run, Leads, LeadTo, IsRun, IsFailing, FailsFrom, Fails, Reaches, start, step}
+use Rattle.transition_formula.specs.Run.{RunStep, Run, Leads, LeadTo, IsRun, IsFailing, FailsFrom, Reaches, start, step}
 use Rattle.transition_formula.specs.Laws.{RunsEndInReachedStates, FailingStatesEndRuns, FailingRunsReach}
 
 -- steps from a reached state lead to reached states

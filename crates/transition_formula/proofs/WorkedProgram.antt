@@ -5,7 +5,7 @@ use Rattle.std.specs.Str.{bytes_eq}
 use Rattle.std.proofs.lemmas.Slice.Eq.{bytes_eq-Decides}
 use Rattle.std.proofs.lemmas.Map.Made.{AllPairs-from_IsDistinct}
 use Rattle.thr_base.specs.Number.{Fits}
-use Rattle.transition_formula.specs.ColumnText.{variable, local, counter}
+use Rattle.thr_base.specs.ColumnText.{variable, local, counter}
 use Rattle.transition_formula.specs.Program.{Column, Thread, IsThreadOf, IsCounter, IsThread, IsEdge, IsProgram}
 use Rattle.transition_formula.specs.inside.Worked.{first_counter_column, second_counter_column, first_edge, second_edge, worked_thread, worked_program}
 use Rattle.transition_formula.proofs.OwnTexts.{first-own, second-own, first-counter, second-counter}

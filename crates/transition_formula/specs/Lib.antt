@@ -1,4 +1,4 @@
-pub mod ColumnText
+pub use Rattle.thr_base.specs.ColumnText
 pub mod Program
 pub mod Step
 pub mod Run

@@ -6,7 +6,7 @@ use Rattle.thr_base.specs.Limits.{most_threads, most_locations, most_edges, most
 use Rattle.thr_base.specs.Number.{Fits}
 use Rattle.lin_rows.specs.Row.{Row}
 use Rattle.lin_rows.specs.System.{IsRowOver}
-use Rattle.transition_formula.specs.ColumnText.{IsTextOf, counter_text}
+use Rattle.thr_base.specs.ColumnText.{IsTextOf, counter_text}
 
 -- coefficients . z + constant
 pub record Form : Type 0 where

@@ -1,5 +1,5 @@
 -- What the parts of sums and multiples of forms say. No public clause cites this file.
-use Rattle.std.specs.Prelude.{ℤ, List, Option, Some, None, option_and_then, option_map, if◌then◌else◌}
+use Rattle.std.specs.Prelude.{ℤ, List, Option, Some, None, if◌then◌else◌}
 use Rattle.std.specs.List.{list_all}
 use Rattle.thr_base.specs.Number.{fits}
 use Rattle.transition_formula.specs.Program.{Form}

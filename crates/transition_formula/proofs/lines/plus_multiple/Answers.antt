@@ -1,4 +1,4 @@
-use Rattle.std.proofs.Common.{◌≡◌, ◌<◌, pos, length, map, get_or, Some, option_map, IfOk, sym, ap, ap₂, subst, ◌∙◌, rules, arith}
+use Rattle.std.proofs.Common.{◌≡◌, ◌<◌, pos, length, map, get_or, Some, option_map, IfOk, sym, ap, subst, ◌∙◌, rules, arith}
 use Rattle.std.specs.Option.{option_and_then}
 use Rattle.std.proofs.lemmas.List.{get_or-map}
 use Rattle.lin_rows.proofs.Lists.{AllByRecursion-map_at}
