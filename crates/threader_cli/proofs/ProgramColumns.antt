@@ -5,7 +5,7 @@ use Rattle.std.proofs.lemmas.List.{length-map, length-append, map-append}
 use Rattle.std.proofs.lemmas.Slice.Eq.{bytes_eq-Decides}
 use Rattle.lin_rows.proofs.Lists.{AllByRecursion-append, AllByRecursion-weaken}
 use Rattle.thr_base.specs.Number.{Fits}
-use Rattle.transition_formula.specs.ColumnText.{own_text, local, counter}
+use Rattle.thr_base.specs.ColumnText.{own_text, local, counter}
 use Rattle.transition_formula.specs.Program.{Column, IsColumn, StartsWhereShared, IsCounter}
 use Rattle.threader_cli.proofs.NumberLemmas.{Fits-value_of}
 use Rattle.threader_cli.proofs.ReadingSteps.{left_true, right_true}

@@ -8,7 +8,7 @@ use Rattle.c_lex.specs.Bytes.{is_letter, is_word_byte}
 use Rattle.lin_rows.proofs.Lists.{AllByRecursion-at, AllByRecursion-append}
 use Rattle.thr_base.specs.Number.{Fits, number_text, digits_number, AreDigitsOf}
 use Rattle.thr_base.proofs.Numbers.{IsTextOf-number_text}
-use Rattle.transition_formula.specs.ColumnText.{own_text, IsTextOf, IsOwnName, variable}
+use Rattle.thr_base.specs.ColumnText.{own_text, IsTextOf, IsOwnName, variable}
 use Rattle.threader_cli.proofs.NameLemmas.{list_all_append, all_right}
 use Rattle.threader_cli.proofs.NumberLemmas.{number_digits}
 use Rattle.threader_cli.proofs.ReadingSteps.{left_true, right_true}

@@ -1,7 +1,7 @@
 -- The program of a text, as data: its columns, and its threads with their edges.
 use Rattle.std.specs.Prelude.{ℕ, suc, ◌+◌, ℤ, pos, List, [], ◌∷◌, ◌++◌, map, length, replicate, filter_map, codes, Option, Some, None}
 use Rattle.thr_base.specs.Number.{number_text}
-use Rattle.transition_formula.specs.ColumnText.{own_text}
+use Rattle.thr_base.specs.ColumnText.{own_text}
 use Rattle.transition_formula.specs.Program.{Column, Thread, Program as Data}
 use Rattle.threader_cli.specs.Accepted.{variable_names, find_function}
 use Rattle.threader_cli.specs.Form.{Columns, value_of}
