@@ -3,17 +3,11 @@ use Rattle.std.specs.Prelude.{ℕ, ◌+◌, ◌^◌, Bool, ◌==◌, ◌&&◌, �
 use Rattle.std.specs.Char.{is_ascii_digit}
 use Rattle.std.specs.List.{prefix_len, take_while, starts_with}
 use Rattle.std.specs.Str.Parse.{digits_value}
+use Rattle.thr_base.specs.Refusals.{bad_byte, bad_number}
 use Rattle.c_lex.specs.declared.token.Kind.{Kind}
 use Rattle.c_lex.specs.declared.token.Kind.TheVariants.{Word, Number, Mark, Foreign}
 use Rattle.c_lex.specs.declared.piece.Piece.{Piece}
 use Rattle.c_lex.specs.Bytes.{is_space, is_separator, is_letter, is_word_byte, is_in_line, is_mark, is_double_mark, is_foreign}
-
--- the numbers of the rules that a text may break here
-abbrev pub bad_byte : ℕ
-bad_byte = 2
-
-abbrev pub bad_number : ℕ
-bad_number = 3
 
 -- so many bytes that are skipped
 abbrev pub skipped : ℕ → Result Piece ℕ

@@ -3,8 +3,6 @@ use Rattle.std.specs.Prelude.{◌≡◌, ℕ, zero, suc, ◌+◌, ◌<◌, ◌�
 use Rattle.std.specs.List.{AllByRecursion, list_all}
 use Rattle.std.specs.Str.{all_ascii_digits}
 use Rattle.thr_base.specs.declared.stops.Refusal.{Refusal}
-use Rattle.thr_base.specs.declared.stops.Stop.{Stop}
-use Rattle.thr_base.specs.declared.stops.Stop.TheVariants.{Refused, Memory}
 use Rattle.c_lex.specs.declared.token.Kind.{Kind}
 use Rattle.c_lex.specs.declared.token.Kind.TheVariants.{Word, Number, Mark, Foreign}
 use Rattle.c_lex.specs.declared.token.Token.{Token}
@@ -27,15 +25,6 @@ infixl 10 ◌>>=◌
 abbrev pub ◌>>=◌ : {A B E : Type 0} → Result A E → (A → Result B E) → Result B E
 (Ok x) >>= f = f x
 (Err e) >>= f = Err e
-
--- What a function returned, seen by view, is what a definition gives, unless memory ran out.
-abbrev pub Stops : {Y : Type 0} → Stop → Result Y Refusal → Type 0
-Stops Memory given = Unit {0}
-Stops (Refused refusal) given = given ≡ Err refusal
-
-abbrev pub Gives : {X Y : Type 0} → (X → Y) → Result X Stop → Result Y Refusal → Type 0
-Gives view (Ok x) given = given ≡ Ok (view x)
-Gives view (Err stop) given = Stops stop given
 
 -- a broken rule, at a place
 abbrev pub at_place : {A : Type 0} → ℕ → Result A ℕ → Result A Refusal

@@ -1,16 +1,15 @@
 //! Cuts a text into its tokens.
 
 ghost use Rattle.std.specs.Prelude.{◌≡◌, ◌≤◌, ◌++◌, length, IfOk, OnOk};
-ghost use Rattle.c_lex.specs.Tokens.{views, is_fresh_after, lexemes_of, Gives, lexed, StandIn, AreTokens};
+ghost use Rattle.thr_base.specs.Limits.{text_limit};
+ghost use Rattle.thr_base.specs.Refusals.{Gives};
+ghost use Rattle.c_lex.specs.Tokens.{views, is_fresh_after, lexemes_of, lexed, StandIn, AreTokens};
 
 use crate::bytes::is_space;
 use crate::piece::piece_at;
 use crate::token::{Kind, Token};
 use std::alloc::{AllocError, Global};
 use thr_base::{Refusal, Stop};
-
-/// The most bytes that a text may have.
-pub const TEXT_LIMIT: usize = 1_048_576;
 
 // The token that a piece is, if it is one.
 fn push_token<'a>(
@@ -38,7 +37,7 @@ fn is_fresh_after(is_fresh: bool, first: u8) -> bool
 /// rule 2 at its place; a number that has a needless zero, that is 2^127 or more, or that a letter follows is refused
 /// as rule 3 at its first digit. The first such place is answered.
 pub fn lex<'a>(alloc: Global, text: &'a str) -> Result<Vec<Token<'a>>, Stop>
-    requires { length text.now ≤ TEXT_LIMIT }
+    requires { length text.now ≤ text_limit }
     ensures exact { Gives (λ v. views v.items) result (lexed text.now) }
     // Each token is the slice of the text at its place, and places rise.
     ensures slices { IfOk result (λ v. StandIn text.now 0 (views v.items)) }

@@ -7,7 +7,7 @@ mod lexer;
 mod piece;
 mod token;
 
-pub use lexer::{TEXT_LIMIT, lex};
+pub use lexer::lex;
 pub use token::{Kind, Token};
 
 #[cfg(test)]

@@ -12,6 +12,7 @@ use crate::bytes::{
     word_len,
 };
 use crate::token::Kind;
+use thr_base::{BAD_BYTE, BAD_NUMBER};
 
 /// The front of a text: a token, or bytes that are skipped.
 #[derive(Clone, Copy)]
@@ -36,10 +37,6 @@ impl Piece {
         }
     }
 }
-
-const BAD_BYTE: u8 = 2;
-
-const BAD_NUMBER: u8 = 3;
 
 fn through_close(bytes: &[u8]) -> Option<usize>
     ensures exact { result ≡ through_close bytes.now }

@@ -1,9 +1,10 @@
 ghost use Rattle.std.specs.Prelude.{◌≤◌, length};
+ghost use Rattle.thr_base.specs.Limits.{text_limit};
 
 use super::*;
 use std::alloc::Global;
 use std::test::*;
-use thr_base::{Refusal, Stop};
+use thr_base::{Refusal, Stop, TEXT_LIMIT};
 
 // The kind of a token, as one letter.
 fn letter(kind: Kind) -> char {
@@ -17,7 +18,7 @@ fn letter(kind: Kind) -> char {
 
 // The tokens as `KIND TEXT PLACE`, or the refusal as `E CODE PLACE`.
 fn shown(alloc: Global, text: &str) -> Result<String, Fail>
-    requires { length text.now ≤ TEXT_LIMIT }
+    requires { length text.now ≤ text_limit }
 {
     let mut out = String::new(alloc);
     match lex(alloc, text) {
@@ -85,7 +86,7 @@ fn token_cases(rt: HostRuntime) -> Result<(), Fail> {
         ("1a@", "E 3 0"),
     ];
     for (text, tokens) in cases {
-        assert!(rt; text.len() <= TEXT_LIMIT);
+        assert!(rt; text.len() <= TEXT_LIMIT as usize);
         assert_eq!(rt; shown(rt.alloc(), text)?.as_str(), tokens);
     }
     Ok(())

@@ -16,7 +16,6 @@ use Rattle.c_tree.specs.declared.item.Typed.TheVariants as typeds
 use Rattle.c_tree.specs.declared.item.Untyped.TheVariants as untypeds
 use Rattle.c_tree.specs.declared.item.Body.TheVariants as bodies
 use Rattle.c_tree.specs.declared.item.Item.{Item}
-use Rattle.c_tree.specs.declared.item.Tree.{Tree}
 use Rattle.c_tree.specs.Term.{same_term}
 use Rattle.c_tree.specs.Input.{Input, Parser, ◌>>=◌, pure, expect, peek, sees, term_at}
 use Rattle.c_tree.specs.Expr as expr_spec
@@ -258,4 +257,4 @@ module _ (n m : ℕ) (lt : suc n < m) where
 
   pub tree_completes : Completes (spec.tree n) (spec.tree m) [] (only terms.End)
   unfolding spec.tree
-  tree_completes = bind (many_completes terms.End (spec.item n) (spec.item m) (name_token ∷ semicolon ∷ []) any (item_shrinks n) (item_shrinks m) int_token item_completes (λ k so. refl)) (leads_none (λ k so. so)) (λ all. pure_completes {A = Tree} (record { items = all }))
+  tree_completes = many_completes terms.End (spec.item n) (spec.item m) (name_token ∷ semicolon ∷ []) any (item_shrinks n) (item_shrinks m) int_token item_completes (λ k so. refl)

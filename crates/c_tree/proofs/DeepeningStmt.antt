@@ -1,175 +1,305 @@
--- With more levels all that is read or refused of statements stays so, but for what is a level too many.
-use Rattle.std.proofs.Common.{◌≡◌, ℕ, zero, suc, ◌≤◌, Bool, true, false, Some, Ok, Err, refl, sym, arith}
+-- With more levels all that is read or refused of statements stays so, up to the first token that opens a level beyond.
+use Rattle.std.proofs.Common.{◌≡◌, ℕ, zero, suc, ◌≤◌, Bool, true, false, List, [], ◌∷◌, ◌++◌, map, Option, Some, None, option_map, Ok, Err, refl, sym, ap, subst, ◌∙◌, arith, append-nil}
 use Rattle.std.proofs.Math.Logic.{◌⊎◌, inl, inr}
+use Rattle.c_lex.specs.Tokens.{Lexeme}
 use Rattle.c_tree.specs.declared.term.Term.{Term}
 use Rattle.c_tree.specs.declared.term.Term.TheVariants as terms
+use Rattle.c_tree.specs.declared.expr.Expr.{Expr}
 use Rattle.c_tree.specs.declared.expr.Name.{Name}
+use Rattle.c_tree.specs.declared.simple.Assign.{Assign}
 use Rattle.c_tree.specs.declared.simple.Assign.TheVariants as assigns
+use Rattle.c_tree.specs.declared.simple.Call.{Call}
 use Rattle.c_tree.specs.declared.simple.Call.TheVariants as calls
+use Rattle.c_tree.specs.declared.simple.Cond.{Cond}
 use Rattle.c_tree.specs.declared.simple.Cond.TheVariants as conds
+use Rattle.c_tree.specs.declared.simple.Right.{Right}
 use Rattle.c_tree.specs.declared.simple.Right.TheVariants as rights
 use Rattle.c_tree.specs.declared.simple.Lname.{Lname}
 use Rattle.c_tree.specs.declared.simple.Local.{Local}
 use Rattle.c_tree.specs.declared.stmt.Around.{Around}
 use Rattle.c_tree.specs.declared.stmt.Around.TheVariants as arounds
-use Rattle.c_tree.specs.declared.stmt.Block.{roll-Block}
+use Rattle.c_tree.specs.declared.stmt.Block.{Block, roll-Block, out-roll-Block}
+use Rattle.c_tree.specs.declared.stmt.First.{First}
 use Rattle.c_tree.specs.declared.stmt.First.TheVariants as firsts
 use Rattle.c_tree.specs.declared.stmt.Stmt.{Stmt}
 use Rattle.c_tree.specs.declared.stmt.Stmt.TheVariants as stmts
-use Rattle.c_tree.specs.Input.{Input, Parser, ◌>>=◌, pure, refuse, look, here, take_token, eat, expect, peek, sees, refusal, too_deep}
+use Rattle.c_tree.specs.Input.{Input, Outcome, Parser, ◌>>=◌, pure, refuse, look, here, take_token, eat, expect, peek, sees, place, place_at, refusal, too_deep}
+use Rattle.c_tree.specs.Many.{many}
 use Rattle.c_tree.specs.Expr as expr_spec
 use Rattle.c_tree.specs.Simple as simple_spec
 use Rattle.c_tree.specs.Stmt as spec
+use Rattle.c_tree.specs.Grammar.{StartsAt}
+use Rattle.c_tree.specs.Plain as plain
+use Rattle.c_tree.specs.Plain.{stmt_place}
+use Rattle.c_tree.specs.Seen.{plain_expr, plain_right, plain_cond, plain_assign, plain_call, plain_lname, plain_locals, plain_first, plain_stmt, plain_stmts, plain_block}
+use Rattle.c_tree.specs.Beyond.{expr_beyond, value_beyond, value_if_beyond, assign_beyond, assign_if_beyond, call_beyond, locals_beyond, first_beyond, stmt_beyond, stmts_beyond}
 use Rattle.c_tree.proofs.Leads.{called}
-use Rattle.c_tree.proofs.Deepening.{Widens, same_widens, pure_widens, bind_widens, behind_widens, more_widens, many_widens, expr_widens}
+use Rattle.c_tree.proofs.FoundStmt.{stmt_found}
+use Rattle.c_tree.proofs.Starts.{stmt_starts}
+use Rattle.c_tree.proofs.View.{block_is, empty_is, local_is, assign_is, if_is, while_is, for_is, break_is, return_is, call_is, atomic_is, handles_is}
+use Rattle.c_tree.proofs.Deepening.{Fits, Widens, refuse_widens, pure_widens, bind_widens, behind_widens, more_widens, many_widens, expr_widens}
+
+-- ---- what each opens beyond so many levels
+
+abbrev expr_opens : ℕ → Expr → List ℕ
+expr_opens n e = expr_beyond (plain_expr e) n
+
+abbrev right_opens : ℕ → Right → List ℕ
+right_opens n e = value_beyond (plain_right e) n
+
+abbrev cond_opens : ℕ → Cond → List ℕ
+cond_opens n c = value_beyond (plain_cond c) n
+
+abbrev cond_if_opens : ℕ → Option Cond → List ℕ
+cond_if_opens n c = value_if_beyond (option_map plain_cond c) n
+
+abbrev assign_opens : ℕ → Assign → List ℕ
+assign_opens n a = assign_beyond (plain_assign a) n
+
+abbrev assign_if_opens : ℕ → Option Assign → List ℕ
+assign_if_opens n a = assign_if_beyond (option_map plain_assign a) n
+
+abbrev call_opens : ℕ → Call → List ℕ
+call_opens n c = call_beyond (plain_call c) n
+
+abbrev start_opens : ℕ → Option Right → List ℕ
+start_opens n s = value_if_beyond (option_map plain_right s) n
+
+abbrev lname_opens : ℕ → Lname → List ℕ
+lname_opens n l = start_opens n l.start
+
+abbrev more_opens : ℕ → List (ℕ × Lname) → List ℕ
+more_opens n more = locals_beyond (map (λ m. plain_lname m.1) more) n
+
+abbrev local_opens : ℕ → Local → List ℕ
+local_opens n l = locals_beyond (plain_locals l) n
+
+abbrev first_opens : ℕ → First → List ℕ
+first_opens n f = first_beyond (plain_first f) n
+
+abbrev pub stmt_opens : ℕ → Stmt → List ℕ
+stmt_opens n s = stmt_beyond (plain_stmt s) n
+
+abbrev stmts_opens : ℕ → List Stmt → List ℕ
+stmts_opens n ss = stmts_beyond (plain_stmts ss) n
+
+abbrev else_opens : ℕ → Option Stmt → List ℕ
+else_opens n None = []
+else_opens n (Some s) = stmt_opens n s
+
+abbrev pub block_opens : ℕ → Block → List ℕ
+block_opens n b = stmts_beyond (plain_block b) n
+
+-- a statement at the first of so many levels opens what it holds one level deeper
+within : (n : ℕ) (s : Stmt) (t : plain.Stmt) → plain_stmt s ≡ t → stmt_opens (suc n) s ≡ stmt_beyond t (suc n)
+within n s t e = ap (λ (x : plain.Stmt). stmt_beyond x (suc n)) e
+
+if_opens : (n from : ℕ) (c : Cond) (s : Stmt) (o : Option Stmt) → stmt_opens (suc n) (stmts.If from c s o) ≡ (cond_opens n c ++ stmt_opens n s) ++ else_opens n o
+if_opens n from c s None = within n (stmts.If from c s None) _ (if_is from c s None) ∙ sym (append-nil (cond_opens n c ++ stmt_opens n s))
+if_opens n from c s (Some t) = within n (stmts.If from c s (Some t)) _ (if_is from c s (Some t))
 
 module _ (n m : ℕ) (le : n ≤ m) where
-  right_by_widens : (k : Term) → Widens (simple_spec.right_by n k) (simple_spec.right_by m k)
-  right_by_widens terms.Nondet = same_widens _
-  right_by_widens _ = bind_widens _ _ _ _ (expr_widens n m le) (λ e. pure_widens (rights.Expr e))
+  right_by_widens : (k : Term) → Widens [] (right_opens n) (simple_spec.right_by n k) (simple_spec.right_by m k)
+  right_by_widens terms.Nondet = behind_widens [] _ _ _ simple_spec.nondet (λ x. pure_widens [] (right_opens n) (rights.Nondet x) refl)
+  right_by_widens _ = bind_widens [] _ _ _ (expr_opens n) (λ e. pure_widens (expr_opens n e) (right_opens n) (rights.Expr e) refl) _ _ (expr_widens n m le)
 
-  right_widens : Widens (simple_spec.right n) (simple_spec.right m)
+  right_widens : Widens [] (right_opens n) (simple_spec.right n) (simple_spec.right m)
   unfolding simple_spec.right
-  right_widens = behind_widens look _ _ right_by_widens
+  right_widens = behind_widens [] _ _ _ look right_by_widens
 
-  cond_by_widens : (k : Term) → Widens (simple_spec.cond_by n k) (simple_spec.cond_by m k)
-  cond_by_widens terms.Nondet = same_widens _
-  cond_by_widens _ = bind_widens _ _ _ _ (expr_widens n m le) (λ e. pure_widens (conds.Expr e))
+  cond_by_widens : (k : Term) → Widens [] (cond_opens n) (simple_spec.cond_by n k) (simple_spec.cond_by m k)
+  cond_by_widens terms.Nondet = behind_widens [] _ _ _ simple_spec.nondet (λ x. pure_widens [] (cond_opens n) (conds.Nondet x) refl)
+  cond_by_widens _ = bind_widens [] _ _ _ (expr_opens n) (λ e. pure_widens (expr_opens n e) (cond_opens n) (conds.Expr e) refl) _ _ (expr_widens n m le)
 
-  cond_widens : Widens (simple_spec.cond n) (simple_spec.cond m)
+  cond_widens : Widens [] (cond_opens n) (simple_spec.cond n) (simple_spec.cond m)
   unfolding simple_spec.cond
-  cond_widens = behind_widens look _ _ cond_by_widens
+  cond_widens = behind_widens [] _ _ _ look cond_by_widens
 
-  assigned_by_widens : (x : Name) (k : Term) → Widens (simple_spec.assigned_by n x k) (simple_spec.assigned_by m x k)
-  assigned_by_widens x terms.Assign = behind_widens take_token _ _ (λ from. bind_widens _ _ _ _ right_widens (λ e. pure_widens (assigns.Set x e)))
-  assigned_by_widens x terms.AddTo = behind_widens take_token _ _ (λ from. bind_widens _ _ _ _ (expr_widens n m le) (λ e. pure_widens (assigns.Add x e)))
-  assigned_by_widens x terms.SubtractFrom = behind_widens take_token _ _ (λ from. bind_widens _ _ _ _ (expr_widens n m le) (λ e. pure_widens (assigns.Subtract x e)))
-  assigned_by_widens x _ = same_widens _
+  assigned_by_widens : (x : Name) (k : Term) → Widens [] (assign_opens n) (simple_spec.assigned_by n x k) (simple_spec.assigned_by m x k)
+  assigned_by_widens x terms.Assign = behind_widens [] _ _ _ take_token (λ from. bind_widens [] _ _ _ (right_opens n) (λ e. pure_widens (right_opens n e) (assign_opens n) (assigns.Set x e) refl) _ _ right_widens)
+  assigned_by_widens x terms.AddTo = behind_widens [] _ _ _ take_token (λ from. bind_widens [] _ _ _ (expr_opens n) (λ e. pure_widens (expr_opens n e) (assign_opens n) (assigns.Add x e) refl) _ _ (expr_widens n m le))
+  assigned_by_widens x terms.SubtractFrom = behind_widens [] _ _ _ take_token (λ from. bind_widens [] _ _ _ (expr_opens n) (λ e. pure_widens (expr_opens n e) (assign_opens n) (assigns.Subtract x e) refl) _ _ (expr_widens n m le))
+  assigned_by_widens x terms.Increment = behind_widens [] _ _ _ take_token (λ from. pure_widens [] (assign_opens n) (assigns.Increment x) refl)
+  assigned_by_widens x terms.Decrement = behind_widens [] _ _ _ take_token (λ from. pure_widens [] (assign_opens n) (assigns.Decrement x) refl)
+  assigned_by_widens x _ = refuse_widens [] (assign_opens n)
 
-  assigned_widens : Widens (simple_spec.assigned n) (simple_spec.assigned m)
+  assigned_widens : Widens [] (assign_opens n) (simple_spec.assigned n) (simple_spec.assigned m)
   unfolding simple_spec.assigned
-  assigned_widens = behind_widens expr_spec.name _ _ (λ x. behind_widens look _ _ (assigned_by_widens x))
+  assigned_widens = behind_widens [] _ _ _ expr_spec.name (λ x. behind_widens [] _ _ _ look (assigned_by_widens x))
 
-  assign_by_widens : (k : Term) → Widens (simple_spec.assign_by n k) (simple_spec.assign_by m k)
+  assign_by_widens : (k : Term) → Widens [] (assign_opens n) (simple_spec.assign_by n k) (simple_spec.assign_by m k)
   assign_by_widens terms.Name = assigned_widens
-  assign_by_widens _ = same_widens _
+  assign_by_widens terms.Increment = behind_widens [] _ _ _ take_token (λ from. behind_widens [] _ _ _ expr_spec.name (λ x. pure_widens [] (assign_opens n) (assigns.IncrementFirst from x) refl))
+  assign_by_widens terms.Decrement = behind_widens [] _ _ _ take_token (λ from. behind_widens [] _ _ _ expr_spec.name (λ x. pure_widens [] (assign_opens n) (assigns.DecrementFirst from x) refl))
+  assign_by_widens _ = refuse_widens [] (assign_opens n)
 
-  assign_widens : Widens (simple_spec.assign n) (simple_spec.assign m)
+  assign_widens : Widens [] (assign_opens n) (simple_spec.assign n) (simple_spec.assign m)
   unfolding simple_spec.assign
-  assign_widens = behind_widens look _ _ assign_by_widens
+  assign_widens = behind_widens [] _ _ _ look assign_by_widens
 
-  argument_widens : Widens (simple_spec.argument n) (simple_spec.argument m)
+  argument_widens : Widens [] (expr_opens n) (simple_spec.argument n) (simple_spec.argument m)
   unfolding simple_spec.argument
-  argument_widens = behind_widens (expect terms.LeftParen) _ _ (λ o. bind_widens _ _ _ _ (expr_widens n m le) (λ e. same_widens (expect terms.RightParen >>= λ c. pure e)))
+  argument_widens = behind_widens [] _ _ _ (expect terms.LeftParen) (λ o. bind_widens [] _ _ _ (expr_opens n) (λ e. behind_widens (expr_opens n e) _ _ _ (expect terms.RightParen) (λ c. pure_widens (expr_opens n e) (expr_opens n) e refl)) _ _ (expr_widens n m le))
 
-  call_by_widens : (k : Term) → Widens (simple_spec.call_by n k) (simple_spec.call_by m k)
-  call_by_widens terms.Assert = behind_widens take_token _ _ (λ from. bind_widens _ _ _ _ argument_widens (λ e. pure_widens (calls.Assert from e)))
-  call_by_widens terms.Assume = behind_widens take_token _ _ (λ from. bind_widens _ _ _ _ argument_widens (λ e. pure_widens (calls.Assume from e)))
-  call_by_widens _ = same_widens _
+  init_widens : (from : ℕ) → Widens [] (call_opens n) (simple_spec.init from) (simple_spec.init from)
+  unfolding simple_spec.init
+  init_widens from = behind_widens [] _ _ _ (expect terms.LeftParen) (λ o. behind_widens [] _ _ _ simple_spec.address (λ x. behind_widens [] _ _ _ (expect terms.Comma) (λ d. behind_widens [] _ _ _ simple_spec.nil
+      (λ y. behind_widens [] _ _ _ (expect terms.RightParen) (λ c. pure_widens [] (call_opens n) (calls.Init from x y) refl)))))
 
-  call_widens : Widens (simple_spec.call n) (simple_spec.call m)
+  create_widens : (from : ℕ) → Widens [] (call_opens n) (simple_spec.create from) (simple_spec.create from)
+  unfolding simple_spec.create
+  create_widens from = behind_widens [] _ _ _ (expect terms.LeftParen) (λ o. behind_widens [] _ _ _ simple_spec.address (λ t. behind_widens [] _ _ _ (expect terms.Comma) (λ d. behind_widens [] _ _ _ simple_spec.nil
+      (λ a. behind_widens [] _ _ _ (expect terms.Comma) (λ d2. behind_widens [] _ _ _ expr_spec.name (λ f. behind_widens [] _ _ _ (expect terms.Comma) (λ d3. behind_widens [] _ _ _ simple_spec.nil
+      (λ x. behind_widens [] _ _ _ (expect terms.RightParen) (λ c. pure_widens [] (call_opens n) (calls.Create from t a f x) refl)))))))))
+
+  join_widens : (from : ℕ) → Widens [] (call_opens n) (simple_spec.join from) (simple_spec.join from)
+  unfolding simple_spec.join
+  join_widens from = behind_widens [] _ _ _ (expect terms.LeftParen) (λ o. behind_widens [] _ _ _ expr_spec.name (λ t. behind_widens [] _ _ _ (expect terms.Comma) (λ d. behind_widens [] _ _ _ simple_spec.nil
+      (λ y. behind_widens [] _ _ _ (expect terms.RightParen) (λ c. pure_widens [] (call_opens n) (calls.Join from t y) refl)))))
+
+  -- a word with an argument that opens nothing
+  word_widens : {A : Type 0} (p : Parser A) (made : ℕ → A → Call) → ((from : ℕ) (x : A) → call_opens n (made from x) ≡ []) → Widens [] (call_opens n) (take_token >>= λ from. p >>= λ x. pure (made from x)) (take_token >>= λ from. p >>= λ x. pure (made from x))
+  word_widens p made none = behind_widens [] _ _ _ take_token (λ from. behind_widens [] _ _ _ p (λ x. pure_widens [] (call_opens n) (made from x) (none from x)))
+
+  call_by_widens : (k : Term) → Widens [] (call_opens n) (simple_spec.call_by n k) (simple_spec.call_by m k)
+  call_by_widens terms.Assert = behind_widens [] _ _ _ take_token (λ from. bind_widens [] _ _ _ (expr_opens n) (λ e. pure_widens (expr_opens n e) (call_opens n) (calls.Assert from e) refl) _ _ argument_widens)
+  call_by_widens terms.Assume = behind_widens [] _ _ _ take_token (λ from. bind_widens [] _ _ _ (expr_opens n) (λ e. pure_widens (expr_opens n e) (call_opens n) (calls.Assume from e) refl) _ _ argument_widens)
+  call_by_widens terms.ReachError = word_widens simple_spec.empty_parens (λ from x. calls.ReachError from) (λ from x. refl)
+  call_by_widens terms.Abort = word_widens simple_spec.empty_parens (λ from x. calls.Abort from) (λ from x. refl)
+  call_by_widens terms.Exit = word_widens simple_spec.exit_argument (λ from x. calls.Exit from x) (λ from x. refl)
+  call_by_widens terms.MutexLock = word_widens simple_spec.lock_argument (λ from x. calls.Lock from x) (λ from x. refl)
+  call_by_widens terms.MutexUnlock = word_widens simple_spec.lock_argument (λ from x. calls.Unlock from x) (λ from x. refl)
+  call_by_widens terms.MutexDestroy = word_widens simple_spec.lock_argument (λ from x. calls.Destroy from x) (λ from x. refl)
+  call_by_widens terms.MutexInit = behind_widens [] _ _ _ take_token init_widens
+  call_by_widens terms.Create = behind_widens [] _ _ _ take_token create_widens
+  call_by_widens terms.Join = behind_widens [] _ _ _ take_token join_widens
+  call_by_widens _ = refuse_widens [] (call_opens n)
+
+  call_widens : Widens [] (call_opens n) (simple_spec.call n) (simple_spec.call m)
   unfolding simple_spec.call
-  call_widens = behind_widens look _ _ call_by_widens
+  call_widens = behind_widens [] _ _ _ look call_by_widens
 
-  start_if_widens : (b : Bool) → Widens (simple_spec.start_if n b) (simple_spec.start_if m b)
-  start_if_widens true = bind_widens _ _ _ _ right_widens (λ e. pure_widens (Some e))
-  start_if_widens false = same_widens _
+  start_if_widens : (b : Bool) → Widens [] (start_opens n) (simple_spec.start_if n b) (simple_spec.start_if m b)
+  start_if_widens true = bind_widens [] _ _ _ (right_opens n) (λ e. pure_widens (right_opens n e) (start_opens n) (Some e) refl) _ _ right_widens
+  start_if_widens false = pure_widens [] (start_opens n) None refl
 
-  lname_widens : Widens (simple_spec.lname n) (simple_spec.lname m)
+  lname_widens : Widens [] (lname_opens n) (simple_spec.lname n) (simple_spec.lname m)
   unfolding simple_spec.lname
-  lname_widens = behind_widens expr_spec.name _ _ (λ x. behind_widens (eat terms.Assign) _ _ (λ b. bind_widens _ _ _ _ (start_if_widens b) (λ s. pure_widens {A = Lname} (record { name = x; start = s }))))
+  lname_widens = behind_widens [] _ _ _ expr_spec.name (λ x. behind_widens [] _ _ _ (eat terms.Assign) (λ b. bind_widens [] _ _ _ (start_opens n) (λ s. pure_widens {A = Lname} (start_opens n s) (lname_opens n) (record { name = x; start = s }) refl) _ _ (start_if_widens b)))
 
-  local_widens : Widens (simple_spec.local n) (simple_spec.local m)
+  local_widens : Widens [] (local_opens n) (simple_spec.local n) (simple_spec.local m)
   unfolding simple_spec.local
-  local_widens = behind_widens here _ _ (λ from. behind_widens simple_spec.quals _ _ (λ qs. behind_widens simple_spec.itype _ _ (λ kind. bind_widens _ _ _ _ lname_widens
-      (λ first. bind_widens _ _ _ _ (more_widens simple_spec.comma_mark _ _ lname_widens) (λ more. same_widens (expect terms.Semicolon >>= λ c. pure {A = Local} (record { from = from; quals = qs; itype = kind; first = first; more = more })))))))
+  local_widens = behind_widens [] _ _ _ here (λ from. behind_widens [] _ _ _ simple_spec.quals (λ qs. behind_widens [] _ _ _ simple_spec.itype (λ kind. bind_widens [] _ _ _ (lname_opens n)
+      (λ first. bind_widens (lname_opens n first) _ _ _ (more_opens n) (λ more. behind_widens (lname_opens n first ++ more_opens n more) _ _ _ (expect terms.Semicolon)
+      (λ c. pure_widens {A = Local} (lname_opens n first ++ more_opens n more) (local_opens n) (record { from = from; quals = qs; itype = kind; first = first; more = more }) refl)) _ _
+      (more_widens simple_spec.comma_mark _ _ (lname_opens n) (more_opens n) refl (λ k x xs. refl) lname_widens)) _ _ lname_widens)))
 
   -- ---- statements
 
-  assign_stmt_widens : Widens (spec.assign_stmt n) (spec.assign_stmt m)
+  assign_stmt_widens : Widens [] (stmt_opens (suc n)) (spec.assign_stmt n) (spec.assign_stmt m)
   unfolding spec.assign_stmt
-  assign_stmt_widens = bind_widens _ _ _ _ assign_widens (λ a. same_widens (expect terms.Semicolon >>= λ c. pure (stmts.Assign a)))
+  assign_stmt_widens = bind_widens [] _ _ _ (assign_opens n) (λ a. behind_widens (assign_opens n a) _ _ _ (expect terms.Semicolon) (λ c. pure_widens (assign_opens n a) (stmt_opens (suc n)) (stmts.Assign a) (within n (stmts.Assign a) _ (assign_is a)))) _ _ assign_widens
 
-  call_stmt_widens : Widens (spec.call_stmt n) (spec.call_stmt m)
+  call_stmt_widens : Widens [] (stmt_opens (suc n)) (spec.call_stmt n) (spec.call_stmt m)
   unfolding spec.call_stmt
-  call_stmt_widens = bind_widens _ _ _ _ call_widens (λ x. same_widens (expect terms.Semicolon >>= λ c. pure (stmts.Call x)))
+  call_stmt_widens = bind_widens [] _ _ _ (call_opens n) (λ x. behind_widens (call_opens n x) _ _ _ (expect terms.Semicolon) (λ c. pure_widens (call_opens n x) (stmt_opens (suc n)) (stmts.Call x) (within n (stmts.Call x) _ (call_is x)))) _ _ call_widens
 
-  local_stmt_widens : Widens (spec.local_stmt n) (spec.local_stmt m)
+  local_stmt_widens : Widens [] (stmt_opens (suc n)) (spec.local_stmt n) (spec.local_stmt m)
   unfolding spec.local_stmt
-  local_stmt_widens = bind_widens _ _ _ _ local_widens (λ l. pure_widens (stmts.Local l))
+  local_stmt_widens = bind_widens [] _ _ _ (local_opens n) (λ l. pure_widens (local_opens n l) (stmt_opens (suc n)) (stmts.Local l) (within n (stmts.Local l) _ (local_is l))) _ _ local_widens
 
-  first_local_widens : Widens (spec.first_local n) (spec.first_local m)
+  first_local_widens : Widens [] (first_opens n) (spec.first_local n) (spec.first_local m)
   unfolding spec.first_local
-  first_local_widens = bind_widens _ _ _ _ local_widens (λ l. pure_widens (firsts.Local l))
+  first_local_widens = bind_widens [] _ _ _ (local_opens n) (λ l. pure_widens (local_opens n l) (first_opens n) (firsts.Local l) refl) _ _ local_widens
 
-  first_assign_widens : Widens (spec.first_assign n) (spec.first_assign m)
+  first_assign_widens : Widens [] (first_opens n) (spec.first_assign n) (spec.first_assign m)
   unfolding spec.first_assign
-  first_assign_widens = bind_widens _ _ _ _ assign_widens (λ a. same_widens (expect terms.Semicolon >>= λ c. pure (firsts.Assign a)))
+  first_assign_widens = bind_widens [] _ _ _ (assign_opens n) (λ a. behind_widens (assign_opens n a) _ _ _ (expect terms.Semicolon) (λ c. pure_widens (assign_opens n a) (first_opens n) (firsts.Assign a) refl)) _ _ assign_widens
 
-  first_by_widens : (k : Term) → Widens (spec.first_by n k) (spec.first_by m k)
+  first_by_widens : (k : Term) → Widens [] (first_opens n) (spec.first_by n k) (spec.first_by m k)
   first_by_widens terms.Static = first_local_widens
   first_by_widens terms.Volatile = first_local_widens
   first_by_widens terms.Extern = first_local_widens
   first_by_widens terms.Int = first_local_widens
   first_by_widens terms.Long = first_local_widens
-  first_by_widens terms.Semicolon = same_widens _
+  first_by_widens terms.Semicolon = behind_widens [] _ _ _ take_token (λ from. pure_widens [] (first_opens n) (firsts.Empty from) refl)
   first_by_widens _ = first_assign_widens
 
-  first_widens : Widens (spec.first_part n) (spec.first_part m)
+  first_widens : Widens [] (first_opens n) (spec.first_part n) (spec.first_part m)
   unfolding spec.first_part
-  first_widens = behind_widens look _ _ first_by_widens
+  first_widens = behind_widens [] _ _ _ look first_by_widens
 
-  cond_if_widens : (b : Bool) → Widens (spec.cond_if n b) (spec.cond_if m b)
-  cond_if_widens true = same_widens _
-  cond_if_widens false = bind_widens _ _ _ _ cond_widens (λ c. pure_widens (Some c))
+  cond_if_widens : (b : Bool) → Widens [] (cond_if_opens n) (spec.cond_if n b) (spec.cond_if m b)
+  cond_if_widens true = pure_widens [] (cond_if_opens n) None refl
+  cond_if_widens false = bind_widens [] _ _ _ (cond_opens n) (λ c. pure_widens (cond_opens n c) (cond_if_opens n) (Some c) refl) _ _ cond_widens
 
-  middle_widens : Widens (spec.middle_part n) (spec.middle_part m)
+  middle_widens : Widens [] (cond_if_opens n) (spec.middle_part n) (spec.middle_part m)
   unfolding spec.middle_part
-  middle_widens = behind_widens (λ i. Ok (sees terms.Semicolon i, i)) _ _ cond_if_widens
+  middle_widens = behind_widens [] _ _ _ (λ i. Ok (sees terms.Semicolon i, i)) cond_if_widens
 
-  last_if_widens : (b : Bool) → Widens (spec.last_if n b) (spec.last_if m b)
-  last_if_widens true = same_widens _
-  last_if_widens false = bind_widens _ _ _ _ assign_widens (λ a. pure_widens (Some a))
+  last_if_widens : (b : Bool) → Widens [] (assign_if_opens n) (spec.last_if n b) (spec.last_if m b)
+  last_if_widens true = pure_widens [] (assign_if_opens n) None refl
+  last_if_widens false = bind_widens [] _ _ _ (assign_opens n) (λ a. pure_widens (assign_opens n a) (assign_if_opens n) (Some a) refl) _ _ assign_widens
 
-  last_widens : Widens (spec.last_part n) (spec.last_part m)
+  last_widens : Widens [] (assign_if_opens n) (spec.last_part n) (spec.last_part m)
   unfolding spec.last_part
-  last_widens = behind_widens (λ i. Ok (sees terms.RightParen i, i)) _ _ last_if_widens
+  last_widens = behind_widens [] _ _ _ (λ i. Ok (sees terms.RightParen i, i)) last_if_widens
 
-  condition_widens : Widens (spec.condition n) (spec.condition m)
+  condition_widens : Widens [] (cond_opens n) (spec.condition n) (spec.condition m)
   unfolding spec.condition
-  condition_widens = behind_widens (expect terms.LeftParen) _ _ (λ o. bind_widens _ _ _ _ cond_widens (λ c. same_widens (expect terms.RightParen >>= λ d. pure c)))
+  condition_widens = behind_widens [] _ _ _ (expect terms.LeftParen) (λ o. bind_widens [] _ _ _ (cond_opens n) (λ c. behind_widens (cond_opens n c) _ _ _ (expect terms.RightParen) (λ d. pure_widens (cond_opens n c) (cond_opens n) c refl)) _ _ cond_widens)
 
-  module _ (p q : Around → Parser Stmt) (inner : (around : Around) → Widens (p around) (q around)) where
-    pub block_widens : (around : Around) → Widens (spec.block n p around) (spec.block m q around)
+  break_widens : (around : Around) → Widens [] (stmt_opens (suc n)) (spec.break_by around) (spec.break_by around)
+  break_widens arounds.Nothing = refuse_widens [] (stmt_opens (suc n))
+  break_widens arounds.Loop = behind_widens [] _ _ _ take_token (λ from. behind_widens [] _ _ _ (expect terms.Semicolon) (λ c. pure_widens [] (stmt_opens (suc n)) (stmts.Break from) (within n (stmts.Break from) _ (break_is from))))
+
+  return_widens : Widens [] (stmt_opens (suc n)) spec.return_stmt spec.return_stmt
+  unfolding spec.return_stmt
+  return_widens = behind_widens [] _ _ _ take_token (λ from. behind_widens [] _ _ _ (λ i. Ok (sees terms.Semicolon i, i)) (λ b. behind_widens [] _ _ _ (spec.returned_if b)
+      (λ value. behind_widens [] _ _ _ (expect terms.Semicolon) (λ c. pure_widens [] (stmt_opens (suc n)) (stmts.Return from value) (within n (stmts.Return from value) _ (return_is from value))))))
+
+  module _ (p q : Around → Parser Stmt) (inner : (around : Around) → Widens [] (stmt_opens n) (p around) (q around)) where
+    all_widens : (last : Term) (around : Around) → Widens [] (stmts_opens n) (many last (p around)) (many last (q around))
+    all_widens last around = many_widens last _ _ (stmt_opens n) (stmts_opens n) refl (λ x xs. refl) (inner around)
+
+    pub block_widens : (around : Around) → Widens [] (block_opens n) (spec.block n p around) (spec.block m q around)
     unfolding spec.block
-    block_widens around = behind_widens (expect terms.LeftBrace) _ _ (λ from. bind_widens _ _ _ _ (many_widens terms.RightBrace _ _ (inner around)) (λ ss. same_widens (expect terms.RightBrace >>= λ c. pure (roll-Block (record { from = from; stmts = ss })))))
+    block_widens around = behind_widens [] _ _ _ (expect terms.LeftBrace) (λ from. bind_widens [] _ _ _ (stmts_opens n) (λ ss. behind_widens (stmts_opens n ss) _ _ _ (expect terms.RightBrace)
+        (λ c. pure_widens (stmts_opens n ss) (block_opens n) (roll-Block (record { from = from; stmts = ss })) (ap (λ b. stmts_opens n b.stmts) (out-roll-Block (record { from = from; stmts = ss }))))) _ _ (all_widens terms.RightBrace around))
 
-    else_if_widens : (around : Around) (b : Bool) → Widens (spec.else_if n p around b) (spec.else_if m q around b)
-    else_if_widens around true = bind_widens _ _ _ _ (inner around) (λ s. pure_widens (Some s))
-    else_if_widens around false = same_widens _
+    else_if_widens : (around : Around) (b : Bool) → Widens [] (else_opens n) (spec.else_if n p around b) (spec.else_if m q around b)
+    else_if_widens around true = bind_widens [] _ _ _ (stmt_opens n) (λ s. pure_widens (stmt_opens n s) (else_opens n) (Some s) refl) _ _ (inner around)
+    else_if_widens around false = pure_widens [] (else_opens n) None refl
 
-    if_widens : (around : Around) → Widens (spec.if_stmt n p around) (spec.if_stmt m q around)
+    if_widens : (around : Around) → Widens [] (stmt_opens (suc n)) (spec.if_stmt n p around) (spec.if_stmt m q around)
     unfolding spec.if_stmt
-    if_widens around = behind_widens take_token _ _ (λ from. bind_widens _ _ _ _ condition_widens (λ c. bind_widens _ _ _ _ (inner around) (λ s. behind_widens (eat terms.Else) _ _
-        (λ b. bind_widens _ _ _ _ (else_if_widens around b) (λ o. pure_widens (stmts.If from c s o))))))
+    if_widens around = behind_widens [] _ _ _ take_token (λ from. bind_widens [] _ _ _ (cond_opens n) (λ c. bind_widens (cond_opens n c) _ _ _ (stmt_opens n) (λ s. behind_widens (cond_opens n c ++ stmt_opens n s) _ _ _ (eat terms.Else)
+        (λ b. bind_widens (cond_opens n c ++ stmt_opens n s) _ _ _ (else_opens n) (λ o. pure_widens ((cond_opens n c ++ stmt_opens n s) ++ else_opens n o) (stmt_opens (suc n)) (stmts.If from c s o) (if_opens n from c s o)) _ _ (else_if_widens around b))) _ _ (inner around)) _ _ condition_widens)
 
-    while_widens : Widens (spec.while_stmt n p) (spec.while_stmt m q)
+    while_widens : Widens [] (stmt_opens (suc n)) (spec.while_stmt n p) (spec.while_stmt m q)
     unfolding spec.while_stmt
-    while_widens = behind_widens take_token _ _ (λ from. bind_widens _ _ _ _ condition_widens (λ c. bind_widens _ _ _ _ (inner arounds.Loop) (λ s. pure_widens (stmts.While from c s))))
+    while_widens = behind_widens [] _ _ _ take_token (λ from. bind_widens [] _ _ _ (cond_opens n) (λ c. bind_widens (cond_opens n c) _ _ _ (stmt_opens n)
+        (λ s. pure_widens (cond_opens n c ++ stmt_opens n s) (stmt_opens (suc n)) (stmts.While from c s) (within n (stmts.While from c s) _ (while_is from c s))) _ _ (inner arounds.Loop)) _ _ condition_widens)
 
-    for_widens : Widens (spec.for_stmt n p) (spec.for_stmt m q)
+    for_opens : (from : ℕ) (first : First) (c : Option Cond) (last : Option Assign) (s : Stmt) → stmt_opens (suc n) (stmts.For from first c last s) ≡ ((first_opens n first ++ cond_if_opens n c) ++ assign_if_opens n last) ++ stmt_opens n s
+    for_opens from first c last s = within n (stmts.For from first c last s) _ (for_is from first c last s)
+
+    for_widens : Widens [] (stmt_opens (suc n)) (spec.for_stmt n p) (spec.for_stmt m q)
     unfolding spec.for_stmt
-    for_widens = behind_widens take_token _ _ (λ from. behind_widens (expect terms.LeftParen) _ _ (λ o. bind_widens _ _ _ _ first_widens (λ first. bind_widens _ _ _ _ middle_widens (λ c. behind_widens (expect terms.Semicolon) _ _
-        (λ d. bind_widens _ _ _ _ last_widens (λ last. behind_widens (expect terms.RightParen) _ _ (λ e. bind_widens _ _ _ _ (inner arounds.Loop) (λ s. pure_widens (stmts.For from first c last s)))))))))
+    for_widens = behind_widens [] _ _ _ take_token (λ from. behind_widens [] _ _ _ (expect terms.LeftParen) (λ o. bind_widens [] _ _ _ (first_opens n) (λ first. bind_widens (first_opens n first) _ _ _ (cond_if_opens n)
+        (λ c. behind_widens (first_opens n first ++ cond_if_opens n c) _ _ _ (expect terms.Semicolon) (λ d. bind_widens (first_opens n first ++ cond_if_opens n c) _ _ _ (assign_if_opens n)
+        (λ last. behind_widens ((first_opens n first ++ cond_if_opens n c) ++ assign_if_opens n last) _ _ _ (expect terms.RightParen) (λ e. bind_widens ((first_opens n first ++ cond_if_opens n c) ++ assign_if_opens n last) _ _ _ (stmt_opens n)
+        (λ s. pure_widens (((first_opens n first ++ cond_if_opens n c) ++ assign_if_opens n last) ++ stmt_opens n s) (stmt_opens (suc n)) (stmts.For from first c last s) (for_opens from first c last s))
+        _ _ (inner arounds.Loop))) _ _ last_widens)) _ _ middle_widens) _ _ first_widens))
 
-    atomic_widens : (around : Around) → Widens (spec.atomic_stmt n p around) (spec.atomic_stmt m q around)
+    atomic_widens : (around : Around) → Widens [] (stmt_opens (suc n)) (spec.atomic_stmt n p around) (spec.atomic_stmt m q around)
     unfolding spec.atomic_stmt
-    atomic_widens around = behind_widens take_token _ _ (λ from. behind_widens spec.word_end _ _ (λ b. bind_widens _ _ _ _ (many_widens terms.AtomicEnd _ _ (inner around))
-        (λ ss. same_widens (expect terms.AtomicEnd >>= λ e. spec.word_end >>= λ c. pure (stmts.Atomic from ss)))))
+    atomic_widens around = behind_widens [] _ _ _ take_token (λ from. behind_widens [] _ _ _ spec.word_end (λ b. bind_widens [] _ _ _ (stmts_opens n) (λ ss. behind_widens (stmts_opens n ss) _ _ _ (expect terms.AtomicEnd)
+        (λ e. behind_widens (stmts_opens n ss) _ _ _ spec.word_end (λ c. pure_widens (stmts_opens n ss) (stmt_opens (suc n)) (stmts.Atomic from ss) (within n (stmts.Atomic from ss) _ (atomic_is from ss))))) _ _ (all_widens terms.AtomicEnd around)))
 
-    stmt_by_widens : (around : Around) (k : Term) → Widens (spec.stmt_by n p around k) (spec.stmt_by m q around k)
-    stmt_by_widens around terms.LeftBrace = bind_widens _ _ _ _ (block_widens around) (λ b. pure_widens (stmts.Block b))
-    stmt_by_widens around terms.Semicolon = same_widens _
+    stmt_by_widens : (around : Around) (k : Term) → Widens [] (stmt_opens (suc n)) (spec.stmt_by n p around k) (spec.stmt_by m q around k)
+    stmt_by_widens around terms.LeftBrace = bind_widens [] _ _ _ (block_opens n) (λ b. pure_widens (block_opens n b) (stmt_opens (suc n)) (stmts.Block b) (within n (stmts.Block b) _ (block_is b))) _ _ (block_widens around)
+    stmt_by_widens around terms.Semicolon = behind_widens [] _ _ _ take_token (λ from. pure_widens [] (stmt_opens (suc n)) (stmts.Empty from) (within n (stmts.Empty from) _ (empty_is from)))
     stmt_by_widens around terms.Static = local_stmt_widens
     stmt_by_widens around terms.Volatile = local_stmt_widens
     stmt_by_widens around terms.Extern = local_stmt_widens
@@ -181,10 +311,10 @@ module _ (n m : ℕ) (le : n ≤ m) where
     stmt_by_widens around terms.If = if_widens around
     stmt_by_widens around terms.While = while_widens
     stmt_by_widens around terms.For = for_widens
-    stmt_by_widens around terms.Break = same_widens _
-    stmt_by_widens around terms.Return = same_widens _
+    stmt_by_widens around terms.Break = break_widens around
+    stmt_by_widens around terms.Return = return_widens
     stmt_by_widens around terms.AtomicBegin = atomic_widens around
-    stmt_by_widens around terms.HandleType = same_widens _
+    stmt_by_widens around terms.HandleType = behind_widens [] _ _ _ simple_spec.handles (λ h. pure_widens [] (stmt_opens (suc n)) (stmts.Handles h) (within n (stmts.Handles h) _ (handles_is h)))
     stmt_by_widens around _ = call_stmt_widens
 
 -- ---- where no level is left
@@ -249,14 +379,48 @@ stmt_by_refuses levels inner around i terms.AtomicBegin is so = impossible so
 stmt_by_refuses levels inner around i terms.HandleType is so = impossible so
 stmt_by_refuses levels inner around i k is so = call_refuses levels i k is (begins_called around k so)
 
-no_level : (m : ℕ) (inner : Around → Parser Stmt) (around : Around) (i : Input) (b : Bool) → spec.begins around (peek i) ≡ b → (spec.past_limit b i ≡ spec.stmt_over m inner around i) ⊎ ((j : Input) × (spec.past_limit b i ≡ Err (too_deep j)))
-unfolding spec.stmt_over
-no_level m inner around i true is = inr (i, refl)
-no_level m inner around i false is = inl (sym (stmt_by_refuses m inner around i (peek i) refl is))
+-- without a level a statement opens one too many at its first token
+opens_first : (s : plain.Stmt) → stmt_beyond s zero ≡ stmt_place s ∷ []
+opens_first (plain.Stmt.Block from inner) = refl
+opens_first (plain.Stmt.Empty from) = refl
+opens_first (plain.Stmt.Locals from ls) = refl
+opens_first (plain.Stmt.Assigns a) = refl
+opens_first (plain.Stmt.If from c s) = refl
+opens_first (plain.Stmt.IfElse from c s t) = refl
+opens_first (plain.Stmt.While from c s) = refl
+opens_first (plain.Stmt.For from first c last s) = refl
+opens_first (plain.Stmt.Break from) = refl
+opens_first (plain.Stmt.Return from) = refl
+opens_first (plain.Stmt.Calls c) = refl
+opens_first (plain.Stmt.Atomic from inner) = refl
+opens_first (plain.Stmt.Handles from names) = refl
 
-pub stmt_widens : (n m : ℕ) → n ≤ m → (around : Around) → Widens (spec.stmt n around) (spec.stmt m around)
+starts_place : (from end : ℕ) (ts : List Lexeme) → StartsAt from ts → from ≡ place_at end ts
+starts_place from end [] is = absurd is
+starts_place from end (t ∷ ts) is = sym is
+
+module _ (m : ℕ) (around : Around) (i : Input) where
+  opens_here : (s : Stmt) (j : Input) → spec.stmt (suc m) around i ≡ Ok (s, j) → stmt_opens zero s ≡ place i ∷ []
+  unfolding place
+  opens_here s j e = opens_first (plain_stmt s) ∙ ap (λ (p : ℕ). p ∷ []) (starts_place _ i.end i.tokens (stmt_starts (suc m) around s i.tokens j.tokens (stmt_found (suc m) around i s j e)))
+
+  too_many : (r : Outcome Stmt) → spec.stmt (suc m) around i ≡ r → Fits [] (stmt_opens zero) (Err (too_deep i)) r
+  too_many (Ok p) e = (place i ∷ [], opens_here p.0 p.1 e, (i, refl, refl))
+  too_many (Err d) e = inr (i, refl)
+
+  no_level : (b : Bool) → spec.begins around (peek i) ≡ b → Fits [] (stmt_opens zero) (spec.past_limit b i) (spec.stmt (suc m) around i)
+  unfolding spec.stmt spec.stmt_over
+  no_level true is = too_many (spec.stmt (suc m) around i) refl
+  no_level false is = subst (λ (r : Outcome Stmt). Fits [] (stmt_opens zero) (Err (refusal i)) r) (sym (stmt_by_refuses m (spec.stmt m) around i (peek i) refl is)) (inl refl)
+
+-- where no level is left in either
+none_left : (around : Around) (i : Input) (b : Bool) → Fits [] (stmt_opens zero) (spec.past_limit b i) (spec.past_limit b i)
+none_left around i true = inl refl
+none_left around i false = inl refl
+
+pub stmt_widens : (n m : ℕ) → n ≤ m → (around : Around) → Widens [] (stmt_opens n) (spec.stmt n around) (spec.stmt m around)
 unfolding spec.stmt spec.no_stmt spec.stmt_over
-stmt_widens zero zero le around = same_widens _
-stmt_widens zero (suc m) le around = record { does = λ i. no_level m (spec.stmt m) around i (spec.begins around (peek i)) refl }
+stmt_widens zero zero le around = record { does = λ i. none_left around i (spec.begins around (peek i)) }
+stmt_widens zero (suc m) le around = record { does = λ i. no_level m around i (spec.begins around (peek i)) refl }
 stmt_widens (suc n) zero le around = absurd (omega arith)
-stmt_widens (suc n) (suc m) le around = behind_widens look _ _ (stmt_by_widens n m (omega arith) (spec.stmt n) (spec.stmt m) (stmt_widens n m (omega arith)) around)
+stmt_widens (suc n) (suc m) le around = behind_widens [] _ _ _ look (stmt_by_widens n m (omega arith) (spec.stmt n) (spec.stmt m) (stmt_widens n m (omega arith)) around)

@@ -43,3 +43,8 @@ pub mod Refusals
 pub mod Deepening
 pub mod DeepeningStmt
 pub mod DeepeningItem
+pub mod View
+pub mod Starts
+pub mod Sitting
+pub mod SittingParts
+pub mod SittingText

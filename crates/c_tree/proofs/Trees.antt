@@ -1,13 +1,15 @@
 -- The tree of a text is that of its tokens, and of nothing else.
-use Rattle.std.proofs.Common.{◌≡◌, ℕ, zero, suc, rules, Bool, true, false, List, [], ◌∷◌, map, length, bytes_eq, cond, Result, Ok, Err, IfOk, refl, sym, ap, subst, ◌∙◌}
+use Rattle.std.proofs.Common.{◌≡◌, ℕ, zero, suc, rules, Bool, true, false, List, [], ◌∷◌, ◌++◌, map, length, bytes_eq, cond, Result, Ok, Err, IfOk, refl, sym, ap, subst, ◌∙◌}
 use Rattle.thr_base.specs.declared.stops.Refusal.{Refusal}
 use Rattle.thr_base.specs.declared.stops.Stop.{Stop}
 use Rattle.c_lex.specs.declared.token.Kind.{Kind}
 use Rattle.c_lex.specs.declared.token.Kind.TheVariants as kinds
-use Rattle.c_lex.specs.Tokens.{Lexeme, lexed, Gives}
+use Rattle.thr_base.specs.Refusals.{Gives}
+use Rattle.c_lex.specs.Tokens.{Lexeme, lexed}
 use Rattle.c_tree.specs.declared.term.Term.{Term}
 use Rattle.c_tree.specs.declared.term.Term.TheVariants as terms
-use Rattle.c_tree.specs.declared.term.TheConstants.{WORDS, MARKS}
+use Rattle.c_tree.specs.Words.{words, refused_words, marks}
+use Rattle.c_tree.specs.declared.item.Item.{Item}
 use Rattle.c_tree.specs.declared.item.Tree.{Tree}
 use Rattle.c_tree.specs.Term.{same_term, lookup, word_term, mark_term, kind_term}
 use Rattle.c_tree.specs.Input.{Input, Outcome, Parser, peek, sees, term_at, refusal}
@@ -45,10 +47,10 @@ lookup_no_end [] text otherwise none other = other
 lookup_no_end (e ∷ es) text otherwise none other = lookup_by (bytes_eq e.0 text) e.1 (lookup es text otherwise) none.0 (lookup_no_end es text otherwise none.1 other)
 
 kind_no_end : (kind : Kind) (text : List ℕ) → is_end (kind_term kind text) ≡ false
-unfolding word_term mark_term
-kind_no_end kinds.Word text = lookup_no_end (map (λ e. (e.0.now, e.1)) WORDS) text terms.Name (search rules) refl
+unfolding word_term mark_term words refused_words marks
+kind_no_end kinds.Word text = lookup_no_end (words ++ map (λ word. (word, terms.Refused)) refused_words) text terms.Name (search rules) refl
 kind_no_end kinds.Number text = refl
-kind_no_end kinds.Mark text = lookup_no_end (map (λ e. (e.0.now, e.1)) MARKS) text terms.Refused (search rules) refl
+kind_no_end kinds.Mark text = lookup_no_end marks text terms.Refused (search rules) refl
 kind_no_end kinds.Foreign text = refl
 
 at_end : (ts : List Lexeme) → term_at ts ≡ terms.End → ts ≡ []
@@ -77,18 +79,16 @@ module _ {A : Type 0} (last : Term) (item : Parser A) where
   many_stops i xs j e = many_from_stops (suc (length i.tokens)) i xs j e
 
 module _ (levels : ℕ) where
-  pub tree_found : (i : Input) (t : Tree) (j : Input) → (spec.tree levels) i ≡ Ok (t, j) → IsTreeWithin levels t i.tokens
+  pub tree_found : (i : Input) (t : List Item) (j : Input) → (spec.tree levels) i ≡ Ok (t, j) → IsTreeWithin levels t i.tokens
   unfolding spec.tree peek
   tree_found i t j e =
-      let a = bind_ok (many terms.End (spec.item levels) i) _ t j e in
-      let same = ok_parts {A = Tree} (record { items = a.0 }) t a.1 j a.3 in
-      let none = at_end a.1.tokens (seen terms.End a.1 (many_stops terms.End (spec.item levels) i a.0 a.1 a.2)) in
-      let all = many_found terms.End (spec.item levels) (IsItem levels) (item_found levels) _ _ _ a.2 in
-      subst (λ (x : Tree). IsTreeWithin levels x i.tokens) same.0 (subst (λ (l : List Lexeme). AreAll (IsItem levels) a.0 i.tokens l) none all)
+      let none = at_end j.tokens (seen terms.End j (many_stops terms.End (spec.item levels) i t j e)) in
+      let all = many_found terms.End (spec.item levels) (IsItem levels) (item_found levels) _ _ _ e in
+      subst (λ (l : List Lexeme). AreAll (IsItem levels) t i.tokens l) none all
 
-  pub tree_again : (end : ℕ) (t : Tree) (ts : List Lexeme) → IsTreeWithin levels t ts → (spec.tree levels) (at ts end) ≡ Ok (t, at [] end)
+  pub tree_again : (end : ℕ) (t : List Item) (ts : List Lexeme) → IsTreeWithin levels t ts → (spec.tree levels) (at ts end) ≡ Ok (t, at [] end)
   unfolding spec.tree sees peek same_term
-  tree_again end t ts is = rw (many_again terms.End (spec.item levels) (IsItem levels) (item_again levels) (item_shrinks levels) (item_no_end levels) end t.items ts [] is refl) refl
+  tree_again end t ts is = many_again terms.End (spec.item levels) (IsItem levels) (item_again levels) (item_shrinks levels) (item_no_end levels) end t ts [] is refl
 
 -- ---- texts
 
@@ -96,23 +96,38 @@ value_found : {A : Type 0} (r : Outcome A) (x : A) → spec.value_of r ≡ Ok x 
 value_found {A} (Ok p) x e = (p.1, (let same : p.0 ≡ x = cc in ap (λ (y : A). Ok (y, p.1)) same))
 value_found (Err d) x e = absurd (let differs : ◌≡◌ {A = Result _ Refusal} (Err d) (Ok x) = e in cc)
 
-tree_of_found : (end : ℕ) (r : Result (List Lexeme) Refusal) (t : Tree) → spec.tree_of end r ≡ Ok t → (tokens : List Lexeme) × (r ≡ Ok tokens) × IsTree t tokens
+ended_found : (end : ℕ) (r : Result (List Item) Refusal) (t : Tree) → spec.ended end r ≡ Ok t → (r ≡ Ok t.items) × (t.end ≡ end)
+ended_found end (Ok items) t e =
+    let same : ◌≡◌ {A = Tree} (record { items = items; end = end }) t = cc in
+    (ap (λ (x : Tree). Ok x.items) same, ap (λ (x : Tree). x.end) (sym same))
+ended_found end (Err d) t e = absurd (let differs : ◌≡◌ {A = Result Tree Refusal} (Err d) (Ok t) = e in cc)
+
+tree_of_found : (end : ℕ) (r : Result (List Lexeme) Refusal) (t : Tree) → spec.tree_of end r ≡ Ok t → (tokens : List Lexeme) × (r ≡ Ok tokens) × IsTree t.items tokens × (t.end ≡ end)
 tree_of_found end (Err d) t e = absurd (let differs : ◌≡◌ {A = Result Tree Refusal} (Err d) (Ok t) = e in cc)
 tree_of_found end (Ok tokens) t e =
-    let read = value_found (spec.tree spec.max_levels (at tokens end)) t e in
-    (tokens, refl, tree_found spec.max_levels (at tokens end) t read.0 read.1)
+    let made = ended_found end (spec.value_of (spec.tree spec.max_levels (at tokens end))) t e in
+    let read = value_found (spec.tree spec.max_levels (at tokens end)) t.items made.0 in
+    (tokens, refl, tree_found spec.max_levels (at tokens end) t.items read.0 read.1, made.1)
 
 pub parsed_found : (text : List ℕ) (t : Tree) → spec.parsed text ≡ Ok t → IsTreeOf text t
 parsed_found text t e = tree_of_found (length text) (lexed text) t e
 
 pub parsed_again : (text : List ℕ) (t : Tree) → IsTreeOf text t → spec.parsed text ≡ Ok t
-parsed_again text t is = ap (spec.tree_of (length text)) is.1 ∙ ap spec.value_of (tree_again spec.max_levels (length text) t is.0 is.2)
+parsed_again text t is =
+    ap (spec.tree_of (length text)) is.1 ∙ ap (λ r. spec.ended (length text) (spec.value_of r)) (tree_again spec.max_levels (length text) t.items is.0 is.2)
+    ∙ ap (λ (end : ℕ). Ok (record { items = t.items; end = end })) (sym is.3)
 
--- what reading gives, where the text has these tokens
-pub tree_given : (text : List ℕ) (tokens ts : List Lexeme) (result : Result Tree Stop) → lexed text ≡ Ok tokens → ts ≡ tokens → Gives (λ t. t) result (spec.value_of (spec.tree spec.max_levels (at ts (length text)))) → IfOk result (λ t. IsTreeOf text t)
-tree_given text tokens ts (Ok t) lexes same gives = parsed_found text t (ap (spec.tree_of (length text)) (lexes ∙ ap (λ (l : List Lexeme). Ok l) (sym same)) ∙ gives)
-tree_given text tokens ts (Err stop) lexes same gives = tt
+-- what reading the tokens of a text gives
+pub tree_given : (text : List ℕ) (tokens : List Lexeme) (result : Result Tree Stop) → lexed text ≡ Ok tokens → Gives (λ t. t) result (spec.ended (length text) (spec.value_of (spec.tree spec.max_levels (at tokens (length text))))) → Gives (λ t. t) result (spec.parsed text)
+tree_given text tokens result lexes gives = subst (λ (r : Result Tree Refusal). Gives (λ t. t) result r) (sym (ap (spec.tree_of (length text)) lexes)) gives
 
--- no two trees have the same tokens
-pub one_tree : (t u : Tree) (ts : List Lexeme) → IsTree t ts → IsTree u ts → t ≡ u
-one_tree t u ts is also = (ok_parts t u _ _ (sym (tree_again spec.max_levels 0 t ts is) ∙ tree_again spec.max_levels 0 u ts also)).0
+pub tree_is_of : (text : List ℕ) (result : Result Tree Stop) → Gives (λ t. t) result (spec.parsed text) → IfOk result (λ t. IsTreeOf text t)
+tree_is_of text (Ok t) gives = parsed_found text t gives
+tree_is_of text (Err stop) gives = tt
+
+-- a text has no two trees
+pub one_tree : (text : List ℕ) (t u : Tree) → IsTreeOf text t → IsTreeOf text u → t ≡ u
+one_tree text t u is also = same_tree (sym (parsed_again text t is) ∙ parsed_again text u also)
+  where
+    same_tree : ◌≡◌ {A = Result Tree Refusal} (Ok t) (Ok u) → t ≡ u
+    same_tree e = cc

@@ -1,5 +1,5 @@
 -- The grammar of whole texts: which tokens a tree stands for, by cases on the tree.
-use Rattle.std.specs.Prelude.{◌≡◌, ◌⊎◌, ℕ, ℤ, Bool, true, false, List, [], Option, Some, None, Ok}
+use Rattle.std.specs.Prelude.{◌≡◌, ◌⊎◌, ℕ, ℤ, Bool, true, false, List, [], length, Option, Some, None, Ok}
 use Rattle.c_lex.specs.Tokens.{Lexeme, lexed}
 use Rattle.c_tree.specs.declared.term.Term.{Term}
 use Rattle.c_tree.specs.declared.term.Term.TheVariants as terms
@@ -150,14 +150,14 @@ module _ (levels : ℕ) where
 
 -- ---- texts
 
--- The tokens are those of a tree, and of nothing else, within so many levels.
-abbrev pub IsTreeWithin : ℕ → Tree → List Lexeme → Type 0
-IsTreeWithin levels tree ts = AreAll (IsItem levels) tree.items ts []
+-- The tokens are those of a tree with these items, and of nothing else, within so many levels.
+abbrev pub IsTreeWithin : ℕ → List Item → List Lexeme → Type 0
+IsTreeWithin levels items ts = AreAll (IsItem levels) items ts []
 
 -- within the levels of the profile
-abbrev pub IsTree : Tree → List Lexeme → Type 0
+abbrev pub IsTree : List Item → List Lexeme → Type 0
 IsTree = IsTreeWithin max_levels
 
--- The text has tokens, and they are those of a tree.
+-- The text has tokens, and they are those of a tree, which ends where the text does.
 abbrev pub IsTreeOf : List ℕ → Tree → Type 0
-IsTreeOf text tree = (tokens : List Lexeme) × (lexed text ≡ Ok tokens) × IsTree tree tokens
+IsTreeOf text tree = (tokens : List Lexeme) × (lexed text ≡ Ok tokens) × IsTree tree.items tokens × (tree.end ≡ length text)

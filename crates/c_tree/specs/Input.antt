@@ -3,6 +3,7 @@ use Rattle.std.specs.Prelude.{◌≡◌, ℕ, Bool, List, [], ◌∷◌, drop, R
 use Rattle.thr_base.specs.declared.stops.Refusal.{Refusal}
 use Rattle.thr_base.specs.declared.stops.Stop.{Stop}
 use Rattle.thr_base.specs.declared.stops.Stop.TheVariants.{Refused, Memory}
+use Rattle.thr_base.specs.Refusals.{expected, not_in_profile, too_many}
 use Rattle.c_lex.specs.Tokens.{Lexeme}
 use Rattle.c_tree.specs.declared.term.Term.{Term}
 use Rattle.c_tree.specs.declared.term.Term.TheVariants as terms
@@ -41,15 +42,6 @@ unfoldable pub next : Input → Input
 next i = record { tokens = drop 1 i.tokens; end = i.end }
 
 -- ---- refusals
-
-abbrev pub expected : ℕ
-expected = 4
-
-abbrev pub not_in_profile : ℕ
-not_in_profile = 5
-
-abbrev pub too_many : ℕ
-too_many = 11
 
 abbrev pub refusal_code : Term → ℕ
 refusal_code terms.Refused = not_in_profile

@@ -1,6 +1,7 @@
 -- How a whole text is read.
 use Rattle.std.specs.Prelude.{ℕ, zero, suc, Bool, true, false, List, [], ◌∷◌, length, if◌then◌else◌, Option, Some, None, Result, Ok, Err}
 use Rattle.thr_base.specs.declared.stops.Refusal.{Refusal}
+use Rattle.thr_base.specs.Limits.{most_levels}
 use Rattle.c_lex.specs.Tokens.{Lexeme, lexed}
 use Rattle.c_tree.specs.declared.term.Term.{Term}
 use Rattle.c_tree.specs.declared.term.Term.TheVariants as terms
@@ -32,7 +33,7 @@ use Rattle.c_tree.specs.Stmt.{stmt, block}
 
 -- how many levels may be opened in a function
 abbrev pub max_levels : ℕ
-max_levels = 64
+max_levels = most_levels
 
 -- the body of a function, whose statements are at the first of so many levels
 unfoldable pub body : ℕ → Parser Block
@@ -269,10 +270,8 @@ module _ (levels : ℕ) where
     pure (record { from = from; quals = qs; body = b })
 
   -- items up to the end of the text
-  unfoldable pub tree : Parser Tree
-  tree = do
-    all ← many terms.End item
-    pure (record { items = all })
+  unfoldable pub tree : Parser (List Item)
+  tree = many terms.End item
 
 -- ---- texts
 
@@ -281,10 +280,15 @@ abbrev pub value_of : {A : Type 0} → Outcome A → Result A Refusal
 value_of (Ok p) = Ok p.0
 value_of (Err refusal) = Err refusal
 
+-- items as the tree of a text that has so many bytes
+abbrev pub ended : ℕ → Result (List Item) Refusal → Result Tree Refusal
+ended end (Ok items) = Ok (record { items = items; end = end })
+ended end (Err refusal) = Err refusal
+
 -- the tree of tokens of a text that has so many bytes
 abbrev pub tree_of : ℕ → Result (List Lexeme) Refusal → Result Tree Refusal
 tree_of end (Err refusal) = Err refusal
-tree_of end (Ok tokens) = value_of (tree max_levels (record { tokens = tokens; end = end }))
+tree_of end (Ok tokens) = ended end (value_of (tree max_levels (record { tokens = tokens; end = end })))
 
 -- The tree of a text, or the first refusal: that of its first faulty token, and else that of its grammar.
 abbrev pub parsed : List ℕ → Result Tree Refusal

@@ -1,3 +1,4 @@
+pub mod Words
 pub mod Term
 pub mod Input
 pub mod Cursor
@@ -15,3 +16,7 @@ pub mod GrammarSimple
 pub mod GrammarStmt
 pub mod GrammarItem
 pub mod Refused
+pub mod Plain
+pub mod Seen
+pub mod Beyond
+pub mod Leaves

@@ -1,13 +1,33 @@
--- Where a text is refused: its tokens up to there begin a text of the grammar, and with the one that stands there begin none.
-use Rattle.std.specs.Prelude.{◌≡◌, ◌⊎◌, ℕ, ◌+◌, List, [], ◌∷◌, ◌++◌, length, Result, Ok, Err}
+-- Where a text is refused: at its first token that no tree goes on with, or that opens a level too many.
+use Rattle.std.specs.Prelude.{◌≡◌, ◌⊎◌, ℕ, ◌<◌, List, [], ◌∷◌, ◌++◌, length, Result, Ok}
+use Rattle.std.specs.List.{AllByRecursion}
 use Rattle.thr_base.specs.declared.stops.Refusal.{Refusal}
 use Rattle.thr_base.specs.declared.stops.Stop.{Stop}
-use Rattle.thr_base.specs.declared.stops.Stop.TheVariants.{Refused, Memory}
+use Rattle.thr_base.specs.Refusals.{MatchStop}
 use Rattle.c_lex.specs.Tokens.{Lexeme, lexed}
+use Rattle.c_tree.specs.declared.item.Item.{Item}
 use Rattle.c_tree.specs.declared.item.Tree.{Tree}
 use Rattle.c_tree.specs.Input.{refusal, too_deep}
 use Rattle.c_tree.specs.Item.{max_levels}
 use Rattle.c_tree.specs.GrammarItem.{IsTreeWithin}
+use Rattle.c_tree.specs.Seen.{plain_items}
+use Rattle.c_tree.specs.Beyond.{items_beyond}
+
+-- ---- trees of any depth, as their items
+
+-- Tokens are those of a tree, with however many levels.
+abbrev pub IsAnyTree : List Item → List Lexeme → Type 0
+IsAnyTree items tokens = (levels : ℕ) × IsTreeWithin levels items tokens
+
+-- Some tree has tokens that begin with these.
+abbrev pub BeginsATree : List Lexeme → Type 0
+BeginsATree front = (more : List Lexeme) × (items : List Item) × IsAnyTree items (front ++ more)
+
+-- the places of the tokens of a tree that open a level too many
+abbrev pub too_many_in : List Item → List ℕ
+too_many_in items = items_beyond (plain_items items) max_levels
+
+-- ---- the refused token
 
 -- The same token comes next in both, or none does.
 abbrev pub SameNext : List Lexeme → List Lexeme → Type 0
@@ -16,37 +36,46 @@ SameNext [] (u ∷ us) = ⊥
 SameNext (t ∷ ts) [] = ⊥
 SameNext (t ∷ ts) (u ∷ us) = t ≡ u
 
--- No tree within so many levels has tokens that begin with those in front, and behind them have the same next token as
--- the rest.
-abbrev pub NoTreeGoesOn : ℕ → List Lexeme → List Lexeme → Type 0
-NoTreeGoesOn levels front rest = (us : List Lexeme) (t : Tree) → SameNext rest us → IsTreeWithin levels t (front ++ us) → ⊥
+-- No tree goes on with the next token, or ends where there is none.
+abbrev pub NoTreeGoesOn : List Lexeme → List Lexeme → Type 0
+NoTreeGoesOn front rest = (more : List Lexeme) (items : List Item) → SameNext rest more → IsAnyTree items (front ++ more) → ⊥
 
--- Some tree within so many levels does go on so.
-abbrev pub ATreeGoesOn : ℕ → List Lexeme → List Lexeme → Type 0
-ATreeGoesOn levels front rest = (us : List Lexeme) × (t : Tree) × SameNext rest us × IsTreeWithin levels t (front ++ us)
+-- The first of places is this one.
+abbrev pub IsFirstOf : ℕ → List ℕ → Type 0
+IsFirstOf place [] = ⊥
+IsFirstOf place (p ∷ places) = p ≡ place
 
--- Some tree within so many levels has tokens that begin with these.
-abbrev pub BeginsATree : ℕ → List Lexeme → Type 0
-BeginsATree levels front = (us : List Lexeme) × (t : Tree) × IsTreeWithin levels t (front ++ us)
+-- Trees go on with the token, and in each the first that opens a level too many is at its place.
+abbrev pub OpensTooMany : List Lexeme → List Lexeme → Type 0
+OpensTooMany front [] = ⊥
+OpensTooMany front (t ∷ rest) =
+    BeginsATree (front ++ t ∷ []) × ((more : List Lexeme) (items : List Item) → IsAnyTree items (front ++ t ∷ more) → IsFirstOf t.from (too_many_in items))
 
--- A level too many is refused at its first token. So the tokens in front, as those of many loops in one another, may need
--- one level more than the profile has, and a further loop a second.
-abbrev pub more_levels : ℕ
-more_levels = max_levels + 2
+-- ---- the tokens in front of it
 
--- What is said of the next token, in a text of so many bytes, is so: no tree goes on with it, with however many levels;
--- or it opens a level too many, where no tree within the levels of the profile goes on with it, and one with more levels does.
-abbrev pub IsSaidOf : ℕ → Refusal → List Lexeme → List Lexeme → Type 0
-IsSaidOf end d front rest =
-    ((d ≡ refusal (record { tokens = rest; end = end })) × ((levels : ℕ) → NoTreeGoesOn levels front rest))
-    ⊎ ((d ≡ too_deep (record { tokens = rest; end = end })) × NoTreeGoesOn max_levels front rest × ATreeGoesOn more_levels front rest)
+-- The tokens stand behind all of these.
+abbrev pub AreBehind : List Lexeme → List Lexeme → Type 0
+AreBehind front more = AllByRecursion (λ u. AllByRecursion (λ t. t.from < u.from) front) more
 
--- The tokens of a text of so many bytes are refused at one of them, or at their end, and those in front begin a tree.
+-- The first of places, if there is one, is behind these tokens.
+abbrev pub IsFirstBehind : List Lexeme → List ℕ → Type 0
+IsFirstBehind front [] = Unit {0}
+IsFirstBehind front (p ∷ places) = AllByRecursion (λ t. t.from < p) front
+
+-- None of the tokens opens a level too many: in a tree that goes on behind them, the first that does is behind them.
+abbrev pub NoneOpensTooMany : List Lexeme → Type 0
+NoneOpensTooMany front = (more : List Lexeme) (items : List Item) → AreBehind front more → IsAnyTree items (front ++ more) → IsFirstBehind front (too_many_in items)
+
+-- ---- refusals
+
+-- The tokens of a text of so many bytes are refused at one of them, or at their end. Those in front begin a tree; and the
+-- refused one opens a level too many, or no tree goes on with it and none in front opens a level too many.
 abbrev pub IsRefusedWith : ℕ → List Lexeme → Refusal → Type 0
-IsRefusedWith end tokens d = (front : List Lexeme) × (rest : List Lexeme) × (tokens ≡ front ++ rest) × BeginsATree more_levels front × IsSaidOf end d front rest
+IsRefusedWith end tokens d =
+    (front : List Lexeme) × (rest : List Lexeme) × (tokens ≡ front ++ rest) × BeginsATree front
+    × (((d ≡ refusal (record { tokens = rest; end = end })) × NoTreeGoesOn front rest × NoneOpensTooMany front)
+    ⊎ ((d ≡ too_deep (record { tokens = rest; end = end })) × OpensTooMany front rest))
 
 -- Where an answer refuses a text that has tokens, they are refused so.
 abbrev pub IsRefusedBy : List ℕ → Result Tree Stop → Type 0
-IsRefusedBy text (Ok tree) = Unit {0}
-IsRefusedBy text (Err Memory) = Unit {0}
-IsRefusedBy text (Err (Refused d)) = (tokens : List Lexeme) → lexed text ≡ Ok tokens → IsRefusedWith (length text) tokens d
+IsRefusedBy text answer = MatchStop answer (λ tree. Unit {0}) (λ d. (tokens : List Lexeme) → lexed text ≡ Ok tokens → IsRefusedWith (length text) tokens d)

@@ -71,6 +71,11 @@ break_by arounds.Loop = do
   closed ← expect terms.Semicolon
   pure (stmts.Break from)
 
+abbrev pub handles_stmt : Parser Stmt
+handles_stmt = do
+  h ← handles
+  pure (stmts.Handles h)
+
 -- ---- with expressions of at most so many levels
 
 module _ (levels : ℕ) where
@@ -205,7 +210,7 @@ module _ (levels : ℕ) where
     stmt_by around terms.Break = break_by around
     stmt_by around terms.Return = return_stmt
     stmt_by around terms.AtomicBegin = atomic_stmt around
-    stmt_by around terms.HandleType = handles >>= λ h. pure (stmts.Handles h)
+    stmt_by around terms.HandleType = handles_stmt
     stmt_by around _ = call_stmt
 
     unfoldable pub stmt_over : Around → Parser Stmt

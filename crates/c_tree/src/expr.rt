@@ -1,5 +1,9 @@
 //! Expressions, as they are written.
 
+ghost use Rattle.std.specs.Prelude.{◌≡◌};
+ghost use Rattle.c_tree.specs.Plain.{expr_place};
+ghost use Rattle.c_tree.specs.Seen.{plain_expr, plain_unary};
+
 use sqlite_items::{Boxed, Items};
 
 /// A name, where it stands.
@@ -119,4 +123,27 @@ pub enum Unary {
     Paren(u32, Boxed<Expr>),
     Number(u32, i128),
     Name(Name),
+}
+
+impl Unary {
+    /// Where its first token stands.
+    pub fn place(&self) -> u32
+        ensures { result ≡ expr_place (plain_unary self.now) }
+    {
+        match self {
+            Unary::Operator(from, _, _) => *from,
+            Unary::Paren(from, _) => *from,
+            Unary::Number(from, _) => *from,
+            Unary::Name(name) => name.from,
+        }
+    }
+}
+
+impl Expr {
+    /// Where its first token stands.
+    pub fn place(&self) -> u32
+        ensures { result ≡ expr_place (plain_expr self.now) }
+    {
+        self.first.first.first.first.first.first.place()
+    }
 }

@@ -5,13 +5,14 @@ ghost use Rattle.c_tree.specs.Input.{Reads, peek};
 ghost use Rattle.c_tree.specs.Simple as simple_spec;
 ghost use Rattle.c_tree.specs.Stmt as stmt_spec;
 
-use crate::lists::local;
+use crate::lists::{handles, local};
 use crate::parts::{assign, call, cond, empty_parens, nil};
 use crate::simple::{Assign, Cond};
 use crate::statements::Statements;
 use crate::stmt::{Around, First, Stmt};
 use crate::term::Term;
 use crate::tokens::Tokens;
+use sqlite_items::Boxed;
 use std::alloc::Global;
 use thr_base::Stop;
 
@@ -55,7 +56,7 @@ pub fn assign_stmt(alloc: Global, tokens: &mut Tokens<'_, '_>, levels: u32) -> R
 {
     let part = assign(alloc, tokens, levels)?;
     tokens.expect(Term::Semicolon)?;
-    Ok(Stmt::Assign(part))
+    Ok(Stmt::Assign(Boxed::new(alloc, part)?))
 }
 
 #[tactic(auto, unfolding(crate::specs::Stmt::call_stmt))]
@@ -64,14 +65,22 @@ pub fn call_stmt(alloc: Global, tokens: &mut Tokens<'_, '_>, levels: u32) -> Res
 {
     let part = call(alloc, tokens, levels)?;
     tokens.expect(Term::Semicolon)?;
-    Ok(Stmt::Call(part))
+    Ok(Stmt::Call(Boxed::new(alloc, part)?))
+}
+
+pub fn handles_stmt(alloc: Global, tokens: &mut Tokens<'_, '_>) -> Result<Stmt, Stop>
+    ensures { Reads (stmt_spec.handles_stmt tokens.old) result tokens.new }
+{
+    let part = handles(alloc, tokens)?;
+    Ok(Stmt::Handles(Boxed::new(alloc, part)?))
 }
 
 #[tactic(auto, unfolding(crate::specs::Stmt::local_stmt))]
 pub fn local_stmt(alloc: Global, tokens: &mut Tokens<'_, '_>, levels: u32) -> Result<Stmt, Stop>
     ensures { Reads (stmt_spec.local_stmt levels tokens.old) result tokens.new }
 {
-    Ok(Stmt::Local(local(alloc, tokens, levels)?))
+    let part = local(alloc, tokens, levels)?;
+    Ok(Stmt::Local(Boxed::new(alloc, part)?))
 }
 
 #[tactic(auto, unfolding(crate::specs::Stmt::first_local))]
@@ -91,7 +100,7 @@ fn first_assign(alloc: Global, tokens: &mut Tokens<'_, '_>, levels: u32) -> Resu
 }
 
 #[tactic(auto, unfolding(crate::specs::Stmt::first_part))]
-pub fn first_part(alloc: Global, tokens: &mut Tokens<'_, '_>, levels: u32) -> Result<First, Stop>
+fn first_of(alloc: Global, tokens: &mut Tokens<'_, '_>, levels: u32) -> Result<First, Stop>
     ensures { Reads (stmt_spec.first_part levels tokens.old) result tokens.new }
 {
     match tokens.peek() {
@@ -103,18 +112,47 @@ pub fn first_part(alloc: Global, tokens: &mut Tokens<'_, '_>, levels: u32) -> Re
     }
 }
 
+pub fn first_part(
+    alloc: Global,
+    tokens: &mut Tokens<'_, '_>,
+    levels: u32,
+) -> Result<Boxed<First>, Stop>
+    ensures { Reads (stmt_spec.first_part levels tokens.old) result tokens.new }
+{
+    let part = first_of(alloc, tokens, levels)?;
+    Ok(Boxed::new(alloc, part)?)
+}
+
+fn boxed_cond(alloc: Global, tokens: &mut Tokens<'_, '_>, levels: u32) -> Result<Boxed<Cond>, Stop>
+    ensures { Reads (simple_spec.cond levels tokens.old) result tokens.new }
+{
+    let part = cond(alloc, tokens, levels)?;
+    Ok(Boxed::new(alloc, part)?)
+}
+
+fn boxed_assign(
+    alloc: Global,
+    tokens: &mut Tokens<'_, '_>,
+    levels: u32,
+) -> Result<Boxed<Assign>, Stop>
+    ensures { Reads (simple_spec.assign levels tokens.old) result tokens.new }
+{
+    let part = assign(alloc, tokens, levels)?;
+    Ok(Boxed::new(alloc, part)?)
+}
+
 #[tactic(auto, unfolding(crate::specs::Stmt::middle_part))]
 pub fn middle_part(
     alloc: Global,
     tokens: &mut Tokens<'_, '_>,
     levels: u32,
-) -> Result<Option<Cond>, Stop>
+) -> Result<Option<Boxed<Cond>>, Stop>
     ensures { Reads (stmt_spec.middle_part levels tokens.old) result tokens.new }
 {
     if tokens.sees(Term::Semicolon) {
         Ok(None)
     } else {
-        Ok(Some(cond(alloc, tokens, levels)?))
+        Ok(Some(boxed_cond(alloc, tokens, levels)?))
     }
 }
 
@@ -123,22 +161,26 @@ pub fn last_part(
     alloc: Global,
     tokens: &mut Tokens<'_, '_>,
     levels: u32,
-) -> Result<Option<Assign>, Stop>
+) -> Result<Option<Boxed<Assign>>, Stop>
     ensures { Reads (stmt_spec.last_part levels tokens.old) result tokens.new }
 {
     if tokens.sees(Term::RightParen) {
         Ok(None)
     } else {
-        Ok(Some(assign(alloc, tokens, levels)?))
+        Ok(Some(boxed_assign(alloc, tokens, levels)?))
     }
 }
 
 #[tactic(auto, unfolding(crate::specs::Stmt::condition))]
-pub fn condition(alloc: Global, tokens: &mut Tokens<'_, '_>, levels: u32) -> Result<Cond, Stop>
+pub fn condition(
+    alloc: Global,
+    tokens: &mut Tokens<'_, '_>,
+    levels: u32,
+) -> Result<Boxed<Cond>, Stop>
     ensures { Reads (stmt_spec.condition levels tokens.old) result tokens.new }
 {
     tokens.expect(Term::LeftParen)?;
-    let part = cond(alloc, tokens, levels)?;
+    let part = boxed_cond(alloc, tokens, levels)?;
     tokens.expect(Term::RightParen)?;
     Ok(part)
 }

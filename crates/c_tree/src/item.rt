@@ -107,4 +107,6 @@ pub struct Item {
 #[derive(Drop)]
 pub struct Tree {
     pub items: Items<Item>,
+    /// The length of the text.
+    pub end: u32,
 }

@@ -9,8 +9,7 @@ ghost use Rattle.c_tree.specs.Simple as simple_spec;
 
 use crate::heads::stmt;
 use crate::item::{
-    Body, Errfn, Globals, Gname, Item, Locks, Mainfn, Mname, Proto, Start, Threadfn, Tree, Typed,
-    Untyped,
+    Body, Errfn, Globals, Gname, Item, Locks, Mainfn, Mname, Proto, Start, Threadfn, Typed, Untyped,
 };
 use crate::lists::{comma_mark, handles, itype, quals};
 use crate::operand::{name, number};
@@ -21,10 +20,7 @@ use crate::term::Term;
 use crate::tokens::Tokens;
 use sqlite_items::Items;
 use std::alloc::Global;
-use thr_base::Stop;
-
-/// How many levels may be opened in a function.
-const MAX_LEVELS: u32 = 64;
+use thr_base::{MOST_LEVELS, Stop};
 
 #[tactic(auto, unfolding(crate::specs::Item::body))]
 fn body(alloc: Global, tokens: &mut Tokens<'_, '_>) -> Result<Block, Stop>
@@ -32,7 +28,7 @@ fn body(alloc: Global, tokens: &mut Tokens<'_, '_>) -> Result<Block, Stop>
 {
     Statements {
         alloc,
-        levels: MAX_LEVELS,
+        levels: MOST_LEVELS,
         stmt,
     }
     .block(tokens, Around::Nothing)
@@ -316,7 +312,7 @@ fn item(alloc: Global, tokens: &mut Tokens<'_, '_>) -> Result<Item, Stop>
     Ok(Item { from, quals, body })
 }
 
-fn items(alloc: Global, tokens: &mut Tokens<'_, '_>) -> Result<Items<Item>, Stop>
+pub fn items(alloc: Global, tokens: &mut Tokens<'_, '_>) -> Result<Items<Item>, Stop>
     ensures { Reads (many Term.End (spec.item spec.max_levels) tokens.old) result tokens.new }
 {
     let mut all = Items::new(alloc);
@@ -325,13 +321,4 @@ fn items(alloc: Global, tokens: &mut Tokens<'_, '_>) -> Result<Items<Item>, Stop
         all.push(item)?;
     }
     Ok(all)
-}
-
-#[tactic(auto, unfolding(crate::specs::Item::tree))]
-pub fn tree(alloc: Global, tokens: &mut Tokens<'_, '_>) -> Result<Tree, Stop>
-    ensures { Reads (spec.tree spec.max_levels tokens.old) result tokens.new }
-{
-    Ok(Tree {
-        items: items(alloc, tokens)?,
-    })
 }

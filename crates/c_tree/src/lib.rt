@@ -17,6 +17,7 @@ mod statements;
 mod stmt;
 mod term;
 mod tokens;
+mod views;
 
 pub use expr::{
     Conjunction, Equality, EqualityKind, EqualityMark, Expr, Name, Product, Relation, RelationKind,
@@ -27,13 +28,15 @@ pub use item::{
     Untyped,
 };
 pub use laws::{
-    expressions_are_read_exactly, refusals_are_at_the_first_wrong_token, trees_are_read_exactly,
+    expressions_are_read_exactly, places_are_those_of_first_tokens,
+    refusals_are_at_the_first_wrong_token, trees_are_read_exactly, trees_follow_their_texts,
 };
-pub use reader::parse;
+pub use reader::{parse, parse_tokens};
 pub use simple::{
     Assign, Call, Cond, Handles, Itype, Lname, Local, Nil, Nondet, Qual, QualKind, Right,
 };
 pub use stmt::{Around, Block, First, Stmt};
+pub use views::{plain_expressions_go_by_form, plain_statements_go_by_form};
 
 #[cfg(test)]
 mod tests;

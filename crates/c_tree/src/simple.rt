@@ -1,5 +1,9 @@
 //! What statements are made of, as it is written.
 
+ghost use Rattle.std.specs.Prelude.{◌≡◌};
+ghost use Rattle.c_tree.specs.Plain.{assign_place, call_place};
+ghost use Rattle.c_tree.specs.Seen.{plain_assign, plain_call};
+
 use crate::expr::{Expr, Name};
 use sqlite_items::Items;
 
@@ -110,4 +114,42 @@ pub struct Handles {
     pub first: Name,
     /// Each with the place of its comma.
     pub more: Items<(u32, Name)>,
+}
+
+impl Assign {
+    /// Where its first token stands.
+    pub fn place(&self) -> u32
+        ensures { result ≡ assign_place (plain_assign self.now) }
+    {
+        match self {
+            Assign::Set(x, _) => x.from,
+            Assign::Add(x, _) => x.from,
+            Assign::Subtract(x, _) => x.from,
+            Assign::Increment(x) => x.from,
+            Assign::Decrement(x) => x.from,
+            Assign::IncrementFirst(from, _) => *from,
+            Assign::DecrementFirst(from, _) => *from,
+        }
+    }
+}
+
+impl Call {
+    /// Where its word stands.
+    pub fn place(&self) -> u32
+        ensures { result ≡ call_place (plain_call self.now) }
+    {
+        match self {
+            Call::Assert(from, _) => *from,
+            Call::Assume(from, _) => *from,
+            Call::ReachError(from) => *from,
+            Call::Abort(from) => *from,
+            Call::Exit(from, _) => *from,
+            Call::Lock(from, _) => *from,
+            Call::Unlock(from, _) => *from,
+            Call::Destroy(from, _) => *from,
+            Call::Init(from, _, _) => *from,
+            Call::Create(from, _, _, _, _) => *from,
+            Call::Join(from, _, _) => *from,
+        }
+    }
 }

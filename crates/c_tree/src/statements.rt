@@ -7,10 +7,9 @@ ghost use Rattle.c_tree.specs.Stmt as stmt_spec;
 ghost use Rattle.c_tree.specs.NestsStmt.{NestsStmt};
 
 use crate::heads::{
-    assign_stmt, break_stmt, call_stmt, condition, first_part, last_part, local_stmt, middle_part,
-    return_stmt, word_end,
+    assign_stmt, break_stmt, call_stmt, condition, first_part, handles_stmt, last_part, local_stmt,
+    middle_part, return_stmt, word_end,
 };
-use crate::lists::handles;
 use crate::stmt::{Around, Block, Stmt};
 use crate::term::Term;
 use crate::tokens::Tokens;
@@ -148,7 +147,7 @@ impl<F: Fn(Global, &mut Tokens<'_, '_>, u32, Around) -> Result<Stmt, Stop>> Stat
             Term::Break => break_stmt(tokens, around),
             Term::Return => return_stmt(tokens),
             Term::AtomicBegin => self.atomic_stmt(tokens, around),
-            Term::HandleType => Ok(Stmt::Handles(handles(self.alloc, tokens)?)),
+            Term::HandleType => handles_stmt(self.alloc, tokens),
             _ => call_stmt(self.alloc, tokens, self.levels),
         }
     }

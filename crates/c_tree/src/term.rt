@@ -187,7 +187,7 @@ fn lookup(mut table: &[(&[u8], Term)], text: &[u8], otherwise: Term) -> Term
     otherwise
 }
 
-#[tactic(auto, unfolding(crate::specs::Term::word_term, crate::specs::Term::mark_term))]
+#[tactic(auto, unfolding(crate::specs::Term::word_term, crate::specs::Term::mark_term, crate::specs::Words::words, crate::specs::Words::refused_words, crate::specs::Words::marks))]
 pub fn term_of(token: &Token<'_>) -> Term
     ensures { result ≡ spec.term_of (view token.now) }
 {

@@ -1,14 +1,14 @@
 ghost use Rattle.std.specs.Prelude.{◌≤◌, length};
+ghost use Rattle.thr_base.specs.Limits.{text_limit};
 
 use super::*;
-use c_lex::TEXT_LIMIT;
 use std::alloc::Global;
 use std::test::*;
-use thr_base::Stop;
+use thr_base::{Stop, TEXT_LIMIT};
 
 // The code and the place of a refusal, and 0 twice where there is none.
 fn refused(alloc: Global, text: &str) -> Result<(u8, u32), Fail>
-    requires { length text.now ≤ TEXT_LIMIT }
+    requires { length text.now ≤ text_limit }
 {
     match parse(alloc, text) {
         Ok(_) => Ok((0, 0)),
@@ -48,7 +48,7 @@ fn texts(rt: HostRuntime) -> Result<(), Fail> {
         ("\nvoid *f(void *a) { do ; while (0); }", (5, 20)),
     ];
     for (text, answer) in cases {
-        assert!(rt; text.len() <= TEXT_LIMIT);
+        assert!(rt; text.len() <= TEXT_LIMIT as usize);
         assert_eq!(rt; refused(rt.alloc(), text)?, answer, "in {text}");
     }
     Ok(())
@@ -102,7 +102,7 @@ fn statements(rt: HostRuntime) -> Result<(), Fail> {
     for (stmts, answer) in cases {
         let text = format!(in rt.alloc(); "int main() {{ {stmts} }}")?;
         let text = text.as_str();
-        assert!(rt; text.len() <= TEXT_LIMIT);
+        assert!(rt; text.len() <= TEXT_LIMIT as usize);
         assert_eq!(rt; refused(rt.alloc(), text)?, answer, "in {text}");
     }
     Ok(())
@@ -133,7 +133,7 @@ fn nesting(rt: HostRuntime) -> Result<(), Fail> {
     for (start, more, count, end, answer) in cases {
         let text = repeated(rt.alloc(), start, more, count, end)?;
         let text = text.as_str();
-        assert!(rt; text.len() <= TEXT_LIMIT);
+        assert!(rt; text.len() <= TEXT_LIMIT as usize);
         assert_eq!(rt; refused(rt.alloc(), text)?, answer, "in {text}");
     }
     Ok(())

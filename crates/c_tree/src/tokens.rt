@@ -8,13 +8,7 @@ ghost use Rattle.c_tree.specs.Input.{Reads};
 use crate::term::{Term, same_term, term_of};
 use c_lex::Token;
 use std::marker::Model;
-use thr_base::{Refusal, Stop};
-
-const EXPECTED: u8 = 4;
-
-const NOT_IN_PROFILE: u8 = 5;
-
-const TOO_MANY: u8 = 11;
+use thr_base::{EXPECTED, NOT_IN_PROFILE, Refusal, Stop, TOO_MANY};
 
 #[derive(Drop)]
 pub struct Tokens<'t, 'a> {

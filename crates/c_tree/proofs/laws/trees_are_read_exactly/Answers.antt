@@ -8,4 +8,4 @@ pub returns-clause-only : goal.returns-clause-only
 returns-clause-only c = parsed_again
 
 pub returns-clause-one : goal.returns-clause-one
-returns-clause-one c = λ tokens t u is also. one_tree t u tokens is also
+returns-clause-one c = one_tree
