@@ -95,12 +95,15 @@ pub over_one : (x : ℤ) → int_div_euclid x (pos 1) ≡ x
 over_one (pos n) = ap pos (div-one n)
 over_one (negsuc n) = ap negsuc (div-one n)
 
+-- a list over one
 pub map-over_one : (xs : List ℤ) → map (λ x. int_div_euclid x (pos 1)) xs ≡ xs
 map-over_one [] = refl
 map-over_one (x ∷ xs) = ap₂ (λ y ys. y ∷ ys) (over_one x) (map-over_one xs)
 
+-- nothing more
 pub add-nothing_ℤ : (a b : ℤ) → b ≡ pos 0 → a +ℤ b ≡ a
 add-nothing_ℤ a b e = omega (arith, ints)
 
+-- nothing before
 pub nothing-add_ℤ : (a b c : ℤ) → a ≡ pos 0 → b ≡ c → a +ℤ b ≡ c
 nothing-add_ℤ a b c e f = omega (arith, ints)

@@ -9,6 +9,7 @@ AllByRecursion-map_at P f [] n x all h e = absurd (omega arith)
 AllByRecursion-map_at P f (y ∷ ys) zero x all h e = subst (λ v. P (f v)) (sym e) all.0
 AllByRecursion-map_at P f (y ∷ ys) (suc n) x all h e = AllByRecursion-map_at P f ys n x all.1 (omega arith) e
 
+-- what holds of each element of both parts holds of each of the whole
 pub AllByRecursion-append : {A : Type 0} (P : A → Type 0) (xs ys : List A) → AllByRecursion P xs → AllByRecursion P ys → AllByRecursion P (xs ++ ys)
 AllByRecursion-append P [] ys p q = q
 AllByRecursion-append P (x ∷ xs) ys p q = (p.0, AllByRecursion-append P xs ys p.1 q)
@@ -18,10 +19,12 @@ pub AllByRecursion-map : {A B : Type 0} (P : A → Type 0) (Q : B → Type 0) (f
 AllByRecursion-map P Q f h [] all = tt
 AllByRecursion-map P Q f h (x ∷ xs) all = (h x all.0, AllByRecursion-map P Q f h xs all.1)
 
+-- from one fact of each element to another
 pub AllByRecursion-weaken : {A : Type 0} (P Q : A → Type 0) → ((x : A) → P x → Q x) → (xs : List A) → AllByRecursion P xs → AllByRecursion Q xs
 AllByRecursion-weaken P Q h [] all = tt
 AllByRecursion-weaken P Q h (x ∷ xs) all = (h x all.0, AllByRecursion-weaken P Q h xs all.1)
 
+-- it holds of the element at a place
 pub AllByRecursion-at : {A : Type 0} (P : A → Type 0) (xs : List A) (n : ℕ) (d : A) → AllByRecursion P xs → n < length xs → P (get_or xs n d)
 AllByRecursion-at P [] n d all h = absurd (omega arith)
 AllByRecursion-at P (x ∷ xs) zero d all h = all.0
@@ -33,11 +36,13 @@ AllByRecursion-take P zero xs all = tt
 AllByRecursion-take P (suc n) [] all = tt
 AllByRecursion-take P (suc n) (x ∷ xs) all = (all.0, AllByRecursion-take P n xs all.1)
 
+-- and those behind them
 pub AllByRecursion-drop : {A : Type 0} (P : A → Type 0) (n : ℕ) (xs : List A) → AllByRecursion P xs → AllByRecursion P (drop n xs)
 AllByRecursion-drop P zero xs all = all
 AllByRecursion-drop P (suc n) [] all = tt
 AllByRecursion-drop P (suc n) (x ∷ xs) all = AllByRecursion-drop P n xs all.1
 
+-- and those of a range
 pub AllByRecursion-slice_range : {A : Type 0} (P : A → Type 0) (xs : List A) (from to : ℕ) → AllByRecursion P xs → AllByRecursion P (slice_range xs from to)
 AllByRecursion-slice_range P xs from to all = AllByRecursion-take P (to - from) (drop from xs) (AllByRecursion-drop P from xs all)
 
@@ -59,6 +64,7 @@ slice_range-slice_range xs from to first last o p =
     ∙ take-take (last - first) (to - from - first) (drop first (drop from xs)) fits
     ∙ ap₂ (λ n l. take n l) (sym sizes) (drop-drop first from xs)
 
+-- it holds of an element that is there
 pub AllByRecursion-slice_get : {A : Type 0} (P : A → Type 0) (xs : List A) (n : ℕ) (x : A) → AllByRecursion P xs → slice_get xs n ≡ Some x → P x
 AllByRecursion-slice_get P [] zero x all e = absurd cc
 AllByRecursion-slice_get P [] (suc n) x all e = absurd cc
@@ -70,6 +76,7 @@ pub AllByRecursion-front : {A : Type 0} (P : A → Type 0) (xs ys : List A) → 
 AllByRecursion-front P [] ys all = tt
 AllByRecursion-front P (x ∷ xs) ys all = (all.0, AllByRecursion-front P xs ys all.1)
 
+-- and its second part
 pub AllByRecursion-rest : {A : Type 0} (P : A → Type 0) (xs ys : List A) → AllByRecursion P (xs ++ ys) → AllByRecursion P ys
 AllByRecursion-rest P [] ys all = all
 AllByRecursion-rest P (x ∷ xs) ys all = AllByRecursion-rest P xs ys all.1

@@ -42,6 +42,7 @@ pub fits-true : (z : ℤ) → fits z ≡ true → Fits z
 fits-true (pos n) e = ltb-true n (2 ^ 127) e
 fits-true (negsuc n) e = ltb-true (suc n) (2 ^ 127) e
 
+-- what fits passes it
 pub true-fits : (z : ℤ) → Fits z → fits z ≡ true
 true-fits (pos n) h = lt-ltb n (2 ^ 127) h
 true-fits (negsuc n) h = lt-ltb (suc n) (2 ^ 127) h
@@ -56,6 +57,7 @@ one_fits = lit< tt
 pub minus_one_fits : Fits (negsuc 0)
 minus_one_fits = lit< tt
 
+-- an absolute value fits where the number does
 pub Fits-unsigned_abs : (z : ℤ) → Fits z → Fits (pos (unsigned_abs z))
 Fits-unsigned_abs (pos n) h = h
 Fits-unsigned_abs (negsuc n) h = h

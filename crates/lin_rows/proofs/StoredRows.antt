@@ -6,10 +6,11 @@ use Rattle.std.proofs.Math.Nat.{suc-mul, zero-mul, mul-sub, mul-le-mul_right}
 use Rattle.std.proofs.lemmas.List.{take-take, drop-drop, drop-take, take-append-le, drop-append-le, length-take-le, length-drop, length-append}
 use Rattle.thr_base.specs.Number.{Fits}
 use Rattle.lin_rows.specs.System.{System, IsRowOver, IsWellFormed, with_rows}
-use Rattle.lin_rows.specs.Stored.{stored_row, rows_of, stored_system, BoundFits, IsStored}
+use Rattle.lin_rows.specs.inside.Stored.{stored_row, rows_of, stored_system, BoundFits, IsStored}
 use Rattle.lin_rows.specs.declared.stored.RightSide.{RightSide}
 use Rattle.lin_rows.proofs.Lists.{AllByRecursion-append, AllByRecursion-take, AllByRecursion-drop, AllByRecursion-slice_range, length-slice_range}
 
+-- as many rows as sides
 pub length-rows_of : (c : ℕ) (sides : List RightSide) (xs : List ℤ) → length (rows_of c sides xs) ≡ length sides
 length-rows_of c [] xs = refl
 length-rows_of c (side ∷ sides) xs = ap suc (length-rows_of c sides (drop c xs))
@@ -21,6 +22,7 @@ row_end n c = omega (arith, suc-mul n c)
 mul_comm_ℕ : (m n : ℕ) → m * n ≡ n * m
 mul_comm_ℕ m n = omega arith
 
+-- products of a difference
 sub-mul : (m n c : ℕ) → m * c - n * c ≡ (m - n) * c
 sub-mul m n c = ap₂ (λ x y. x - y) (mul_comm_ℕ m c) (mul_comm_ℕ n c) ∙ sym (mul-sub c m n) ∙ mul_comm_ℕ c (m - n)
 
@@ -31,6 +33,7 @@ rows_of-drop c (suc n) [] xs = refl
 rows_of-drop c (suc n) (side ∷ sides) xs =
     ap (λ l. rows_of c (drop n sides) l) (ap (λ k. drop k xs) (row_end n c) ∙ sym (drop-drop (n * c) c xs)) ∙ rows_of-drop c n sides (drop c xs)
 
+-- the first rows
 rows_of-take : (c n : ℕ) (sides : List RightSide) (xs : List ℤ) → rows_of c (take n sides) (take (n * c) xs) ≡ take n (rows_of c sides xs)
 rows_of-take c zero sides xs = refl
 rows_of-take c (suc n) [] xs = refl
@@ -39,6 +42,7 @@ rows_of-take c (suc n) (side ∷ sides) xs =
     let rest = ap (λ k. drop c (take k xs)) (row_end n c) ∙ drop-take c (n * c) xs in
     ap₂ (λ l r. stored_row l side ∷ r) front (ap (λ l. rows_of c (take n sides) l) rest ∙ rows_of-take c n sides (drop c xs))
 
+-- the rows of a range have its part of the numbers
 pub rows_of-slice_range : (c from to : ℕ) (sides : List RightSide) (xs : List ℤ)
     → rows_of c (slice_range sides from to) (slice_range xs (from * c) (to * c)) ≡ slice_range (rows_of c sides xs) from to
 rows_of-slice_range c from to sides xs =
@@ -70,6 +74,7 @@ none_left : (xs : List ℤ) → length xs ≡ 0 → xs ≡ []
 none_left [] e = refl
 none_left (x ∷ xs) e = absurd (omega arith)
 
+-- rows behind rows
 pub rows_of-append : (c : ℕ) (sides more : List RightSide) (xs ys : List ℤ) → length xs ≡ length sides * c
     → rows_of c (sides ++ more) (xs ++ ys) ≡ rows_of c sides xs ++ rows_of c more ys
 rows_of-append c [] more xs ys e = ap (λ l. rows_of c more (l ++ ys)) (none_left xs (e ∙ zero-mul c))
@@ -92,6 +97,7 @@ all_over c (side ∷ sides) xs e fit bounds =
     } in
     (over, all_over c sides (drop c xs) (omega (arith, length-drop c xs)) (AllByRecursion-drop Fits c xs fit) bounds.1)
 
+-- they are a system that a program holds
 pub IsWellFormed-stored : (c : ℕ) (sides : List RightSide) (xs : List ℤ) → c < 2 ^ 32 → IsStored c sides xs → IsWellFormed (stored_system c sides xs)
 IsWellFormed-stored c sides xs columns stored = record {
   columns = columns;
@@ -99,6 +105,7 @@ IsWellFormed-stored c sides xs columns stored = record {
   rows = all_over c sides xs stored.size stored.numbers_fit stored.bounds_fit;
 }
 
+-- a range of what is held is held
 pub IsStored-slice_range : (c from to : ℕ) (sides : List RightSide) (xs : List ℤ) → from ≤ to → to ≤ length sides → IsStored c sides xs
     → IsStored c (slice_range sides from to) (slice_range xs (from * c) (to * c))
 IsStored-slice_range c from to sides xs o p stored =
@@ -114,9 +121,11 @@ IsStored-slice_range c from to sides xs o p stored =
       bounds_fit = AllByRecursion-slice_range BoundFits sides from to stored.bounds_fit;
     }
 
+-- products of a sum
 add-mul : (m n c : ℕ) → (m + n) * c ≡ m * c + n * c
 add-mul m n c = omega arith
 
+-- both parts together are held
 pub IsStored-append : (c : ℕ) (sides more : List RightSide) (xs ys : List ℤ) → length sides + length more < 2 ^ 32 - 1 → IsStored c sides xs → IsStored c more ys
     → IsStored c (sides ++ more) (xs ++ ys)
 IsStored-append c sides more xs ys few stored further =
@@ -127,6 +136,7 @@ IsStored-append c sides more xs ys few stored further =
       bounds_fit = AllByRecursion-append BoundFits sides more stored.bounds_fit further.bounds_fit;
     }
 
+-- the same, by the numbers of the part
 pub IsStored-part : (c from to : ℕ) (sides : List RightSide) (xs part : List ℤ) → from ≤ to → to ≤ length sides → part ≡ slice_range xs (from * c) (to * c) → IsStored c sides xs
     → IsStored c (slice_range sides from to) part
 IsStored-part c from to sides xs part o p e stored =
@@ -141,6 +151,7 @@ IsStored-one c side xs size fit bound = record {
   bounds_fit = (bound, tt);
 }
 
+-- one row has all numbers
 pub rows_of-one : (c : ℕ) (side : RightSide) (xs : List ℤ) → length xs ≡ c → rows_of c (side ∷ []) xs ≡ stored_row xs side ∷ []
 rows_of-one c side xs e = ap (λ l. stored_row l side ∷ []) (take_all c xs (omega arith))
 
@@ -148,6 +159,7 @@ rows_of-one c side xs e = ap (λ l. stored_row l side ∷ []) (take_all c xs (om
 length-stored : (c : ℕ) (sides : List RightSide) (xs : List ℤ) (system : System) → system ≡ stored_system c sides xs → length system.rows ≡ length sides
 length-stored c sides xs system e = ap (λ s. length s.rows) e ∙ length-rows_of c sides xs
 
+-- what is held with more behind it is held
 pub IsStored-appended : (c : ℕ) (sides more all : List RightSide) (xs ys whole : List ℤ) (system : System) → system ≡ stored_system c sides xs
     → IsStored c sides xs → IsStored system.columns more ys → length system.rows + length more < 2 ^ 32 - 1 → all ≡ sides ++ more → whole ≡ xs ++ ys → IsStored c all whole
 IsStored-appended c sides more all xs ys whole system e stored further few p q =
@@ -156,6 +168,7 @@ IsStored-appended c sides more all xs ys whole system e stored further few p q =
     let both = IsStored-append c sides more xs ys (omega arith) stored (subst (λ k. IsStored k more ys) columns further) in
     subst (λ l. IsStored c l whole) (sym p) (subst (IsStored c (sides ++ more)) (sym q) both)
 
+-- and it is the system with more rows
 pub stored_system-appended : (c : ℕ) (sides more all : List RightSide) (xs ys whole : List ℤ) (system : System) → system ≡ stored_system c sides xs
     → IsStored c sides xs → all ≡ sides ++ more → whole ≡ xs ++ ys → stored_system c all whole ≡ with_rows system (rows_of system.columns more ys)
 stored_system-appended c sides more all xs ys whole system e stored p q =

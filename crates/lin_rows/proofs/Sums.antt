@@ -22,6 +22,7 @@ summed-some sum t more e = only (fits t) (fits (sum +ℤ t)) refl e
 abbrev from : {A : Type 0} → (List ℤ → List ℤ → A) → List ℤ → List ℤ → ℕ → A
 from f xs ys n = f (drop n xs) (drop n ys)
 
+-- what is left from a place on
 from-cons : {A : Type 0} (f : List ℤ → List ℤ → A) (xs ys : List ℤ) (n : ℕ) → n < length xs → length xs ≡ length ys
     → from f xs ys n ≡ f (get_or xs n (pos 0) ∷ drop (n + 1) xs) (get_or ys n (pos 0) ∷ drop (n + 1) ys)
 from-cons f xs ys n h e =
@@ -78,9 +79,11 @@ sum_in_order-given xs ys sum e = by (sum_overflow xs ys) e
 pub overflow-end : (xs ys : List ℤ) (sum : ℤ) (n : ℕ) → length xs ≤ n → sum_overflow xs ys ≡ option_map (λ i. n + i) (overflow_from sum (drop n xs) (drop n ys)) → sum_overflow xs ys ≡ None
 overflow-end xs ys sum n h e = e ∙ ap (λ l. option_map (λ i. n + i) (overflow_from sum l (drop n ys))) (drop_all n xs h)
 
+-- the sum up to the end is the whole
 pub product_of-end : (xs ys : List ℤ) (sum : ℤ) (n : ℕ) → length xs ≤ n → product_of xs ys ≡ sum +ℤ product_of (drop n xs) (drop n ys) → product_of xs ys ≡ sum
 product_of-end xs ys sum n h e = e ∙ ap (λ l. sum +ℤ product_of l (drop n ys)) (drop_all n xs h) ∙ add-zero_ℤ sum
 
+-- so it is given
 pub sum_in_order-end : (xs ys : List ℤ) (sum : ℤ) (n : ℕ) → length xs ≤ n → sum_overflow xs ys ≡ option_map (λ i. n + i) (overflow_from sum (drop n xs) (drop n ys))
     → product_of xs ys ≡ sum +ℤ product_of (drop n xs) (drop n ys) → sum_in_order xs ys ≡ Some sum
 sum_in_order-end xs ys sum n h o p = sum_in_order-some xs ys (overflow-end xs ys sum n h o) ∙ ap (λ (z : ℤ). Some z) (product_of-end xs ys sum n h p)

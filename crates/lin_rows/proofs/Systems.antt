@@ -20,5 +20,6 @@ part_of-whole system =
 pub length-with_row : (now more : System) (row : Row) → more ≡ with_row now row → length more.rows ≡ length now.rows + 1
 length-with_row now more row is = ap (λ system. length system.rows) is ∙ length-append now.rows (row ∷ [])
 
+-- more rows
 pub length-with_rows : (now more : System) (rows : List Row) → more ≡ with_rows now rows → length more.rows ≡ length now.rows + length rows
 length-with_rows now more rows is = ap (λ system. length system.rows) is ∙ length-append now.rows rows

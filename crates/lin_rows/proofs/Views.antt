@@ -7,7 +7,7 @@ use Rattle.std.proofs.lemmas.Option.{slice_get-get_or}
 use Rattle.thr_base.specs.Number.{Fits}
 use Rattle.lin_rows.specs.Row.{Row}
 use Rattle.lin_rows.specs.System.{IsRowOver, IsWellFormed, part_of}
-use Rattle.lin_rows.specs.Stored.{stored_row, rows_of, stored_system, BoundFits, IsStored}
+use Rattle.lin_rows.specs.inside.Stored.{stored_row, rows_of, stored_system, BoundFits, IsStored}
 use Rattle.lin_rows.specs.View.{row_of, system_of}
 use Rattle.lin_rows.specs.declared.stored.RightSide.{RightSide}
 use Rattle.lin_rows.specs.declared.row.RowView.{RowView}
@@ -25,14 +25,17 @@ IsStored-view view = record {
   bounds_fit = view.bounds_fit;
 }
 
+-- a view is of a system that a program holds
 pub IsWellFormed-system_of : (view : RowsView) → IsWellFormed (system_of view)
 unfolding system_of
 IsWellFormed-system_of view = IsWellFormed-stored view.columns view.sides.now view.numbers.now view.columns_fit (IsStored-view view)
 
+-- as many rows as sides
 pub length-system_of : (view : RowsView) → length (system_of view).rows ≡ length view.sides.now
 unfolding system_of
 length-system_of view = length-rows_of view.columns view.sides.now view.numbers.now
 
+-- its columns are the number that it keeps
 pub columns-system_of : (view : RowsView) → view.columns ≡ (system_of view).columns
 unfolding system_of
 columns-system_of view = refl
@@ -57,6 +60,7 @@ row_at view n d row h equal coefficients bound =
     parts : (row : RowView) (side : RightSide) (xs : List ℤ) → row.equal ≡ side.equal → row.coefficients.now ≡ xs → row.bound ≡ side.bound → Some (stored_row xs side) ≡ Some (row_of row)
     parts row side xs p q r = cc
 
+-- each of its rows is over its columns
 pub row_over : (view : RowsView) (n : ℕ) (row : Row) → slice_get (system_of view).rows n ≡ Some row → IsRowOver (system_of view).columns row
 row_over view n row is = AllByRecursion-slice_get (IsRowOver (system_of view).columns) (system_of view).rows n row (IsWellFormed-system_of view).rows is
 

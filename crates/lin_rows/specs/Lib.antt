@@ -5,5 +5,5 @@ pub mod Atom
 pub mod Exact
 pub mod Sum
 pub mod Normal
-pub mod Stored
 pub mod View
+pub mod inside

@@ -1,7 +1,7 @@
 ghost use Rattle.std.specs.Prelude.{◌≡◌, ◌*◌, ◌-◌, ◌^◌, ◌<◌, length};
 ghost use Rattle.std.specs.List.{AllByRecursion};
 ghost use Rattle.thr_base.specs.Number.{Fits};
-ghost use Rattle.lin_rows.specs.Stored.{BoundFits, AllFit-prop, AllBoundsFit-prop};
+ghost use Rattle.lin_rows.specs.inside.Stored.{BoundFits, AllFit-prop, AllBoundsFit-prop};
 
 use crate::row::RowView;
 use crate::stored::RightSide;

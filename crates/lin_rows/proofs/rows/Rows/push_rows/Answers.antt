@@ -1,5 +1,5 @@
 use Rattle.std.proofs.Common.{◌∙◌, subst, arith}
-use Rattle.lin_rows.specs.Stored.{IsStored}
+use Rattle.lin_rows.specs.inside.Stored.{IsStored}
 use Rattle.lin_rows.proofs.Views.{IsStored-view, length-system_of, columns-system_of}
 use Rattle.lin_rows.proofs.rows.Rows.push_rows.Goals as goal
 

@@ -1,5 +1,5 @@
 -- The rows that a program holds: what stands behind the coefficients of each, and the coefficients of all, one row behind the
--- other. No public clause cites this file.
+-- other.
 use Rattle.std.specs.Prelude.{◌≡◌, ◌<◌, ◌-◌, ◌*◌, ◌^◌, ℕ, ℤ, pos, negsuc, List, [], ◌∷◌, length, take, drop}
 use Rattle.std.specs.List.{AllByRecursion}
 use Rattle.std.specs.Coded.{×_prop, Unit-prop, le_prop}

@@ -1,0 +1,4 @@
+pub mod Prefixes
+pub mod Kept
+pub mod Steps
+pub mod Appended

@@ -1,0 +1,10 @@
+use std::collections::LinkedList;
+
+/// What a seat at the table knows. No value of it is made.
+pub struct View<E> {
+    /// The history that its owner has seen.
+    pub seen: LinkedList<E>,
+    /// The shorter history that a seat which it took in had seen.
+    pub told: LinkedList<E>,
+    pub has_turn: bool,
+}
