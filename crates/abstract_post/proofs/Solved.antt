@@ -3,7 +3,7 @@ use Rattle.std.proofs.Common.{◌≡◌, ℕ, zero, suc, ◌+◌, ◌-◌, ◌<�
 use Rattle.std.specs.Prelude.{option_map}
 use Rattle.std.specs.List.{slice_get, AllByRecursion, Contains}
 use Rattle.std.proofs.lemmas.Option.{slice_get_within}
-use Rattle.std.proofs.Math.Pow.{pow-le}
+use Rattle.std.proofs.Math.Pow.{pow_mono}
 use Rattle.thr_base.specs.Held.{positions, ArePositionsOf, WordsAreBelow}
 use Rattle.lin_rows.specs.Row.{Row}
 use Rattle.lin_rows.specs.System.{System}
@@ -116,7 +116,7 @@ held-entailed : WordsAreBelow → (given : Case) (atoms : List Row) (held k : �
     → Contains (positions held) k → EntailsAt given atoms k
 held-entailed below given atoms held k few are is there =
     let found = (is.exact k).0 there in
-    let wide : 2 ^ length atoms ≤ 2 ^ 128 = pow-le few in
+    let wide : 2 ^ length atoms ≤ 2 ^ 128 = pow_mono few in
     let less : k ≤ length atoms = (below held (length atoms) (omega (arith, are.no_more, wide)) few).0 are.no_more k there in
     let (atom, at) = numbered-there atoms k found.0 less in
     (atom, at, (are.each k atom less at).held_is.0 found.2)

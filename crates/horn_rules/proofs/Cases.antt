@@ -1,16 +1,15 @@
 -- An instance comes to one case at most, and how a case places the atoms of its home.
-use Rattle.std.proofs.Common.{◌≡◌, ◌≢◌, ℕ, ◌+◌, ◌-◌, ◌≤◌, ◌++◌, List, length, Option, Some, refl, sym, ap, ap₂, subst, ◌∙◌, arith}
+use Rattle.std.proofs.Common.{◌≡◌, ℕ, ◌+◌, ◌-◌, length, Some, refl, sym, ap, ap₂, subst, ◌∙◌, arith}
 use Rattle.std.proofs.lemmas.List.{append-nil}
 use Rattle.lin_rows.specs.Row.{Row}
 use Rattle.transition_formula.specs.Program.{Program, Thread, Edge, IsThreadOf, IsEdgeOf, numbered}
-use Rattle.horn_rules.specs.Home.{Home, State, Env, home_width}
+use Rattle.horn_rules.specs.Home.{Home, State, Env}
 use Rattle.horn_rules.specs.Fact.{Statement}
 use Rattle.horn_rules.specs.Instance.{Instance, Init, Own, Guar, Env as Environment, Inter, first_of, second_of, map_instance}
-use Rattle.horn_rules.specs.Case.{Case, IsCaseOf, init, own, guar, env, inter, init_case, own_case, guar_case, env_case, inter_case, moved, placed_at, in_front}
-use Rattle.horn_rules.specs.Job.{ComesTo, premise_says}
+use Rattle.horn_rules.specs.Case.{Case, IsCaseOf, init, own, guar, env, inter, init_case, own_case, guar_case, env_case, inter_case, moved, placed_at}
+use Rattle.horn_rules.specs.Job.{premise_says}
 use Rattle.horn_rules.specs.Laws.{CasesAreUnique, JobsHaveOneCase, AtomsArePlaced}
 use Rattle.horn_rules.specs.declared.job.Premise.{Premise}
-use Rattle.horn_rules.specs.declared.job.Job.{Job}
 
 -- ---- what a case is, kind by kind
 

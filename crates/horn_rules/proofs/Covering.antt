@@ -1,6 +1,6 @@
 -- What is closed under a rule covers all runs.
-use Rattle.std.proofs.Common.{◌≡◌, ◌≢◌, ℕ, ℤ, pos, List, [], ◌∷◌, ◌++◌, length, Some, refl, sym, ap, subst, ◌∙◌, inl, inr}
-use Rattle.std.specs.List.{slice_get, AllByRecursion, Contains}
+use Rattle.std.proofs.Common.{◌≡◌, ◌≢◌, ℕ, ℤ, List, [], ◌++◌, length, sym, subst, ◌∙◌, inl, inr}
+use Rattle.std.specs.List.{Contains}
 use Rattle.std.proofs.lemmas.Bool.Decides.{eqb_tells}
 use Rattle.thr_base.specs.declared.names.RuleName.{RuleName}
 use Rattle.thr_base.specs.declared.names.RuleName.TheVariants.{Rg, Og}
@@ -8,11 +8,10 @@ use Rattle.transition_formula.specs.Program.{Program, Thread, Edge, IsThreadOf, 
 use Rattle.transition_formula.specs.Step.{Steps, IsInitial}
 use Rattle.transition_formula.specs.Run.{Reaches, start, step}
 use Rattle.transition_formula.specs.Laws.{FailingRunsReach}
-use Rattle.horn_rules.specs.Home.{State}
-use Rattle.horn_rules.specs.Fact.{Sets, Fact, Statement, AreSetsOf, IsStatementOf, statement_of}
-use Rattle.horn_rules.specs.Instance.{Instance, HasKind, premises_of, map_instance, Init, Own, Guar, Env as Environment, Inter}
-use Rattle.horn_rules.specs.Case.{Case, IsCaseOf, init_case, own_case, guar_case, env_case, inter_case, init, own, guar, env, inter}
-use Rattle.horn_rules.specs.Least.{Least, LeastSays}
+use Rattle.horn_rules.specs.Fact.{Sets, Statement, AreSetsOf, IsStatementOf}
+use Rattle.horn_rules.specs.Instance.{HasKind, Init, Own, Guar, Env as Environment, Inter}
+use Rattle.horn_rules.specs.Case.{init_case, own_case, guar_case, env_case, inter_case, init, own, guar, env, inter}
+use Rattle.horn_rules.specs.Least.{LeastSays}
 use Rattle.horn_rules.specs.Steps.{Describes}
 use Rattle.horn_rules.specs.Cover.{IsClosed, Covers, HasNoneFailing, NeverFails, NoRunFails, ClosedListsCover, ClosedLeastCovers, CoveredListsDoNotFail, CoveredLeastDoesNotFail, CoveredListsAreSafe, CoveredLeastIsSafe}
 use Rattle.horn_rules.proofs.Lists.{all-contained}

@@ -1,5 +1,5 @@
 -- What an instance over facts of the least set gives is in it.
-use Rattle.std.proofs.Common.{◌≡◌, ℕ, zero, suc, List, [], ◌∷◌, ◌++◌, Some, refl, sym, ap, ap₂, subst, ◌∙◌}
+use Rattle.std.proofs.Common.{◌≡◌, ℕ, zero, suc, List, [], ◌∷◌, ◌++◌, Some, refl, sym, ap, ap₂, subst, ◌∙◌, inl, inr}
 use Rattle.std.specs.List.{AllByRecursion, Contains}
 use Rattle.std.proofs.lemmas.List.Elements.{Contains-append_left, Contains-append_right}
 use Rattle.thr_base.specs.declared.names.RuleName.{RuleName}
@@ -14,8 +14,8 @@ use Rattle.horn_rules.specs.Case.{Case, IsCaseOf}
 use Rattle.horn_rules.specs.Post.{IsFactOf}
 use Rattle.horn_rules.specs.Least.{IsDerivation, Least, LeastSays}
 use Rattle.horn_rules.specs.Cover.{LeastIsClosed}
-use Rattle.horn_rules.specs.Laws.{EachInstanceGivesItsHome, bare_at}
-use Rattle.horn_rules.proofs.Lists.{Contains-first, contains-nothing}
+use Rattle.horn_rules.specs.Laws.{EachInstanceGivesItsHome, LeastHasWhatItGives, HasWhatItGives, LeastIsSmallest, bare_at}
+use Rattle.horn_rules.proofs.Lists.{Contains-first, first-or-later, contains-nothing}
 use Rattle.horn_rules.proofs.GivenAtoms.{facts-given}
 
 derivation-append : (program : Program) (rule : RuleName) (sets : Sets) (xs ys : List Fact) → IsDerivation program rule sets xs → IsDerivation program rule sets ys → IsDerivation program rule sets (xs ++ ys)
@@ -45,15 +45,28 @@ together program rule sets (f ∷ fs) all =
     )
 
 -- so the least set has what its instances give
-pub given-least : (program : Program) (rule : RuleName) (sets : Sets) (instance : Instance Fact) (given : Case) (fact : Fact)
-    → HasKind rule instance → IsCaseOf program (map_instance (statement_of sets) instance) given → AllByRecursion (Least program rule sets) (premises_of instance) → IsFactOf sets given fact
-    → Least program rule sets fact
+pub given-least : LeastHasWhatItGives
 given-least program rule sets instance given fact has is all posted =
     let (facts, derived, stand) = together program rule sets (premises_of instance) all in (
       fact ∷ facts,
       (record { instance = instance; given = given; has_kind = has; is_case = is; stand_earlier = stand; is_fact = posted }, derived),
       Contains-first fact facts,
     )
+
+-- a list that has what its instances give has each derivation
+derivation-within : (program : Program) (rule : RuleName) (sets : Sets) (facts derived : List Fact) → HasWhatItGives program rule sets facts → IsDerivation program rule sets derived
+    → (fact : Fact) → Contains derived fact → Contains facts fact
+derivation-within program rule sets facts [] has all fact there = absurd (contains-nothing fact there)
+derivation-within program rule sets facts (x ∷ earlier) has all fact there = elim (first-or-later x fact earlier there) [
+  | inl same ↦
+      let come = all.0 in
+      let stand = AllByRecursion-weaken (Contains earlier) (Contains facts) (λ f c. derivation-within program rule sets facts earlier has all.1 f c) (premises_of come.instance) come.stand_earlier in
+      subst (Contains facts) same (has come.instance come.given x come.has_kind come.is_case stand come.is_fact)
+  | inr later ↦ derivation-within program rule sets facts earlier has all.1 fact later
+]
+
+pub least-smallest : LeastIsSmallest
+least-smallest program rule sets facts fact has (derived, all, there) = derivation-within program rule sets facts derived has all fact there
 
 -- ---- instances over what facts of the least set say
 

@@ -8,7 +8,7 @@ use Rattle.std.proofs.lemmas.Option.{slice_get-get_or, get_or_from_slice_get}
 use Rattle.std.proofs.lemmas.Bool.Decides.{eqb_tells}
 use Rattle.std.proofs.lemmas.Bool.{ne_eqb}
 use Rattle.lin_rows.specs.Row.{Row, Meets, product_of}
-use Rattle.transition_formula.specs.Program.{Form, Program, Thread, Edge, IsThreadOf, IsEdgeOf, IsProgram, numbered}
+use Rattle.transition_formula.specs.Program.{Form, Program, Thread, Edge, IsThreadOf, IsEdgeOf, IsProgram}
 use Rattle.transition_formula.specs.Rows.{zeros, unit}
 use Rattle.transition_formula.specs.Step.{Steps, assigned}
 use Rattle.transition_formula.proofs.ProductLemmas.{product_of-append, product_of-zeros, product_of-one}

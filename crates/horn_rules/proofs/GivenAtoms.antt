@@ -1,6 +1,6 @@
 -- The atoms of what an instance gives hold at the whole points of its system.
 use Rattle.std.proofs.Common.{◌≡◌, ℕ, ℤ, List, [], ◌∷◌, length, Some, sym, ap, subst, ◌∙◌}
-use Rattle.std.specs.List.{AllByRecursion, Contains}
+use Rattle.std.specs.List.{AllByRecursion}
 use Rattle.lin_rows.specs.Row.{Row, Meets}
 use Rattle.lin_rows.specs.Atom.{IsAtom}
 use Rattle.lin_rows.specs.System.{IsPoint}
@@ -9,10 +9,10 @@ use Rattle.farkas_cert.proofs.Refutations.{points-meet-entailed}
 use Rattle.transition_formula.specs.Program.{Program, numbered}
 use Rattle.transition_formula.proofs.Lookups.{AllByRecursion-numbered}
 use Rattle.horn_rules.specs.Home.{Home}
-use Rattle.horn_rules.specs.Fact.{Sets, Fact, Statement, IsAtomOf, IsSetOf, AreSetsOf, IsStatementOf, statement_of}
+use Rattle.horn_rules.specs.Fact.{Sets, Fact, Statement, IsAtomOf, AreSetsOf, IsStatementOf, statement_of}
 use Rattle.horn_rules.specs.Instance.{Instance}
 use Rattle.horn_rules.specs.Case.{Case, IsCaseOf, init, own, guar, env, inter}
-use Rattle.horn_rules.specs.Post.{EntailsAt, IsGiven}
+use Rattle.horn_rules.specs.Post.{EntailsAt}
 use Rattle.horn_rules.specs.Laws.{FactsAreGiven, GivenAtomsHold}
 use Rattle.horn_rules.proofs.Lists.{all-picked}
 use Rattle.horn_rules.proofs.WiderAtoms.{IsAtom-widened, IsAtom-moved}

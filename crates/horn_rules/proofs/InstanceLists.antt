@@ -1,10 +1,9 @@
 -- The list of instances over facts has exactly those that come to a case, each once.
-use Rattle.std.proofs.Common.{◌≡◌, ◌≢◌, ◌⊎◌, ℕ, zero, suc, ◌-◌, ◌<◌, Bool, true, false, List, [], ◌∷◌, ◌++◌, map, length, Option, Some, None, refl, sym, ap, ap₂, subst, ◌∙◌, inl, inr, arith}
+use Rattle.std.proofs.Common.{◌≡◌, ◌≢◌, ℕ, zero, suc, Bool, true, false, List, [], ◌∷◌, map, length, Option, Some, None, refl, sym, ap, ap₂, subst, ◌∙◌, inl, inr, arith}
 use Rattle.std.specs.Prelude.{◌==◌, not, if◌then◌else◌}
 use Rattle.std.specs.List.{AllByRecursion, Contains}
 use Rattle.std.proofs.lemmas.Bool.Decides.{eqb_tells}
 use Rattle.std.proofs.lemmas.List.FromFn.{length-map-range_with_len}
-use Rattle.std.proofs.lemmas.List.Elements.{Contains-append_left, Contains-append_right}
 use Rattle.thr_base.specs.declared.names.RuleName.{RuleName}
 use Rattle.thr_base.specs.declared.names.RuleName.TheVariants.{Rg, Og}
 use Rattle.transition_formula.specs.Program.{Program, Thread, Edge, IsThreadOf, IsEdgeOf, numbered}
@@ -12,12 +11,11 @@ use Rattle.transition_formula.proofs.Lookups.{AllByRecursion-numbered}
 use Rattle.horn_rules.specs.Home.{Home, State, Env, IsHomeOf, by_number}
 use Rattle.horn_rules.specs.Fact.{Statement}
 use Rattle.horn_rules.specs.Instance.{Instance, Init, Own, Guar, Env as Environment, Inter, HasKind, map_instance}
-use Rattle.horn_rules.specs.Case.{Case, IsCaseOf, init, own, guar, env, inter, init_case, own_case, guar_case, env_case, inter_case}
-use Rattle.horn_rules.specs.Instances.{edges_of, number_from, edges_from, tells_another, of_another, env_instance, inter_instances, init_instances, own_instances, guar_instances, env_instances, all_inter_instances, instances_over, IsResolved}
-use Rattle.horn_rules.specs.Laws.{IsInstanceOver, AreInstancesOver, InstancesAreExact}
-use Rattle.horn_rules.specs.inside.Kinds.{HasPlace}
+use Rattle.horn_rules.specs.Case.{init, own, guar, env, inter, init_case, own_case, guar_case, env_case, inter_case}
+use Rattle.horn_rules.specs.Instances.{edges_of, number_from, edges_from, tells_another, of_another, env_instance, inter_instances, init_instances, own_instances, guar_instances, env_instances, all_inter_instances}
+use Rattle.horn_rules.specs.Laws.{IsInstanceOver}
 use Rattle.horn_rules.proofs.Lists.{Contains-first, first-or-later, contains-nothing, Contains-map, Contains-unmap}
-use Rattle.horn_rules.proofs.ByNumber.{Contains-append, numbered-there, numbered-from, IsOnce, once-pairs, once-append, once-map, once-by_number}
+use Rattle.horn_rules.proofs.ByNumber.{numbered-there, numbered-from, IsOnce, once-by_number}
 use Rattle.horn_rules.proofs.Numbers.{state_home-place, env_home-place}
 use Rattle.horn_rules.proofs.Places.{slice_get-there}
 
@@ -141,6 +139,12 @@ apart-is (State k l) (State i m) e = record { k = k; l = l; i = i; m = m; apart 
 apart-is (State k l) (Env i g) e = cc
 apart-is (Env k l) other e = cc
 
+other-number : (k i j : ℕ) → k ≢ i → i ≡ j → k ≢ j
+other-number k i j apart same is = apart (is ∙ sym same)
+
+same-number : (home : Home) (i m j n : ℕ) → home ≡ State i m → home ≡ State j n → i ≡ j
+same-number home i m j n one other = let both : State i m ≡ State j n = sym one ∙ other in cc
+
 pub is-apart : (home other : Home) (k l i m : ℕ) → k ≢ i → home ≡ State k l → other ≡ State i m → of_another home other ≡ true
 is-apart home other k l i m apart one two = rw (one, two) (eq-not k i apart)
 
@@ -223,14 +227,13 @@ from-inter program facts y homes there =
     let are = apart-is one.x.home two.x.home differ in
     let leads = leads-there program two.x.home e edge_listed in
     let place = state_home-place program are.k are.l (has-home program facts one.n one.x (State are.k are.l) homes one.x_is are.home_is) in
-    let both : State are.i are.m ≡ State leads.i leads.edge.from = sym are.other_is ∙ leads.home_is in
-    let number : are.i ≡ leads.i = cc in
+    let number = same-number two.x.home are.i are.m leads.i leads.edge.from are.other_is leads.home_is in
     subst (IsInstanceOver program Og facts) same (record {
       instance = Inter one.x two.x e;
       given = inter_case program are.k are.l place.thread leads.thread leads.edge one.x two.x;
       has_kind = tt;
       resolved = ap₂ (λ a b. Inter a b e) one.x_is two.x_is;
-      is_case = inter are.k are.l leads.i e place.thread leads.thread leads.edge one.x two.x (λ k_is. are.apart (k_is ∙ sym number)) place.thread_is leads.edge_is are.home_is leads.home_is;
+      is_case = inter are.k are.l leads.i e place.thread leads.thread leads.edge one.x two.x (other-number are.k are.i leads.i are.apart number) place.thread_is leads.edge_is are.home_is leads.home_is;
     })
 
 -- ---- and to the list: what the numbers are

@@ -1,10 +1,10 @@
 -- All kinds of instances together.
-use Rattle.std.proofs.Common.{◌≡◌, ◌≢◌, ℕ, List, [], ◌∷◌, ◌++◌, map, refl, sym, ap, subst, ◌∙◌, inl, inr, arith}
+use Rattle.std.proofs.Common.{◌≡◌, ◌≢◌, ℕ, List, [], ◌∷◌, ◌++◌, map, refl, sym, ap, subst, inl, inr, arith}
 use Rattle.std.specs.List.{Contains}
 use Rattle.std.proofs.lemmas.List.Elements.{Contains-append_left, Contains-append_right}
 use Rattle.thr_base.specs.declared.names.RuleName.{RuleName}
 use Rattle.thr_base.specs.declared.names.RuleName.TheVariants.{Rg, Og}
-use Rattle.transition_formula.specs.Program.{Program, Thread, numbered}
+use Rattle.transition_formula.specs.Program.{Program, Thread}
 use Rattle.horn_rules.specs.Home.{by_number}
 use Rattle.horn_rules.specs.Fact.{Statement}
 use Rattle.horn_rules.specs.Instance.{Instance, Init, Own, Guar, Env as Environment, Inter, HasKind}

@@ -1,18 +1,18 @@
 -- Jobs that fit, by the parts that the code looks at.
-use Rattle.std.proofs.Common.{◌≡◌, ℕ, List, Option, Some, None, Result, Ok, Err, IfOk, refl, sym, ap, subst, ◌∙◌}
+use Rattle.std.proofs.Common.{◌≡◌, ℕ, Option, Some, None, sym, ap, subst, ◌∙◌}
 use Rattle.std.specs.Prelude.{IsSome, unwrap_or}
 use Rattle.std.specs.List.{AllByRecursion}
 use Rattle.thr_base.specs.declared.names.Instance.{Instance as StoredInstance}
 use Rattle.thr_base.specs.declared.names.Instance.TheVariants as stored
 use Rattle.lin_rows.specs.System.{System}
-use Rattle.transition_formula.specs.Program.{Program, IsThreadOf, IsEdgeOf, numbered}
+use Rattle.transition_formula.specs.Program.{Program, IsEdgeOf, numbered}
 use Rattle.horn_rules.specs.declared.job.Premise.{Premise}
 use Rattle.horn_rules.specs.declared.job.Job.{Job}
 use Rattle.horn_rules.specs.Home.{Home, State, Env, homes}
-use Rattle.horn_rules.specs.Fact.{Statement, IsSetOf}
+use Rattle.horn_rules.specs.Fact.{IsSetOf}
 use Rattle.horn_rules.specs.Instance.{Instance, Init, Own, Guar, Env as Environment, Inter, first_of, second_of, premises_of, map_instance}
-use Rattle.horn_rules.specs.Case.{Case, IsCaseOf}
-use Rattle.horn_rules.specs.Stored.{home_numbered, instance_of}
+use Rattle.horn_rules.specs.Case.{Case}
+use Rattle.horn_rules.specs.Stored.{instance_of}
 use Rattle.horn_rules.specs.Job.{IsPremise, premise_says, ComesTo, IsJob}
 use Rattle.horn_rules.specs.inside.JobRows.{IsPremiseAt, IsAtSource, IsAtLocation, IsAtEdge, AreItsPremises, AreRowsOfKind}
 use Rattle.horn_rules.proofs.Cases.{IsStep, IsStay, IsTold, Shape, shape}

@@ -22,3 +22,4 @@ pub mod InstancesExact
 pub mod Order
 pub mod Tables
 pub mod PlacedAtoms
+pub mod HomesThere

@@ -2,14 +2,12 @@
 use Rattle.std.proofs.Common.{◌≡◌, ◌≢◌, ℕ, ℤ, pos, List, [], ◌++◌, length, Some, sym, ap, subst, ◌∙◌}
 use Rattle.std.specs.List.{AllByRecursion}
 use Rattle.lin_rows.specs.Row.{Meets}
-use Rattle.lin_rows.specs.System.{IsPoint}
 use Rattle.transition_formula.specs.Program.{Program, Thread, Edge, IsThreadOf, IsEdgeOf, IsProgram, numbered}
 use Rattle.transition_formula.specs.Step.{Steps}
 use Rattle.horn_rules.specs.Home.{State, home_width}
 use Rattle.horn_rules.specs.Fact.{Statement, IsStatementOf}
-use Rattle.horn_rules.specs.Instance.{Instance, Env as Environment, Inter}
-use Rattle.horn_rules.specs.Case.{Case, IsCaseOf, moved, env_case, inter_case, env, inter}
-use Rattle.horn_rules.specs.Post.{IsGiven}
+use Rattle.horn_rules.specs.Instance.{Env as Environment, Inter}
+use Rattle.horn_rules.specs.Case.{moved, env_case, inter_case, env, inter}
 use Rattle.horn_rules.specs.Steps.{Describes, ToldStepsAreDescribed, InterferingStepsAreDescribed}
 use Rattle.horn_rules.proofs.GivenAtoms.{given-atoms-hold}
 use Rattle.horn_rules.proofs.Described.{moved-meet, described-at, stands-at, other-stays}

@@ -1,15 +1,17 @@
 -- Homes have one number each, so the predicates that are stored by number are found by home.
-use Rattle.std.proofs.Common.{◌≡◌, ◌≢◌, ℕ, zero, suc, ◌+◌, ◌-◌, Bool, true, false, List, [], ◌∷◌, length, map, get_or, Option, Some, None, refl, sym, ap, subst, ◌∙◌, arith, inl, inr, ◌⊎◌}
+use Rattle.std.proofs.Common.{◌≡◌, ◌≢◌, ℕ, zero, suc, ◌+◌, ◌-◌, Bool, true, false, List, [], ◌∷◌, length, map, get_or, Option, Some, None, refl, sym, ap, ap₂, subst, ◌∙◌, arith, inl, inr, ◌⊎◌}
 use Rattle.std.specs.List.{slice_get, range_with_len}
-use Rattle.std.specs.Prelude.{option_map, ◌==◌, ◌&&◌}
+use Rattle.std.specs.Prelude.{option_map, IsSome, unwrap_or, ◌==◌, ◌&&◌}
 use Rattle.std.proofs.lemmas.Bool.Decides.{leb_tells, eqb_tells}
 use Rattle.std.proofs.lemmas.Option.{slice_get-map}
 use Rattle.lin_rows.specs.Row.{Row}
 use Rattle.predicate_sets.specs.Sets.{set_at}
 use Rattle.transition_formula.specs.Program.{Program, Thread, numbered}
 use Rattle.horn_rules.specs.Home.{Home, State, Env, by_number, state_homes, env_homes, homes}
-use Rattle.horn_rules.specs.Fact.{IsSetOf, AreSetsOf}
-use Rattle.horn_rules.specs.Stored.{same_home, list_at, sets_of, AreStoredSetsOf}
+use Rattle.thr_base.specs.Held.{PositionsTellWords}
+use Rattle.horn_rules.specs.Fact.{Fact, IsSetOf, AreSetsOf}
+use Rattle.horn_rules.specs.Laws.{HomesAreDistinct, StoredFactsTellFacts, StoredSetsAreByNumber}
+use Rattle.horn_rules.specs.Stored.{home_numbered, same_home, list_at, sets_of, AreStoredSetsOf}
 use Rattle.horn_rules.proofs.Places.{slice_get-append_left, slice_get-append_right, range-within, by_number-found}
 
 -- ---- the homes of a kind: each is made of a number
@@ -204,3 +206,29 @@ stored-sets-are program lists are home = elim (listed-at (homes program) lists h
       let place : suc p - 1 ≡ p = omega arith in
       subst (IsSetOf program home) (ap (λ k. get_or lists k []) place ∙ sym is) (are.sets_are (suc p) home here)
 ]
+
+-- ---- laws
+
+pub homes-distinct : HomesAreDistinct
+homes-distinct program zero m home at there = cc
+homes-distinct program (suc p) zero home at there = cc
+homes-distinct program (suc p) (suc q) home at there = ap suc (one-number program p q home at there)
+
+pub sets-by-number : StoredSetsAreByNumber
+sets-by-number program lists are = record {
+  sets_are = stored-sets-are program lists are;
+  each = λ n home at. sets_of-numbered program lists n home are.one_each at;
+}
+
+known-home : (o : Option Home) → IsSome o → o ≡ Some (unwrap_or o (State 0 0))
+known-home None there = cc
+known-home (Some home) there = refl
+
+pub facts-tell : PositionsTellWords → StoredFactsTellFacts
+facts-tell words program one other small_one small_other has_one has_other same =
+    let at_one = known-home (numbered (homes program) one.home.0) has_one in
+    let at_other = known-home (numbered (homes program) other.home.0) has_other in
+    let home : home_numbered program one.home.0 ≡ home_numbered program other.home.0 = ap (λ (f : Fact). f.home) same in
+    let number : one.home.0 ≡ other.home.0 = homes-distinct program one.home.0 other.home.0 (home_numbered program other.home.0) (at_one ∙ ap (λ h. Some h) home) at_other in
+    let held : one.held ≡ other.held = words one.held other.held small_one small_other (ap (λ (f : Fact). f.held) same) in
+    ap₂ (λ n (word : ℕ). record { home = record { 0 = n }; held = word }) number held

@@ -1,10 +1,10 @@
 -- The instances over facts of the program of the tests, and what one comes to.
-use Rattle.std.proofs.Common.{◌≡◌, ◌≢◌, ℕ, ℤ, pos, negsuc, List, [], ◌∷◌, true, refl, arith}
+use Rattle.std.proofs.Common.{◌≡◌, ℕ, ℤ, pos, negsuc, List, [], ◌∷◌, true, refl, arith}
 use Rattle.thr_base.specs.declared.names.RuleName.TheVariants.{Rg, Og}
 use Rattle.lin_rows.specs.Row.{Row}
 use Rattle.horn_rules.specs.Home.{State, Env}
 use Rattle.horn_rules.specs.Fact.{Statement}
-use Rattle.horn_rules.specs.Instance.{Instance, Init, Own, Guar, Env as Environment, Inter}
+use Rattle.horn_rules.specs.Instance.{Init, Own, Guar, Env as Environment, Inter}
 use Rattle.horn_rules.specs.Case.{Case, env, env_case, IsCaseOf}
 use Rattle.horn_rules.specs.Instances.{instances_over}
 use Rattle.horn_rules.specs.inside.Worked.{worked_program, first_thread, second_thread, bare_edge}

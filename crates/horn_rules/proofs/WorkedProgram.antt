@@ -1,5 +1,5 @@
 -- The program of the tests is one, and what its tests ask of numbers.
-use Rattle.std.proofs.Common.{◌≡◌, ℕ, zero, suc, ◌<◌, ◌≤◌, List, [], ◌∷◌, length, pos, Some, None, refl, subst, arith}
+use Rattle.std.proofs.Common.{◌≡◌, ℕ, zero, suc, ◌<◌, ◌≤◌, [], ◌∷◌, length, pos, Some, None, refl, sym, ap, ◌∙◌, subst, arith}
 use Rattle.thr_base.specs.declared.names.ThreadNo.{ThreadNo}
 use Rattle.thr_base.specs.declared.names.Instance.TheVariants as stored
 use Rattle.thr_base.specs.declared.names.Fact.{Fact as StoredFact}
@@ -16,10 +16,10 @@ use Rattle.horn_rules.proofs.Numbers.{numbered-there}
 use Rattle.horn_rules.specs.inside.Worked.{counter_column, bare_edge, first_thread, second_thread, worked_program}
 use Rattle.horn_rules.specs.declared.job.Premise.{Premise}
 use Rattle.horn_rules.specs.declared.job.Job.{Job}
-use Rattle.horn_rules.specs.Instance.{Instance, Init}
+use Rattle.horn_rules.specs.Instance.{Init}
 use Rattle.horn_rules.specs.Case.{init_case, init}
-use Rattle.horn_rules.specs.Stored.{HasItsHome}
-use Rattle.horn_rules.specs.Job.{IsJob, ComesTo}
+use Rattle.horn_rules.specs.Stored.{HasItsHome, instance_of}
+use Rattle.horn_rules.specs.Job.{IsJob}
 use Rattle.horn_rules.specs.inside.JobRows.{IsPremiseAt, IsAtSource, IsAtLocation, IsAtEdge}
 
 first-counts : (column : Column) → Some (counter_column 1 (116 ∷ 49 ∷ 46 ∷ 36 ∷ 112 ∷ 99 ∷ [])) ≡ Some column → IsCounter 1 column
@@ -139,17 +139,18 @@ second-edge program premise worked home empty = record {
 -- the first thread's start, with no predicates at its home
 pub start-job : (program : Program) (job : Job) (i : ThreadNo) → program ≡ worked_program → i.0 ≡ 1 → job.instance ≡ stored.Init i → job.first ≡ None → job.second ≡ None → job.home.0 ≡ 2
     → job.target.value ≡ [] → IsJob program job
-start-job program job i worked one instance_is first_is second_is home_is empty = (
-  init_case program 1,
-  record {
-    instance = Init 1;
-    instance_is = record { ids_are = rw (instance_is, one) refl; first_is = first_is; second_is = second_is };
-    is_case = rw worked (init {program = worked_program} 1 first_thread refl);
-    premises_are = tt;
-    home_is = rw (worked, home_is) refl;
-    target_is = rw empty (record { are_atoms = tt; none_twice = tt });
-  },
-)
+start-job program job i worked one instance_is first_is second_is home_is empty =
+    let there : IsThreadOf program 1 first_thread = rw worked refl in (
+      init_case program 1,
+      record {
+        instance = Init 1;
+        instance_is = record { ids_are = sym (ap instance_of instance_is ∙ ap Init one); first_is = first_is; second_is = second_is };
+        is_case = init 1 first_thread there;
+        premises_are = tt;
+        home_is = rw (worked, home_is) refl;
+        target_is = rw empty (record { are_atoms = tt; none_twice = tt });
+      },
+    )
 
 -- facts at homes that the program has
 pub has-home : (program : Program) (fact : StoredFact) (n : ℕ) → program ≡ worked_program → fact.home.0 ≡ n → 0 < n → n ≤ length (homes worked_program) → HasItsHome program fact

@@ -1,5 +1,5 @@
 -- Closed sets of statements, and what they say of all runs.
-use Rattle.std.specs.Prelude.{◌≡◌, ◌≢◌, ℕ, ℤ, pos, List, Some, slice_get}
+use Rattle.std.specs.Prelude.{◌≢◌, ℕ, ℤ, pos, List, Some, slice_get}
 use Rattle.std.specs.List.{AllByRecursion, Contains}
 use Rattle.thr_base.specs.declared.names.RuleName.{RuleName}
 use Rattle.lin_rows.specs.System.{IsPoint}
@@ -42,7 +42,7 @@ GivesFacts program rule sets =
     (instance : Instance Fact) (given : Case) (z : List ℤ) → HasKind rule instance → IsCaseOf program (map_instance (statement_of sets) instance) given
     → AllByRecursion (Least program rule sets) (premises_of instance) → IsPoint given.system z → (fact : Fact) × IsFactOf sets given fact
 
--- ---- laws, for a list of statements and for the least set
+-- ---- laws, for a list of statements and for the least set: no clause can say them of all predicates at once
 
 -- What is closed covers all runs, under either rule.
 abbrev pub ClosedListsCover : Type 0

@@ -1,7 +1,7 @@
 -- All instances of a rule over a list of facts, in one order: the starts by thread; own steps by fact and edge; then under rely-guarantee
 -- those steps as they are told, by fact and edge, and what told steps leave, by fact and told fact; under the rule of Owicki and Gries
 -- what steps leave, by fact, by fact of the thread that steps, and edge. Of a fact, its number in the list stands for it, from 1.
-use Rattle.std.specs.Prelude.{◌≡◌, ℕ, ◌==◌, not, Bool, true, false, if◌then◌else◌, List, [], ◌∷◌, ◌++◌, map, Option, Some, None}
+use Rattle.std.specs.Prelude.{◌≡◌, ℕ, ◌==◌, not, Bool, false, if◌then◌else◌, List, [], ◌∷◌, ◌++◌, map, Option, Some, None}
 use Rattle.thr_base.specs.declared.names.RuleName.{RuleName}
 use Rattle.thr_base.specs.declared.names.RuleName.TheVariants.{Rg, Og}
 use Rattle.transition_formula.specs.Program.{Program, Thread, Edge, numbered}

@@ -1,5 +1,5 @@
 -- Jobs: an instance with what its rows and its post need, and the outcome of a job.
-use Rattle.std.specs.Prelude.{◌≡◌, ℕ, ◌^◌, ◌<◌, List, length, Option, Some, option_map}
+use Rattle.std.specs.Prelude.{◌≡◌, ℕ, ◌^◌, ◌<◌, length, Option, Some, option_map}
 use Rattle.std.specs.List.{AllByRecursion}
 use Rattle.thr_base.specs.Held.{positions}
 use Rattle.transition_formula.specs.Program.{Program, numbered}

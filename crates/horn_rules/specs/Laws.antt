@@ -1,19 +1,22 @@
 -- What cases, posts, instances and tables are, said further.
-use Rattle.std.specs.Prelude.{◌≡◌, ◌≢◌, ◌↔◌, ℕ, ℤ, ◌+◌, ◌≤◌, List, [], length, AllPairs, Option, Some}
+use Rattle.std.specs.Prelude.{◌≡◌, ◌≢◌, ◌↔◌, ℕ, ℤ, ◌+◌, ◌^◌, ◌<◌, ◌≤◌, List, [], length, AllPairs, Option, Some}
 use Rattle.std.specs.List.{AllByRecursion, Contains}
 use Rattle.thr_base.specs.declared.names.RuleName.{RuleName}
+use Rattle.thr_base.specs.declared.names.Fact.{Fact as StoredFact}
 use Rattle.lin_rows.specs.Row.{Row, Meets}
 use Rattle.lin_rows.specs.System.{IsPoint}
 use Rattle.farkas_cert.specs.Cert.{IsRefuted}
-use Rattle.transition_formula.specs.Program.{Program}
+use Rattle.predicate_sets.specs.Sets.{set_at}
+use Rattle.transition_formula.specs.Program.{Program, numbered}
 use Rattle.horn_rules.specs.declared.job.Job.{Job}
-use Rattle.horn_rules.specs.Home.{Home, IsHomeOf, home_width}
-use Rattle.horn_rules.specs.Fact.{Sets, Fact, Statement, IsAtomOf, AreSetsOf, IsStatementOf, statement_of}
+use Rattle.horn_rules.specs.Home.{Home, homes, IsHomeOf, home_width}
+use Rattle.horn_rules.specs.Fact.{Sets, Fact, Statement, AreSetsOf, IsStatementOf, statement_of}
 use Rattle.horn_rules.specs.Instance.{Instance, HasKind, premises_of, map_instance}
 use Rattle.horn_rules.specs.Case.{Case, IsCaseOf, placed_at, in_front}
 use Rattle.horn_rules.specs.Post.{IsPost, IsFactOf, IsGiven}
 use Rattle.horn_rules.specs.Least.{Least}
 use Rattle.horn_rules.specs.Instances.{instances_over, IsResolved}
+use Rattle.horn_rules.specs.Stored.{fact_of, HasItsHome, sets_of, AreStoredSetsOf}
 use Rattle.horn_rules.specs.Job.{ComesTo}
 use Rattle.horn_rules.specs.Table.{IsTableOf}
 
@@ -52,6 +55,25 @@ GivenAtomsHold = (program : Program) (instance : Instance Statement) (given : Ca
     → IsCaseOf program instance given → IsStatementOf program statement → IsGiven given statement → IsPoint given.system z
     → AllByRecursion (λ atom. Meets (given.place atom) z) statement.atoms
 
+-- ---- the least set
+
+-- It has what an instance over facts of it gives.
+abbrev pub LeastHasWhatItGives : Type 0
+LeastHasWhatItGives = (program : Program) (rule : RuleName) (sets : Sets) (instance : Instance Fact) (given : Case) (fact : Fact)
+    → HasKind rule instance → IsCaseOf program (map_instance (statement_of sets) instance) given → AllByRecursion (Least program rule sets) (premises_of instance)
+    → IsFactOf sets given fact → Least program rule sets fact
+
+-- The list has each fact that an instance of the rule over facts of it gives.
+abbrev pub HasWhatItGives : Program → RuleName → Sets → List Fact → Type 0
+HasWhatItGives program rule sets facts =
+    (instance : Instance Fact) (given : Case) (fact : Fact) → HasKind rule instance → IsCaseOf program (map_instance (statement_of sets) instance) given
+    → AllByRecursion (Contains facts) (premises_of instance) → IsFactOf sets given fact → Contains facts fact
+
+-- Such a list has the whole least set.
+abbrev pub LeastIsSmallest : Type 0
+LeastIsSmallest = (program : Program) (rule : RuleName) (sets : Sets) (facts : List Fact) (fact : Fact)
+    → HasWhatItGives program rule sets facts → Least program rule sets fact → Contains facts fact
+
 -- the fact of a home that holds no predicate
 abbrev pub bare_at : Home → Fact
 bare_at home = record { home = home; held = [] }
@@ -83,6 +105,29 @@ pub record AreInstancesOver (program : Program) (rule : RuleName) (facts : List 
 abbrev pub InstancesAreExact : Type 0
 InstancesAreExact = (program : Program) (rule : RuleName) (facts : List Statement)
     → AllByRecursion (λ fact. IsHomeOf program fact.home) facts → AreInstancesOver program rule facts (instances_over program rule facts)
+
+-- ---- what is stored
+
+-- A home has one number.
+abbrev pub HomesAreDistinct : Type 0
+HomesAreDistinct = (program : Program) (n m : ℕ) (home : Home) → numbered (homes program) n ≡ Some home → numbered (homes program) m ≡ Some home → n ≡ m
+
+-- A word holds 128 positions.
+abbrev pub IsWord : StoredFact → Type 0
+IsWord stored = stored.held < 2 ^ 128
+
+-- What stands for the same fact is the same.
+abbrev pub StoredFactsTellFacts : Type 0
+StoredFactsTellFacts = (program : Program) (one other : StoredFact) → IsWord one → IsWord other → HasItsHome program one → HasItsHome program other
+    → fact_of program one ≡ fact_of program other → one ≡ other
+
+-- Lists that are kept by the numbers of homes are predicates of the homes, each that of its home.
+pub record AreSetsByNumber (program : Program) (lists : List (List Row)) : Type 0 where
+  pub sets_are : AreSetsOf program (sets_of program lists)
+  pub each : (n : ℕ) (home : Home) → numbered (homes program) n ≡ Some home → sets_of program lists home ≡ set_at lists n
+
+abbrev pub StoredSetsAreByNumber : Type 0
+StoredSetsAreByNumber = (program : Program) (lists : List (List Row)) → AreStoredSetsOf program lists → AreSetsByNumber program lists
 
 -- ---- tables
 

@@ -1,6 +1,6 @@
-ghost use Rattle.std.specs.Prelude.{◌≡◌, ◌+◌, ◌*◌, ◌^◌, ◌≤◌, ◌<◌, Some, length, take, slice_get, IsSome};
+ghost use Rattle.std.specs.Prelude.{◌≡◌, ◌↔◌, IsTrue, ◌+◌, ◌*◌, ◌^◌, ◌≤◌, ◌<◌, Some, length, take, slice_get, IsSome};
 ghost use Rattle.transition_formula.specs.Program.{Thread, IsProgram, IsThreadOf, numbered};
-ghost use Rattle.horn_rules.specs.Home.{by_number, homes, IsHomeOf};
+ghost use Rattle.horn_rules.specs.Home.{State, Env, by_number, homes, IsHomeOf};
 ghost use Rattle.horn_rules.specs.Stored.{home_of};
 ghost use Rattle.horn_rules.specs.inside.Kinds.{home_in, homes_in, HasPlace};
 
@@ -85,6 +85,40 @@ pub fn home_count(program: &Program) -> u32
 {
     let threads = program.threads();
     count_before(program, Kind::Location, threads) + count_before(program, Kind::Edge, threads)
+}
+
+fn has_thread(program: &Program, thread: ThreadNo) -> bool
+    ensures { IsTrue result ↔ IsSome (numbered program.now.threads thread.0) }
+{
+    1 <= thread.0 && thread.0 <= program.threads()
+}
+
+fn has_location(program: &Program, thread: ThreadNo, location: Loc) -> bool
+    ensures { IsTrue result ↔ IsHomeOf program.now (State thread.0 location.0) }
+{
+    has_thread(program, thread) && location.0 < program.locations(thread)
+}
+
+fn has_edge(program: &Program, thread: ThreadNo, edge: EdgeNo) -> bool
+    ensures { IsTrue result ↔ IsHomeOf program.now (Env thread.0 edge.0) }
+{
+    if !has_thread(program, thread) {
+        return false;
+    }
+    if edge.0 == 0 {
+        return false;
+    }
+    edge.0 as usize <= program.edges(thread).len()
+}
+
+/// Whether the program has the home.
+pub fn has_home(program: &Program, home: Home) -> bool
+    ensures { IsTrue result ↔ IsHomeOf program.now (home_of home) }
+{
+    match home {
+        Home::State(thread, location) => has_location(program, thread, location),
+        Home::Env(thread, edge) => has_edge(program, thread, edge),
+    }
 }
 
 /// The number of a home, from 1: the homes at locations by thread and location, then those at edges by thread and edge.

@@ -1,7 +1,8 @@
 ghost use Rattle.horn_rules.specs.Cover.{ClosedListsCover, ClosedLeastCovers, LeastIsClosed, CoveredListsDoNotFail, CoveredLeastDoesNotFail, CoveredListsAreSafe, CoveredLeastIsSafe};
-ghost use Rattle.horn_rules.specs.Laws.{CasesAreUnique, JobsHaveOneCase, AtomsArePlaced, PostsAreUnique, FactsAreGiven, GivenAtomsHold, EachInstanceGivesItsHome, InstancesAreExact, TablesAreUnique};
+ghost use Rattle.horn_rules.specs.Laws.{CasesAreUnique, JobsHaveOneCase, AtomsArePlaced, PostsAreUnique, FactsAreGiven, GivenAtomsHold, EachInstanceGivesItsHome, InstancesAreExact, LeastHasWhatItGives, LeastIsSmallest, HomesAreDistinct, StoredFactsTellFacts, StoredSetsAreByNumber, TablesAreUnique};
 ghost use Rattle.horn_rules.specs.Steps.{StartsAreDescribed, OwnStepsAreDescribed, OwnStepsAreTold, ToldStepsAreDescribed, InterferingStepsAreDescribed};
 
+use thr_base::positions_are_those_held;
 use transition_formula::runs_end_in_reached_states;
 
 /// An instance comes to one case at most, and so does a job: a law, and no code.
@@ -67,10 +68,23 @@ pub fn closed_sets_cover()
     ensures least { ClosedLeastCovers }
 {}
 
-/// The least set is closed where its instances give their facts: a law, and no code.
+/// The least set has what its instances give, and nothing that a list with this property lacks; it is closed where they give their
+/// facts: laws, and no code.
 pub fn the_least_set_is_closed()
-    ensures { LeastIsClosed }
+    ensures closed { LeastIsClosed }
+    ensures gives { LeastHasWhatItGives }
+    ensures smallest { LeastIsSmallest }
 {}
+
+/// A home has one number, what stands for the same fact is the same, and lists by number are predicates of their homes: laws, and no
+/// code.
+pub fn stored_values_tell_what_they_stand_for()
+    ensures homes { HomesAreDistinct }
+    ensures facts { StoredFactsTellFacts }
+    ensures sets { StoredSetsAreByNumber }
+{
+    positions_are_those_held();
+}
 
 /// Where what covers all runs has nothing at the failing location of a thread, no run comes there; where it has none of any thread, no
 /// run fails: a law, and no code.

@@ -121,6 +121,8 @@ fn homes_of_two_threads_in_order(rt: HostRuntime) -> Result<(), Fail> {
     assert!(rt; is_env(&program, 8, 1, 1));
     assert!(rt; is_env(&program, 9, 1, 2));
     assert!(rt; is_env(&program, 10, 2, 1));
+    assert!(rt; has_home(&program, Home::State(ThreadNo(2), Loc(3))));
+    assert!(rt; !has_home(&program, Home::Env(ThreadNo(2), EdgeNo(2))));
     Ok(())
 }
 
@@ -314,6 +316,7 @@ fn laws_are_called() {
     own_steps_are_described();
     own_steps_are_told();
     tables_are_unique();
+    stored_values_tell_what_they_stand_for();
     the_least_set_is_closed();
     told_steps_are_described();
     interfering_steps_are_described();

@@ -9,7 +9,7 @@ use Rattle.transition_formula.specs.Rows.{column_is}
 use Rattle.horn_rules.specs.declared.job.Premise.{Premise}
 use Rattle.horn_rules.specs.Home.{Home, State, Env, homes}
 use Rattle.horn_rules.specs.Fact.{IsSetOf}
-use Rattle.horn_rules.specs.Case.{widened, init_case, own_case, guar_case, env_case, inter_case}
+use Rattle.horn_rules.specs.Case.{widened, init_case, own_case, env_case, inter_case}
 use Rattle.horn_rules.specs.Job.{premise_says}
 
 -- ---- what is asked of premises

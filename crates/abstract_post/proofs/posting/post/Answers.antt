@@ -1,4 +1,4 @@
-use Rattle.std.proofs.Common.{Some, refl, sym, ap, subst, length, ◌∙◌, arith}
+use Rattle.std.proofs.Common.{Some, None, refl, sym, ap, subst, length, ◌∙◌, arith}
 use Rattle.horn_rules.specs.Job.{IsOutcome}
 use Rattle.abstract_post.specs.declared.deciding.Found.TheVariants as found
 use Rattle.abstract_post.proofs.Solved.{within-rows, found-of_case, held-outcome}
@@ -14,7 +14,7 @@ new-requires c =
     let (given, comes) = c.requires.fits in
     let what = rw c.in-Refuted.is at c.in_ok-found.ensures in
     let there = found-of_case c.atoms_are_placed.ensures c.args.program.now c.args.job given _ _ _ _ _ found.Refuted comes (c.in_ok-rows.ensures given comes) c.view.ensures c.columns.ensures.columns c.in_front-before.ensures (c.atoms.ensures.atoms ∙ c.deref.ensures) what in
-    subst (λ p. IsOutcome p c.args.job _) (sym c.requires.same) (given, comes, there)
+    subst (λ p. IsOutcome p c.args.job None) (sym c.requires.same) (given, comes, there)
 
 pub new-requires-in-Held : goal.new-requires-in-Held
 new-requires-in-Held c =

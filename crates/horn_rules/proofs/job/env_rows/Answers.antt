@@ -1,4 +1,4 @@
-use Rattle.std.proofs.Common.{sym, ◌∙◌, ap, Some, [], arith, length}
+use Rattle.std.proofs.Common.{sym, ◌∙◌, ap, [], arith, length}
 use Rattle.lin_rows.specs.System.{with_rows}
 use Rattle.thr_base.specs.Held.{positions}
 use Rattle.horn_rules.specs.Fact.{atoms_at}

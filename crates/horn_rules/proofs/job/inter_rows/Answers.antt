@@ -1,4 +1,4 @@
-use Rattle.std.proofs.Common.{sym, ◌∙◌, ap, Some, [], arith}
+use Rattle.std.proofs.Common.{sym, ◌∙◌, ap, [], arith}
 use Rattle.lin_rows.specs.System.{with_rows}
 use Rattle.horn_rules.specs.Job.{premise_says}
 use Rattle.horn_rules.proofs.Premises.{same_edge, wide, room, inter_is}

@@ -1,4 +1,4 @@
-use Rattle.std.proofs.Common.{pos, ap, ◌∙◌}
+use Rattle.std.proofs.Common.{◌≡◌, pos, ap, ◌∙◌, rules}
 use Rattle.lin_rows.specs.System.{with_row}
 use Rattle.transition_formula.specs.Rows.{column_is}
 use Rattle.horn_rules.proofs.Premises.{counter-is, length-with_row}
@@ -10,5 +10,5 @@ returns-clause-count c = length-with_row _ _ _ c.in_ok-push_column_is.ensures.ok
 pub returns-clause-row : goal.returns-clause-row
 returns-clause-row c thread at =
     let old = c.args.rows.now in
-    c.in_ok-push_column_is.ensures.ok
-    ∙ ap (λ column. with_row old (column_is old.columns column (pos c.args.l.0))) (counter-is c.args.program.now c.args.i.0 thread c.counter-column.result c.counter-column.ensures.counter at)
+    let made : c.push_column_is.new.rows ≡ with_row old (column_is old.columns c.counter-column.result (pos c.args.l.0)) = search rules in
+    made ∙ ap (λ column. with_row old (column_is old.columns column (pos c.args.l.0))) (counter-is c.args.program.now c.args.i.0 thread c.counter-column.result c.counter-column.ensures.counter at)
