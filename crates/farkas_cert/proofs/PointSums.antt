@@ -5,7 +5,7 @@ use Rattle.lin_rows.specs.Row.{Row, MeetsOver}
 use Rattle.lin_rows.specs.System.{System, IsRationalPoint}
 use Rattle.lin_rows.proofs.Lists.{AllByRecursion-weaken}
 use Rattle.farkas_cert.specs.Cert.{row_numbered}
-use Rattle.farkas_cert.specs.Point.{Passes, IsFirst}
+use Rattle.farkas_cert.specs.Point.{Passes, IsFirstRow}
 
 -- ---- rows in order
 -- A row that a test refused does not hold.
@@ -16,8 +16,8 @@ broken equal result s s' b b' decides refused p q meets =
 row_numbered-next : (rows : List Row) (n : ℕ) → row_numbered rows (n + 1) ≡ slice_get rows n
 row_numbered-next rows n = ap (row_numbered rows) (add-one n)
 
-pub IsFirst-next : (P : Row → Type 0) (x : List ℤ) (d : ℤ) (rows : List Row) (n : ℕ) (row : Row) → AllByRecursion (Passes x d) (take n rows) → slice_get rows n ≡ Some row → P row → IsFirst P x d rows (n + 1)
-IsFirst-next P x d rows n row before is holds = record {
+pub IsFirstRow-next : (P : Row → Type 0) (x : List ℤ) (d : ℤ) (rows : List Row) (n : ℕ) (row : Row) → AllByRecursion (Passes x d) (take n rows) → slice_get rows n ≡ Some row → P row → IsFirstRow P x d rows (n + 1)
+IsFirstRow-next P x d rows n row before is holds = record {
   before = let same : n ≡ n + 1 - 1 = omega arith in subst (λ m. AllByRecursion (Passes x d) (take m rows)) same before;
   there = subst (λ r. IsSomeAnd r P) (sym (row_numbered-next rows n ∙ is)) holds;
 }

@@ -1,5 +1,5 @@
 -- What a refutation says of points.
-use Rattle.std.proofs.Common.{◌≡◌, ℕ, zero, suc, List, [], ◌∷◌, Option, Some, Bool, true, false, MatchBool, ℤ, pos, ◌+ℤ◌, ◌*ℤ◌, ◌≤ℤ◌, ◌<ℤ◌, refl, sym, ◌∙◌, ap, subst, arith}
+use Rattle.std.proofs.Common.{◌≡◌, ℕ, zero, suc, List, [], ◌∷◌, Option, Some, None, Bool, true, false, MatchBool, ℤ, pos, ◌+ℤ◌, ◌*ℤ◌, ◌≤ℤ◌, ◌<ℤ◌, refl, sym, ◌∙◌, ap, subst, arith}
 use Rattle.std.proofs.lemmas.Int.{ints, by_lt_z}
 use Rattle.std.specs.List.{AllByRecursion}
 use Rattle.lin_rows.specs.Row.{Row, Meets, MeetsOver, product_of, scaled, sum_of}
@@ -9,7 +9,7 @@ use Rattle.lin_rows.proofs.Lists.{AllByRecursion-append, AllByRecursion-weaken}
 use Rattle.lin_rows.proofs.Points.{product_of-scaled, product_of-sum_of, product_of-AllZero, MeetsOver-one}
 use Rattle.lin_rows.proofs.Atoms.{Meets-inequality, Meets-negation}
 use Rattle.farkas_cert.specs.Cert.{Pairs, InOrder, Allows, AllowsAt, row_numbered, add_weighted, weighted_sum}
-use Rattle.farkas_cert.specs.Proof.{RefutedHasNoPoint, PointsMeetEntailed, denying}
+use Rattle.farkas_cert.specs.Proof.{RefutedHasNoPoint, RefutedHasNoWholePoint, PointsMeetWeightedSums, PointsMeetEntailed, denying}
 
 -- what is known of the row that a pair names
 record IsWeighed (x : List ℤ) (d m : ℤ) (row : Row) : Type 0 where
@@ -64,6 +64,31 @@ refuted-has-no-point system x d refuted point =
     let none = product_of-AllZero ws.coefficients x refuted.1.contradicts.cancels in
     let below = negative-times ws.bound d refuted.1.contradicts.negative point.positive in
     omega (arith, ints)
+
+-- a whole point is one over 1
+pub refuted-has-no-whole-point : RefutedHasNoWholePoint
+refuted-has-no-whole-point system z refuted point =
+    refuted-has-no-point system z (pos 1) refuted record {
+      whole = point.whole;
+      positive = omega (arith, ints);
+      meets = AllByRecursion-weaken (λ row. Meets row z) (λ row. MeetsOver row z (pos 1)) (λ row h. MeetsOver-one row z h) system.rows point.meets;
+    }
+
+-- a weighted sum is an inequality
+add_weighted-equal : (row : Option Row) (m : ℤ) (total : Row) → total.equal ≡ false → (add_weighted row m total).equal ≡ false
+add_weighted-equal None m total e = e
+add_weighted-equal (Some row) m total e = refl
+
+weighted_sum-equal : (rows : List Row) (pairs : Pairs) → (weighted_sum rows pairs).equal ≡ false
+weighted_sum-equal rows [] = refl
+weighted_sum-equal rows ((k, m) ∷ pairs) = add_weighted-equal (row_numbered rows k) m (weighted_sum rows pairs) (weighted_sum-equal rows pairs)
+
+pub weighted_sum-over : PointsMeetWeightedSums
+weighted_sum-over rows pairs x d in_order all =
+    let ws = weighted_sum rows pairs in
+    let holds = weighted_sum-meets x d rows 0 pairs all in_order in
+    let P : Bool → Type 0 = λ b. MatchBool b (product_of ws.coefficients x ≡ ws.bound *ℤ d) (product_of ws.coefficients x ≤ℤ (ws.bound *ℤ d)) in
+    subst P (sym (weighted_sum-equal rows pairs)) holds
 
 pub points-meet-entailed : PointsMeetEntailed
 points-meet-entailed system atom z is_atom entails point =

@@ -187,3 +187,9 @@ outcome_within fuel system = or_ends (stages fuel system) (begun system)
 
 abbrev pub outcome_of : System → Outcome
 outcome_of system = outcome_within system.columns system
+
+-- the stage and the kind with which an outcome leaves, if it does
+abbrev pub left_by : Outcome → Option (ℕ × LeaveKind)
+left_by (Refuted pairs) = None
+left_by (Point x d) = None
+left_by (Leaves stage kind) = Some (stage, kind)

@@ -23,6 +23,6 @@ pub record Breaks (x : List ℤ) (d : ℤ) (row : Row) : Type 0 where
   pub breaks : ¬ MeetsOver row x d
 
 -- All rows before number n pass, and row n is such.
-pub record IsFirst (P : Row → Type 0) (x : List ℤ) (d : ℤ) (rows : List Row) (n : ℕ) : Type 0 where
+pub record IsFirstRow (P : Row → Type 0) (x : List ℤ) (d : ℤ) (rows : List Row) (n : ℕ) : Type 0 where
   pub before : AllByRecursion (Passes x d) (take (n - 1) rows)
   pub there : IsSomeAnd (row_numbered rows n) P

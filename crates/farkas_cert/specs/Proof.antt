@@ -2,10 +2,11 @@
 use Rattle.std.specs.Prelude.{◌≡◌, ℕ, suc, ℤ, List, [], ◌∷◌, ◌++◌, Option, Some, None, option_map, ◌&&◌, if◌then◌else◌}
 use Rattle.std.specs.Option.{option_or}
 use Rattle.thr_base.specs.Number.{fits}
-use Rattle.lin_rows.specs.Row.{Row, Meets, scaled, sum_of}
+use Rattle.std.specs.List.{AllByRecursion}
+use Rattle.lin_rows.specs.Row.{Row, Meets, MeetsOver, scaled, sum_of}
 use Rattle.lin_rows.specs.System.{System, IsPoint, IsRationalPoint, with_row}
 use Rattle.lin_rows.specs.Atom.{IsAtom, negation}
-use Rattle.farkas_cert.specs.Cert.{Pairs, Refutes, IsRefuted, row_numbered}
+use Rattle.farkas_cert.specs.Cert.{Pairs, Refutes, IsRefuted, InOrder, row_numbered, weighted_sum}
 
 -- ---- the order in which products and sums are made
 -- the numbers of a row: its coefficients, and its bound as the last
@@ -53,6 +54,15 @@ Entails system atom = IsRefuted (denying system atom)
 -- A refuted system has no rational point.
 abbrev pub RefutedHasNoPoint : Type 0
 RefutedHasNoPoint = (system : System) (x : List ℤ) (d : ℤ) → IsRefuted system → ¬ IsRationalPoint system x d
+
+-- Nor has it a whole point.
+abbrev pub RefutedHasNoWholePoint : Type 0
+RefutedHasNoWholePoint = (system : System) (z : List ℤ) → IsRefuted system → ¬ IsPoint system z
+
+-- The weighted sum of rows, in order, holds at each rational point of them.
+abbrev pub PointsMeetWeightedSums : Type 0
+PointsMeetWeightedSums = (rows : List Row) (pairs : Pairs) (x : List ℤ) (d : ℤ)
+    → InOrder rows 0 pairs → AllByRecursion (λ row. MeetsOver row x d) rows → MeetsOver (weighted_sum rows pairs) x d
 
 -- Each whole point of a system meets every atom that it entails.
 abbrev pub PointsMeetEntailed : Type 0

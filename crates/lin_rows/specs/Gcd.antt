@@ -1,5 +1,7 @@
 -- The greatest common divisor of integers.
 use Rattle.std.specs.Prelude.{ℕ, zero, suc, ◌%◌, ℤ, List, fold, unsigned_abs}
+use Rattle.std.specs.Int.{IsGcd, ◌∣◌}
+use Rattle.std.specs.List.{AllByRecursion}
 
 -- Euclid's steps; a fuel of at least b is enough.
 abbrev pub gcd_within : ℕ → ℕ → ℕ → ℕ
@@ -13,3 +15,11 @@ gcd a b = gcd_within b a b
 -- the greatest common divisor of all numbers of a list; 0 where all are 0
 abbrev pub gcd_of : List ℤ → ℕ
 gcd_of xs = fold (λ g x. gcd (unsigned_abs x) g) 0 xs
+
+-- ---- laws
+
+-- `gcd` is the greatest common divisor of two numbers; `gcd_of` divides each number of a list, and each common divisor divides it.
+pub record DivisorsAreGreatest : Type 0 where
+  pub of_two : (a b : ℕ) → IsGcd a b (gcd a b)
+  pub common : (xs : List ℤ) → AllByRecursion (λ x. gcd_of xs ∣ unsigned_abs x) xs
+  pub greatest : (xs : List ℤ) (g : ℕ) → AllByRecursion (λ x. g ∣ unsigned_abs x) xs → g ∣ gcd_of xs

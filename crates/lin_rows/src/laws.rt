@@ -1,4 +1,5 @@
 ghost use Rattle.std.specs.Prelude.{◌≡◌, ◌↔◌, ◌≤◌, ◌+◌, ℕ, ℤ, List, None, length};
+ghost use Rattle.lin_rows.specs.Gcd.{DivisorsAreGreatest};
 ghost use Rattle.lin_rows.specs.System.{System, part_of};
 ghost use Rattle.lin_rows.specs.Sum.{sum_overflow, sum_in_order};
 
@@ -11,4 +12,9 @@ pub fn parts_of_systems()
 /// A sum is given exactly where no product and no sum on the way is too great: a law, and no code.
 pub fn sums_are_given_where_they_fit()
     ensures { (xs ys : List ℤ) → (sum_in_order xs ys ≡ None) ↔ (¬ (sum_overflow xs ys ≡ None)) }
+{}
+
+/// The greatest common divisors by Euclid's steps are that: a law, and no code.
+pub fn divisors_are_greatest()
+    ensures { DivisorsAreGreatest }
 {}

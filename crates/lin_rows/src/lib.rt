@@ -17,7 +17,7 @@ mod sum;
 pub use atom::{Atom, negate, opposite, opposites_of, push_opposites};
 pub use divisor::{divisor_of, floor_of};
 pub use exact::{product_if_fits, sum_if_fits};
-pub use laws::{parts_of_systems, sums_are_given_where_they_fit};
+pub use laws::{divisors_are_greatest, parts_of_systems, sums_are_given_where_they_fit};
 pub use normal_form::{NormalForm, NormalStop, normal};
 pub use row::RowView;
 pub use rows::Rows;

@@ -1,6 +1,6 @@
 ghost use Rattle.std.specs.Prelude.{◌≡◌, ◌↔◌, ◌<◌, ◌∷◌, [], ◌++◌, length, slice_get, IfOk, IsTrue, MatchOption};
 ghost use Rattle.thr_base.specs.Limits.{most_predicates};
-ghost use Rattle.predicate_sets.specs.HomeSet.{IsHomeSet, Lacks};
+ghost use Rattle.predicate_sets.specs.HomeSet.{IsHomeSet, Lacks, StandsAt};
 
 use lin_rows::Atom;
 use std::alloc::{AllocError, Global};
@@ -38,6 +38,14 @@ impl HomeSet {
         ensures home_set { IsHomeSet self.now }
     {
         self.atoms.as_slice()
+    }
+
+    /// The position of an atom, from 1, where it stands in the list.
+    pub fn position(&self, atom: &Atom) -> Option<u32>
+        ensures { MatchOption result (Lacks self.now atom.now) (StandsAt self.now atom.now) }
+    {
+        let place = place_of(self.atoms(), atom)?;
+        Some(place as u32 + 1)
     }
 
     /// A list of its own, with one more atom at its end.

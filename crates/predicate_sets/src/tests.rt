@@ -44,6 +44,10 @@ fn lists_grow_and_are_put_back(rt: HostRuntime) -> Result<(), Fail> {
     assert_eq!(rt; second, Some(Ok(Added::New(2))));
     assert_eq!(rt; again, Some(Ok(Added::Known(1))));
     assert_eq!(rt; sets.at(HomeNo(1))?.atoms().len(), 2);
+    let set = sets.at(HomeNo(1))?;
+    for (place, atom) in set.atoms().iter().enumerate() {
+        assert!(rt; set.position(atom) == Some(place as u32 + 1));
+    }
     assert_eq!(rt; sets.at(HomeNo(2))?.atoms().len(), 0);
     assert_eq!(rt; before.atoms().len(), 0);
     sets.put(HomeNo(1), before);

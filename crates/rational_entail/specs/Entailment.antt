@@ -3,18 +3,12 @@ use Rattle.std.specs.Prelude.{◌≡◌, ℕ, Option, Some, None, option_map, �
 use Rattle.lin_rows.specs.Row.{Row}
 use Rattle.lin_rows.specs.System.{System}
 use Rattle.farkas_cert.specs.Proof.{Entails}
-use Rattle.farkas_cert.specs.Elimination.{Outcome, Refuted, Point, Leaves, outcome_of}
+use Rattle.farkas_cert.specs.Elimination.{outcome_of, left_by}
 use Rattle.farkas_cert.specs.declared.answers.LeaveKind.{LeaveKind}
 use Rattle.farkas_cert.specs.declared.answers.Decided.{Decided}
 use Rattle.farkas_cert.specs.declared.answers.Decided.TheVariants as decided
 use Rattle.rational_entail.specs.declared.denial.Entailed.{Entailed}
 use Rattle.rational_entail.specs.declared.denial.Entailed.TheVariants as entailed
-
--- the stage and the kind with which an outcome leaves, if it does
-abbrev pub left_by : Outcome → Option (ℕ × LeaveKind)
-left_by (Refuted pairs) = None
-left_by (Point x d) = None
-left_by (Leaves stage kind) = Some (stage, kind)
 
 -- the stage and the kind with which an answer leaves the rows undecided, if it does
 abbrev pub left_in : Decided → Option (ℕ × LeaveKind)

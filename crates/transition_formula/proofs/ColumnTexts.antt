@@ -107,7 +107,7 @@ no_quotes : (threads : ℕ) (column : Column) → Fits (pos threads) → IsColum
 no_quotes threads column few is =
     AllByRecursion-weaken IsTextByte (λ b. b ≢ 39) (λ b passes. text_byte-is_not b 39 passes refl) column.text (text-bytes threads column.owner column.text few is.text_is)
 
-few-threads : (program : Program) → IsProgram program → Fits (pos (length program.threads))
+pub few-threads : (program : Program) → IsProgram program → Fits (pos (length program.threads))
 few-threads program is = omega (arith, is.few_threads)
 
 IsWord-after : (text : List ℕ) → IsWord text → IsWord (text ++ (39 ∷ []))

@@ -15,7 +15,7 @@ use Rattle.lin_rows.proofs.Points.{product_of-scaled, product_of-sum_of}
 use Rattle.lin_rows.proofs.Sums.{sum_in_order-given}
 use Rattle.transition_formula.specs.Program.{Form, IsFormOver}
 use Rattle.transition_formula.specs.Step.{value_of}
-use Rattle.transition_formula.specs.Forms.{constant_form, column_form, form_fits, fitting_form, form_sum, form_multiple, added, multiplied, with_multiple, with_multiples, composed}
+use Rattle.transition_formula.specs.Forms.{constant_form, column_form, form_fits, fitting_form, form_sum, form_multiple, fitting_sum, fitting_multiple, with_multiple, with_multiples, fitting_composition}
 use Rattle.transition_formula.specs.FormLaws.{FormsAreMade, SumsAreExact, MultiplesAreExact, CompositionsAreExact, ValuesAreExact}
 use Rattle.transition_formula.proofs.FittingLists.{length-sum_of}
 use Rattle.transition_formula.proofs.Numbers.{zeros_fit}
@@ -45,29 +45,29 @@ given-over width form made one_each e =
     subst (IsFormOver width) (given-is form made e) (record { one_each = one_each; coefficients_fit = all-fit form.coefficients both.0; constant_fits = fits-true form.constant both.1 })
 
 -- how many coefficients there are
-pub multiple-width : (k : ℤ) (form multiple : Form) → multiplied k form ≡ Some multiple → length multiple.coefficients ≡ length form.coefficients
+pub multiple-width : (k : ℤ) (form multiple : Form) → fitting_multiple k form ≡ Some multiple → length multiple.coefficients ≡ length form.coefficients
 multiple-width k form multiple e =
     ap (λ made. length made.coefficients) (sym (given-is (form_multiple k form) multiple e)) ∙ length-map form.coefficients (λ x. k *ℤ x)
 
-sum-width : (one other sum : Form) → length other.coefficients ≡ length one.coefficients → added one other ≡ Some sum → length sum.coefficients ≡ length one.coefficients
+sum-width : (one other sum : Form) → length other.coefficients ≡ length one.coefficients → fitting_sum one other ≡ Some sum → length sum.coefficients ≡ length one.coefficients
 sum-width one other sum same e =
     ap (λ made. length made.coefficients) (sym (given-is (form_sum one other) sum e)) ∙ length-sum_of one.coefficients other.coefficients (sym same)
 
 pub step-width : (sum : Form) (k : ℤ) (form more : Form) → length form.coefficients ≡ length sum.coefficients → Some more ≡ with_multiple sum k form → length more.coefficients ≡ length sum.coefficients
 step-width sum k form more same e =
-    option_and_then_some (added sum) (multiplied k form) more (sym e) (λ multiple given rest. sum-width sum multiple more (multiple-width k form multiple given ∙ same) rest)
+    option_and_then_some (fitting_sum sum) (fitting_multiple k form) more (sym e) (λ multiple given rest. sum-width sum multiple more (multiple-width k form multiple given ∙ same) rest)
 
 -- ---- sums
 regroup : (a b c d : ℤ) → (a +ℤ b) +ℤ (c +ℤ d) ≡ (a +ℤ c) +ℤ (b +ℤ d)
 regroup a b c d = omega (arith, ints)
 
-sum-value : (one other sum : Form) (z : List ℤ) → added one other ≡ Some sum → value_of sum z ≡ value_of one z +ℤ value_of other z
+sum-value : (one other sum : Form) (z : List ℤ) → fitting_sum one other ≡ Some sum → value_of sum z ≡ value_of one z +ℤ value_of other z
 sum-value one other sum z e =
     ap (λ form. value_of form z) (sym (given-is (form_sum one other) sum e))
     ∙ ap (λ v. v +ℤ (one.constant +ℤ other.constant)) (product_of-sum_of one.coefficients other.coefficients z)
     ∙ regroup (product_of one.coefficients z) (product_of other.coefficients z) one.constant other.constant
 
-sum-over : (width : ℕ) (one other sum : Form) → added one other ≡ Some sum → IsFormOver width one → IsFormOver width other → IsFormOver width sum
+sum-over : (width : ℕ) (one other sum : Form) → fitting_sum one other ≡ Some sum → IsFormOver width one → IsFormOver width other → IsFormOver width sum
 sum-over width one other sum e is are =
     given-over width (form_sum one other) sum (length-sum_of one.coefficients other.coefficients (is.one_each ∙ sym are.one_each) ∙ is.one_each) e
 
@@ -75,13 +75,13 @@ pub sums-exact : SumsAreExact
 sums-exact = record { values = sum-value; over = sum-over }
 
 -- ---- multiples
-multiple-value : (k : ℤ) (form multiple : Form) (z : List ℤ) → multiplied k form ≡ Some multiple → value_of multiple z ≡ k *ℤ value_of form z
+multiple-value : (k : ℤ) (form multiple : Form) (z : List ℤ) → fitting_multiple k form ≡ Some multiple → value_of multiple z ≡ k *ℤ value_of form z
 multiple-value k form multiple z e =
     ap (λ made. value_of made z) (sym (given-is (form_multiple k form) multiple e))
     ∙ ap (λ v. v +ℤ k *ℤ form.constant) (product_of-scaled k form.coefficients z)
     ∙ sym (mul-add_ℤ k (product_of form.coefficients z) form.constant)
 
-multiple-over : (width : ℕ) (k : ℤ) (form multiple : Form) → multiplied k form ≡ Some multiple → IsFormOver width form → IsFormOver width multiple
+multiple-over : (width : ℕ) (k : ℤ) (form multiple : Form) → fitting_multiple k form ≡ Some multiple → IsFormOver width form → IsFormOver width multiple
 multiple-over width k form multiple e is =
     given-over width (form_multiple k form) multiple (length-map form.coefficients (λ x. k *ℤ x) ∙ is.one_each) e
 
@@ -91,7 +91,7 @@ multiples-exact = record { values = multiple-value; over = multiple-over }
 -- ---- compositions
 step-value : (sum : Form) (k : ℤ) (form more : Form) (z : List ℤ) → with_multiple sum k form ≡ Some more → value_of more z ≡ value_of sum z +ℤ k *ℤ value_of form z
 step-value sum k form more z e =
-    option_and_then_some (added sum) (multiplied k form) more e (λ multiple given rest.
+    option_and_then_some (fitting_sum sum) (fitting_multiple k form) more e (λ multiple given rest.
     sum-value sum multiple more z rest ∙ ap (λ v. value_of sum z +ℤ v) (multiple-value k form multiple z given))
 
 multiples-value : (sum : Form) (ks : List ℤ) (forms : List Form) (whole : Form) (z : List ℤ) → length forms ≡ length ks → with_multiples sum ks forms ≡ Some whole
@@ -107,9 +107,9 @@ multiples-value sum (k ∷ ks) (form ∷ forms) whole z one_each e =
     ∙ add_assoc_ℤ (value_of sum z) (k *ℤ value_of form z) (product_of ks (map (λ form. value_of form z) forms)))
 
 composition-value : (width : ℕ) (form whole : Form) (forms : List Form) (z : List ℤ) → length forms ≡ length form.coefficients
-    → composed width form forms ≡ Some whole → value_of whole z ≡ value_of form (map (λ replacing. value_of replacing z) forms)
+    → fitting_composition width form forms ≡ Some whole → value_of whole z ≡ value_of form (map (λ replacing. value_of replacing z) forms)
 composition-value width form whole forms z one_each e =
-    option_and_then_some (λ sum. added sum (constant_form width form.constant)) (with_multiples (constant_form width (pos 0)) form.coefficients forms) whole e (λ sum given rest.
+    option_and_then_some (λ sum. fitting_sum sum (constant_form width form.constant)) (with_multiples (constant_form width (pos 0)) form.coefficients forms) whole e (λ sum given rest.
     sum-value sum (constant_form width form.constant) whole z rest
     ∙ ap₂ ◌+ℤ◌
     (multiples-value (constant_form width (pos 0)) form.coefficients forms sum z one_each given
@@ -122,7 +122,7 @@ constant-over width k h = record { one_each = length-replicate width (pos 0); co
 
 step-over : (width : ℕ) (sum : Form) (k : ℤ) (form more : Form) → IsFormOver width sum → IsFormOver width form → with_multiple sum k form ≡ Some more → IsFormOver width more
 step-over width sum k form more is are e =
-    option_and_then_some (added sum) (multiplied k form) more e (λ multiple given rest.
+    option_and_then_some (fitting_sum sum) (fitting_multiple k form) more e (λ multiple given rest.
     sum-over width sum multiple more rest is (multiple-over width k form multiple given are))
 
 multiples-over : (width : ℕ) (sum : Form) (ks : List ℤ) (forms : List Form) (whole : Form) → IsFormOver width sum → AllByRecursion (IsFormOver width) forms
@@ -134,9 +134,9 @@ multiples-over width sum (k ∷ ks) (form ∷ forms) whole is are e =
     multiples-over width more ks forms whole (step-over width sum k form more is are.0 given) are.1 rest)
 
 composition-over : (width : ℕ) (form whole : Form) (forms : List Form) → Fits form.constant → AllByRecursion (IsFormOver width) forms
-    → composed width form forms ≡ Some whole → IsFormOver width whole
+    → fitting_composition width form forms ≡ Some whole → IsFormOver width whole
 composition-over width form whole forms h are e =
-    option_and_then_some (λ sum. added sum (constant_form width form.constant)) (with_multiples (constant_form width (pos 0)) form.coefficients forms) whole e (λ sum given rest.
+    option_and_then_some (λ sum. fitting_sum sum (constant_form width form.constant)) (with_multiples (constant_form width (pos 0)) form.coefficients forms) whole e (λ sum given rest.
     sum-over width sum (constant_form width form.constant) whole rest
     (multiples-over width (constant_form width (pos 0)) form.coefficients forms sum (constant-over width (pos 0) zero_fits) are given) (constant-over width form.constant h))
 

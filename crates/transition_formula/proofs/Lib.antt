@@ -18,3 +18,5 @@ pub mod Runs
 pub mod FittingLists
 pub mod FormValues
 pub mod FormSteps
+pub mod AtomsTold
+pub mod PrintableTexts

@@ -38,3 +38,7 @@ take-slice_get xs k x e = take_more xs k x (slice_get_within xs k x e) ∙ ap (�
 pub numbered-within : {A : Type 0} (xs : List A) (i : ℕ) (x : A) → numbered xs i ≡ Some x → (0 < i) × (i ≤ length xs)
 numbered-within xs zero x e = cc
 numbered-within xs (suc k) x e = let h = slice_get_within xs k x e in (omega arith, omega arith)
+
+-- an element has one value
+pub numbered-one : {A : Type 0} (xs : List A) (i : ℕ) (x y : A) → numbered xs i ≡ Some x → numbered xs i ≡ Some y → x ≡ y
+numbered-one xs i x y e f = let both : Some x ≡ Some y = sym e ∙ f in cc

@@ -24,7 +24,7 @@ pub term_text-none : (first : Bool) (k : ℤ) (name : List ℕ) → k ≡ pos 0 
 term_text-none first k name e = rw e refl
 
 -- a number with its star, and then a word: no blank, and no `-` at its front
-factored-no_blanks : (n : ℕ) (name : List ℕ) → Fits (pos n) → IsWord name → AllByRecursion (λ b. b ≢ 32) (factor n ++ name)
+pub factored-no_blanks : (n : ℕ) (name : List ℕ) → Fits (pos n) → IsWord name → AllByRecursion (λ b. b ≢ 32) (factor n ++ name)
 factored-no_blanks n name fits is = elim (eqb_tells n 1) [
   | inl p ↦ rw (factor-one n p.1) (no_blanks name is.bytes)
   | inr p ↦ rw (factor-more n p.1, append_assoc) (AllByRecursion-append (λ b. b ≢ 32) (number_text (pos n)) (42 ∷ name) (no_blanks (number_text (pos n)) (number_text-plain n fits)) (λ e. omega arith, no_blanks name is.bytes))
@@ -40,7 +40,7 @@ star_no_minus rest e = omega arith
 blank_no_minus : (rest : List ℕ) → HasNoMinus (32 ∷ rest)
 blank_no_minus rest e = omega arith
 
-factored-no_minus : (n : ℕ) (name rest : List ℕ) → Fits (pos n) → IsWord name → HasNoMinus ((factor n ++ name) ++ (32 ∷ rest))
+pub factored-no_minus : (n : ℕ) (name rest : List ℕ) → Fits (pos n) → IsWord name → HasNoMinus ((factor n ++ name) ++ (32 ∷ rest))
 factored-no_minus n name rest fits is = elim (eqb_tells n 1) [
   | inl p ↦ rw (factor-one n p.1) (no_minus-front name (32 ∷ rest) is.bytes (blank_no_minus rest))
   | inr p ↦ rw (factor-more n p.1, append_assoc, append_assoc) (no_minus-front (number_text (pos n)) (42 ∷ (name ++ (32 ∷ rest))) (number_text-plain n fits) (star_no_minus (name ++ (32 ∷ rest))))

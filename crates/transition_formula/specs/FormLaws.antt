@@ -4,7 +4,7 @@ use Rattle.std.specs.List.{AllByRecursion}
 use Rattle.thr_base.specs.Number.{Fits}
 use Rattle.transition_formula.specs.Program.{Form, IsFormOver}
 use Rattle.transition_formula.specs.Step.{value_of}
-use Rattle.transition_formula.specs.Forms.{constant_form, column_form, added, multiplied, composed, value_if_fits}
+use Rattle.transition_formula.specs.Forms.{constant_form, column_form, fitting_sum, fitting_multiple, fitting_composition, value_if_fits}
 
 -- A constant form has its value everywhere, and a column's form has the column's.
 pub record FormsAreMade : Type 0 where
@@ -13,20 +13,20 @@ pub record FormsAreMade : Type 0 where
 
 -- A sum of forms that is given has the sum of their values, over unbounded integers; it is over the same columns.
 pub record SumsAreExact : Type 0 where
-  pub values : (one other sum : Form) (z : List ℤ) → added one other ≡ Some sum → value_of sum z ≡ value_of one z +ℤ value_of other z
-  pub over : (width : ℕ) (one other sum : Form) → added one other ≡ Some sum → IsFormOver width one → IsFormOver width other → IsFormOver width sum
+  pub values : (one other sum : Form) (z : List ℤ) → fitting_sum one other ≡ Some sum → value_of sum z ≡ value_of one z +ℤ value_of other z
+  pub over : (width : ℕ) (one other sum : Form) → fitting_sum one other ≡ Some sum → IsFormOver width one → IsFormOver width other → IsFormOver width sum
 
 -- A multiple of a form that is given has the multiple of its value.
 pub record MultiplesAreExact : Type 0 where
-  pub values : (k : ℤ) (form multiple : Form) (z : List ℤ) → multiplied k form ≡ Some multiple → value_of multiple z ≡ k *ℤ value_of form z
-  pub over : (width : ℕ) (k : ℤ) (form multiple : Form) → multiplied k form ≡ Some multiple → IsFormOver width form → IsFormOver width multiple
+  pub values : (k : ℤ) (form multiple : Form) (z : List ℤ) → fitting_multiple k form ≡ Some multiple → value_of multiple z ≡ k *ℤ value_of form z
+  pub over : (width : ℕ) (k : ℤ) (form multiple : Form) → fitting_multiple k form ≡ Some multiple → IsFormOver width form → IsFormOver width multiple
 
 -- A composition that is given has the form's value at the values of the forms that replace the columns.
 pub record CompositionsAreExact : Type 0 where
   pub values : (width : ℕ) (form whole : Form) (forms : List Form) (z : List ℤ) → length forms ≡ length form.coefficients
-      → composed width form forms ≡ Some whole → value_of whole z ≡ value_of form (map (λ replacing. value_of replacing z) forms)
+      → fitting_composition width form forms ≡ Some whole → value_of whole z ≡ value_of form (map (λ replacing. value_of replacing z) forms)
   pub over : (width : ℕ) (form whole : Form) (forms : List Form) → Fits form.constant → AllByRecursion (IsFormOver width) forms
-      → composed width form forms ≡ Some whole → IsFormOver width whole
+      → fitting_composition width form forms ≡ Some whole → IsFormOver width whole
 
 -- A value that is given is the form's, over unbounded integers, and fits.
 pub record ValuesAreExact : Type 0 where

@@ -39,18 +39,18 @@ abbrev pub form_multiple : ℤ → Form → Form
 form_multiple k form = record { coefficients = scaled k form.coefficients; constant = k *ℤ form.constant }
 
 -- the sum, where each of its numbers fits
-abbrev pub added : Form → Form → Option Form
-added one other = fitting_form (form_sum one other)
+abbrev pub fitting_sum : Form → Form → Option Form
+fitting_sum one other = fitting_form (form_sum one other)
 
 -- the form times k, where each of its numbers fits
-abbrev pub multiplied : ℤ → Form → Option Form
-multiplied k form = fitting_form (form_multiple k form)
+abbrev pub fitting_multiple : ℤ → Form → Option Form
+fitting_multiple k form = fitting_form (form_multiple k form)
 
 -- ---- compositions
 
 -- the sum with k times a form, where both fit
 abbrev pub with_multiple : Form → ℤ → Form → Option Form
-with_multiple sum k form = option_and_then (added sum) (multiplied k form)
+with_multiple sum k form = option_and_then (fitting_sum sum) (fitting_multiple k form)
 
 -- The sum with the multiples of forms, one after another.
 abbrev pub with_multiples : Form → List ℤ → List Form → Option Form
@@ -60,9 +60,9 @@ with_multiples sum (k ∷ ks) (form ∷ forms) = option_and_then (λ more. with_
 
 -- The form with its columns replaced by forms of this width: the multiples are summed in column order, and the form's own
 -- constant comes last.
-abbrev pub composed : ℕ → Form → List Form → Option Form
-composed width form forms =
-    option_and_then (λ sum. added sum (constant_form width form.constant)) (with_multiples (constant_form width (pos 0)) form.coefficients forms)
+abbrev pub fitting_composition : ℕ → Form → List Form → Option Form
+fitting_composition width form forms =
+    option_and_then (λ sum. fitting_sum sum (constant_form width form.constant)) (with_multiples (constant_form width (pos 0)) form.coefficients forms)
 
 -- ---- values
 

@@ -10,4 +10,5 @@ pub mod StoredStep
 pub mod StoredRun
 pub mod Laws
 pub mod FormLaws
+pub mod TextLaws
 pub mod inside

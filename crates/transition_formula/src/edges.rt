@@ -21,7 +21,7 @@ struct Shape {
     inputs: u32,
 }
 
-/// Appends the row that gives a column its value. Here and below, `row` is room for the coefficients.
+/// Appends the row that gives a column its value. Here and below, `row` is room for the coefficients, and its numbers are lost.
 pub fn push_column_is(
     rows: &mut Rows,
     row: &mut Vec<i128>,
@@ -65,7 +65,7 @@ fn sets_column(sets: &[(u32, Line)], column: u32) -> bool
     sets.iter().any(|set| set.0 == column)
 }
 
-fn is_kept(counter: u32, edge: &Edge, column: u32) -> bool
+pub(crate) fn is_kept(counter: u32, edge: &Edge, column: u32) -> bool
     ensures { result ≡ is_kept counter (edge_of edge.now) column }
 {
     column != counter && !sets_column(edge.sets.as_slice(), column)
@@ -224,7 +224,7 @@ fn rows_of(
     Ok(rows)
 }
 
-fn edge_at(thread: &ThreadGraph, e: EdgeNo) -> &Edge
+pub(crate) fn edge_at(thread: &ThreadGraph, e: EdgeNo) -> &Edge
     requires { IsSome (numbered (thread_of thread.now).edges e.0) }
     ensures { numbered (thread_of thread.now).edges e.0 ≡ Some (edge_of result.now) }
 {

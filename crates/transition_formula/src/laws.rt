@@ -1,4 +1,5 @@
 ghost use Rattle.transition_formula.specs.FormLaws.{FormsAreMade, SumsAreExact, MultiplesAreExact, CompositionsAreExact, ValuesAreExact};
+ghost use Rattle.transition_formula.specs.TextLaws.{ColumnTextsAreWords, AtomTextsTellAtoms, AtomTextsArePrintable};
 ghost use Rattle.transition_formula.specs.Laws.{InitRowsAreExact, EdgeRowsAreExact, RunsEndInReachedStates, FailingStatesEndRuns, FailingRunsReach};
 
 /// The rows of the initial states hold at exactly these: a law, and no code.
@@ -27,4 +28,12 @@ pub fn forms_are_exact()
     ensures multiples { MultiplesAreExact }
     ensures compositions { CompositionsAreExact }
     ensures values { ValuesAreExact }
+{}
+
+/// A text is that of one atom at most, and stands in one line; the text of a column has no byte that parts of atoms
+/// are joined by: laws, and no code.
+pub fn atom_texts_tell_atoms()
+    ensures atoms { AtomTextsTellAtoms }
+    ensures printable { AtomTextsArePrintable }
+    ensures columns { ColumnTextsAreWords }
 {}

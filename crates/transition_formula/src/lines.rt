@@ -3,7 +3,7 @@ ghost use Rattle.std.specs.List.{AllByRecursion};
 ghost use Rattle.lin_rows.specs.Exact.{fitting};
 ghost use Rattle.lin_rows.specs.Row.{scaled, sum_of};
 ghost use Rattle.lin_rows.specs.Sum.{summed, sum_in_order};
-ghost use Rattle.transition_formula.specs.Forms.{added, column_form, composed, constant_form, multiplied, value_if_fits, with_multiple, with_multiples};
+ghost use Rattle.transition_formula.specs.Forms.{fitting_sum, column_form, fitting_composition, constant_form, fitting_multiple, value_if_fits, with_multiple, with_multiples};
 ghost use Rattle.transition_formula.specs.Stored.{form_of};
 ghost use Rattle.transition_formula.specs.inside.FormParts.{fitting_list, form_of_both};
 
@@ -144,7 +144,7 @@ impl Line {
     /// The sum, where each of its numbers fits.
     pub fn plus(&self, alloc: Global, other: &Line) -> Result<Option<Line>, AllocError>
         requires { length (form_of self.now).coefficients ≡ length (form_of other.now).coefficients }
-        ensures { IfOk result (λ made. option_map form_of made ≡ added (form_of self.now) (form_of other.now)) }
+        ensures { IfOk result (λ made. option_map form_of made ≡ fitting_sum (form_of self.now) (form_of other.now)) }
     {
         let coefficients = sums_of(
             alloc,
@@ -156,7 +156,7 @@ impl Line {
 
     /// The line times a number, where each number of it fits.
     pub fn times(&self, alloc: Global, k: i128) -> Result<Option<Line>, AllocError>
-        ensures { IfOk result (λ made. option_map form_of made ≡ multiplied k (form_of self.now)) }
+        ensures { IfOk result (λ made. option_map form_of made ≡ fitting_multiple k (form_of self.now)) }
     {
         let coefficients = products_of(alloc, k, self.coefficients.as_slice())?;
         Ok(line_of(coefficients, product_if_fits(k, self.constant)))
@@ -172,7 +172,7 @@ impl Line {
     ) -> Result<Option<Line>, AllocError>
         requires one_each { length lines.now ≡ length (form_of self.now).coefficients }
         requires widths { AllByRecursion (λ form. length form.coefficients ≡ width) (map form_of lines.now) }
-        ensures { IfOk result (λ made. option_map form_of made ≡ composed width (form_of self.now) (map form_of lines.now)) }
+        ensures { IfOk result (λ made. option_map form_of made ≡ fitting_composition width (form_of self.now) (map form_of lines.now)) }
     {
         let multiples = multiples_of(alloc, width, self.coefficients.as_slice(), lines)?;
         match multiples {

@@ -1,10 +1,12 @@
 ghost use Rattle.std.specs.Prelude.{◌≡◌, ◌<◌, ◌≤◌, Some, length, map, option_map, slice_get, IsSome};
-ghost use Rattle.transition_formula.specs.Program.{IsProgram, numbered};
+ghost use Rattle.transition_formula.specs.Program.{Thread, IsProgram, IsThreadOf, numbered};
+ghost use Rattle.transition_formula.specs.Rows.{is_kept};
 ghost use Rattle.transition_formula.specs.Stored.{column_of, edge_of, program_of, thread_of};
 
+use crate::edges::{edge_at, is_kept};
 use crate::graph::{Column, Edge, ThreadGraph};
 use std::marker::Model;
-use thr_base::ThreadNo;
+use thr_base::{EdgeNo, ThreadNo};
 
 /// A program: its columns, and its threads as graphs.
 #[derive(Debug, Drop)]
@@ -95,5 +97,23 @@ impl Program {
         ensures { option_map (λ thread. thread.edges) (numbered self.now.threads i.0) ≡ Some (map edge_of result.now) }
     {
         self.thread(i).edges.as_slice()
+    }
+
+    /// An edge of a thread.
+    pub fn edge(&self, i: ThreadNo, e: EdgeNo) -> &Edge
+        requires thread { IsSome (numbered self.now.threads i.0) }
+        requires edge { (thread : Thread) → IsThreadOf self.now i.0 thread → IsSome (numbered thread.edges e.0) }
+        ensures { (thread : Thread) → IsThreadOf self.now i.0 thread → numbered thread.edges e.0 ≡ Some (edge_of result.now) }
+    {
+        edge_at(self.thread(i), e)
+    }
+
+    /// Whether each step by an edge keeps a column: it is not the thread's counter, and the edge does not set it.
+    pub fn keeps(&self, i: ThreadNo, e: EdgeNo, column: u32) -> bool
+        requires thread { IsSome (numbered self.now.threads i.0) }
+        requires edge { (thread : Thread) → IsThreadOf self.now i.0 thread → IsSome (numbered thread.edges e.0) }
+        ensures { (thread : Thread) → IsThreadOf self.now i.0 thread → option_map (λ edge. is_kept thread.counter edge column) (numbered thread.edges e.0) ≡ Some result }
+    {
+        is_kept(self.counter(i), self.edge(i, e), column)
     }
 }

@@ -1,116 +1,8 @@
-ghost use Rattle.std.specs.Prelude.{◌≡◌, ◌<◌, ◌^◌, ◌∷◌, [], map, length, option_map, IfOk};
-ghost use Rattle.std.specs.List.{AllByRecursion};
-ghost use Rattle.thr_base.specs.Number.{Fits};
-ghost use Rattle.lin_rows.specs.Row.{Row};
-ghost use Rattle.transition_formula.specs.Stored.{column_of, edge_of, form_of, thread_of};
-ghost use Rattle.transition_formula.specs.inside.Worked.{worked_columns, worked_test, own_form, shared_form, first_edge, second_edge, worked_thread, worked_threads, worked_program};
-
 use super::*;
-use lin_rows::{Rows, RowsView};
+use lin_rows::RowsView;
 use std::alloc::{AllocError, Global};
 use std::test::Fail;
-use thr_base::{EdgeNo, Loc, ThreadNo};
-
-fn column(
-    alloc: Global,
-    text: &[u8],
-    owner: Option<ThreadNo>,
-    start: Option<i128>,
-) -> Result<Column, AllocError>
-    ensures { IfOk result (λ made. column_of made ≡ record { text = text.now; owner = option_map (λ thread. thread.0) owner; start = start }) }
-{
-    let text = Vec::from_slice(alloc, text)?;
-    Ok(Column { text, owner, start })
-}
-
-/// A shared column, one of the first thread's own, and the counters of two threads.
-fn columns(alloc: Global) -> Result<Vec<Column>, AllocError>
-    ensures { IfOk result (λ made. map column_of made.items ≡ worked_columns) }
-{
-    let mut columns = Vec::new(alloc);
-    columns.push(column(alloc, b"x", None, Some(0))?)?;
-    columns.push(column(alloc, b"t1.l", Some(ThreadNo(1)), None)?)?;
-    columns.push(column(alloc, b"t1.$pc", Some(ThreadNo(1)), Some(1))?)?;
-    columns.push(column(alloc, b"t2.$pc", Some(ThreadNo(2)), Some(1))?)?;
-    Ok(columns)
-}
-
-fn line(alloc: Global, coefficients: &[i128], constant: i128) -> Result<Line, AllocError>
-    ensures { IfOk result (λ made. form_of made ≡ record { coefficients = coefficients.now; constant = constant }) }
-{
-    let coefficients = Vec::from_slice(alloc, coefficients)?;
-    Ok(Line {
-        coefficients,
-        constant,
-    })
-}
-
-fn tests_of_first(alloc: Global) -> Result<Rows, AllocError>
-    ensures { IfOk result (λ rows. rows.rows ≡ worked_test ∷ []) }
-{
-    let mut tests = Rows::new(alloc, 5);
-    tests.push(false, &[2, 0, 0, 0, 5], 7)?;
-    Ok(tests)
-}
-
-/// Where `2x + 5i <= 7`, the first thread sets its own column to `x - i + 3`, with `i` the input.
-fn first(alloc: Global) -> Result<Edge, AllocError>
-    ensures { IfOk result (λ made. edge_of made ≡ first_edge) }
-{
-    let mut sets = Vec::new(alloc);
-    sets.push((1, line(alloc, &[1, 0, 0, 0, -1], 3)?))?;
-    Ok(Edge {
-        from: Loc(1),
-        to: Loc(2),
-        inputs: 1,
-        tests: tests_of_first(alloc)?,
-        sets,
-    })
-}
-
-/// The second thread adds 1 to the shared column.
-fn second(alloc: Global) -> Result<Edge, AllocError>
-    ensures { IfOk result (λ made. edge_of made ≡ second_edge) }
-{
-    let mut sets = Vec::new(alloc);
-    sets.push((0, line(alloc, &[1, 0, 0, 0], 1)?))?;
-    Ok(Edge {
-        from: Loc(1),
-        to: Loc(2),
-        inputs: 0,
-        tests: Rows::new(alloc, 4),
-        sets,
-    })
-}
-
-fn thread(alloc: Global, counter: u32, edge: Edge) -> Result<ThreadGraph, AllocError>
-    ensures { IfOk result (λ made. thread_of made ≡ worked_thread counter (edge_of edge)) }
-{
-    let mut edges = Vec::new(alloc);
-    edges.push(edge)?;
-    Ok(ThreadGraph {
-        counter,
-        locations: 3,
-        edges,
-    })
-}
-
-fn threads(alloc: Global) -> Result<Vec<ThreadGraph>, AllocError>
-    ensures { IfOk result (λ made. map thread_of made.items ≡ worked_threads) }
-{
-    let mut threads = Vec::new(alloc);
-    threads.push(thread(alloc, 2, first(alloc)?)?)?;
-    threads.push(thread(alloc, 3, second(alloc)?)?)?;
-    Ok(threads)
-}
-
-fn worked(alloc: Global) -> Result<Program, AllocError>
-    ensures { IfOk result (λ program. program ≡ worked_program) }
-{
-    let columns = columns(alloc)?;
-    let threads = threads(alloc)?;
-    Ok(Program::new(columns, threads))
-}
+use thr_base::{EdgeNo, ThreadNo};
 
 /// The row at a place is this one.
 fn is_row(
@@ -134,7 +26,7 @@ fn is_equality(rows: &RowsView<'_>, place: u32, coefficients: &[i128], bound: i1
 
 #[test]
 fn initial_rows_of_two_threads(rt: HostRuntime) -> Result<(), Fail> {
-    let program = worked(rt.alloc())?;
+    let program = two_threads(rt.alloc())?;
     let rows = init_rows(rt.alloc(), &program)?;
     let rows = rows.view();
     assert_eq!(rt; rows.count(), 3);
@@ -146,7 +38,7 @@ fn initial_rows_of_two_threads(rt: HostRuntime) -> Result<(), Fail> {
 
 #[test]
 fn rows_of_an_edge_with_a_test_and_an_input(rt: HostRuntime) -> Result<(), Fail> {
-    let program = worked(rt.alloc())?;
+    let program = two_threads(rt.alloc())?;
     let rows = edge_rows(rt.alloc(), &program, ThreadNo(1), EdgeNo(1))?;
     let rows = rows.view();
     assert_eq!(rt; (rows.columns(), rows.count()), (9, 6));
@@ -161,7 +53,7 @@ fn rows_of_an_edge_with_a_test_and_an_input(rt: HostRuntime) -> Result<(), Fail>
 
 #[test]
 fn rows_of_an_edge_of_the_second_thread(rt: HostRuntime) -> Result<(), Fail> {
-    let program = worked(rt.alloc())?;
+    let program = two_threads(rt.alloc())?;
     let rows = edge_rows(rt.alloc(), &program, ThreadNo(2), EdgeNo(1))?;
     let rows = rows.view();
     assert_eq!(rt; (rows.columns(), rows.count()), (8, 5));
@@ -175,7 +67,7 @@ fn rows_of_an_edge_of_the_second_thread(rt: HostRuntime) -> Result<(), Fail> {
 
 #[test]
 fn rows_that_all_threads_see_of_an_edge(rt: HostRuntime) -> Result<(), Fail> {
-    let program = worked(rt.alloc())?;
+    let program = two_threads(rt.alloc())?;
     let rows = seen_rows(rt.alloc(), &program, ThreadNo(2), EdgeNo(1))?;
     let rows = rows.view();
     assert_eq!(rt; (rows.columns(), rows.count()), (8, 4));
@@ -188,7 +80,7 @@ fn rows_that_all_threads_see_of_an_edge(rt: HostRuntime) -> Result<(), Fail> {
 
 #[test]
 fn parts_of_a_program(rt: HostRuntime) -> Result<(), Fail> {
-    let program = worked(rt.alloc())?;
+    let program = two_threads(rt.alloc())?;
     assert_eq!(rt; (program.columns(), program.threads()), (4, 2));
     assert!(rt; program.column(1).text.as_slice() == b"t1.l".as_slice());
     assert!(rt; program.column(1).start == None && program.column(0).start == Some(0));
@@ -196,6 +88,9 @@ fn parts_of_a_program(rt: HostRuntime) -> Result<(), Fail> {
     assert_eq!(rt; program.locations(ThreadNo(1)), 3);
     assert_eq!(rt; program.counter(ThreadNo(2)), 3);
     assert_eq!(rt; program.edges(ThreadNo(2)).len(), 1);
+    assert_eq!(rt; program.edge(ThreadNo(1), EdgeNo(1)).inputs, 1);
+    assert!(rt; program.keeps(ThreadNo(1), EdgeNo(1), 0));
+    assert!(rt; !program.keeps(ThreadNo(1), EdgeNo(1), 1));
     Ok(())
 }
 
@@ -229,7 +124,7 @@ fn is_no_text(
 #[test]
 fn texts_of_atoms(rt: HostRuntime) -> Result<(), Fail> {
     let alloc = rt.alloc();
-    let program = worked(rt.alloc())?;
+    let program = two_threads(rt.alloc())?;
     assert!(rt;
         is_text_of(
             alloc,
@@ -266,7 +161,7 @@ fn texts_of_atoms(rt: HostRuntime) -> Result<(), Fail> {
 
 #[test]
 fn texts_of_no_atom(rt: HostRuntime) -> Result<(), Fail> {
-    let program = worked(rt.alloc())?;
+    let program = two_threads(rt.alloc())?;
     let lines = b"2*x <= 4
 x <= 170141183460469231731687303715884105727
 1*x <= 0

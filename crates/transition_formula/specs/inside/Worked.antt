@@ -1,4 +1,4 @@
--- The program of the tests. No public clause cites this file.
+-- The program of the tests. No public clause cites this file but that of `two_threads`, which makes it for tests.
 use Rattle.std.specs.Prelude.{ℕ, pos, negsuc, List, [], ◌∷◌, Some, None, false}
 use Rattle.lin_rows.specs.Row.{Row}
 use Rattle.transition_formula.specs.Program.{Form, Column, Edge, Thread, Program}

@@ -3,18 +3,18 @@ use Rattle.std.specs.Int.{w128}
 use Rattle.std.specs.List.{AllByRecursion}
 use Rattle.lin_rows.specs.View.{row_of, system_of}
 use Rattle.farkas_cert.specs.Point.{Passes, Breaks, row_overflow}
-use Rattle.farkas_cert.proofs.PointSums.{IsFirst-next, AllByRecursion-take_more, IsRationalPoint-passes}
+use Rattle.farkas_cert.proofs.PointSums.{IsFirstRow-next, AllByRecursion-take_more, IsRationalPoint-passes}
 use Rattle.farkas_cert.proofs.point.check_point.Goals as goal
 
 pub returns-in-Breaks-clause-answer : goal.returns-in-Breaks-clause-answer
 returns-in-Breaks-clause-answer c =
     let d = to_z-of_z {w = w128} c.ranges.d in
-    IsFirst-next (Breaks c.args.x.now c.args.d) c.args.x.now c.args.d (system_of c.args.rows.now).rows c.rows.place (row_of c.row.result) (rw d at c.rows.invariant) c.row.ensures.row (rw d at c.in-Breaks.ensures)
+    IsFirstRow-next (Breaks c.args.x.now c.args.d) c.args.x.now c.args.d (system_of c.args.rows.now).rows c.rows.place (row_of c.row.result) (rw d at c.rows.invariant) c.row.ensures.row (rw d at c.in-Breaks.ensures)
 
 pub returns-in-Overflow-clause-answer : goal.returns-in-Overflow-clause-answer
 returns-in-Overflow-clause-answer c =
     let d = to_z-of_z {w = w128} c.ranges.d in
-    IsFirst-next (λ r. row_overflow c.args.x.now c.args.d r ≡ Some c.in-Overflow.column) c.args.x.now c.args.d (system_of c.args.rows.now).rows c.rows.place (row_of c.row.result) (rw d at c.rows.invariant) c.row.ensures.row (rw d at c.in-Overflow.ensures)
+    IsFirstRow-next (λ r. row_overflow c.args.x.now c.args.d r ≡ Some c.in-Overflow.column) c.args.x.now c.args.d (system_of c.args.rows.now).rows c.rows.place (row_of c.row.result) (rw d at c.rows.invariant) c.row.ensures.row (rw d at c.in-Overflow.ensures)
 
 pub rows-preserved : goal.rows-preserved
 rows-preserved c =
