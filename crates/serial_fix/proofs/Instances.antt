@@ -256,7 +256,7 @@ env-of program lists found one told id other_id first second home_f home_t run t
       given = env_case program (sets_of program lists) k l place.thread edge_place.thread edge (fact_of program one) (fact_of program told);
       is_case = env id other_id first second k l i e place.thread edge_place.thread edge (fact_of program one) (fact_of program told)
           (says program lists found one id first run there_f is_f) (says program lists found told other_id second run there_t is_t) differ place.thread_is edge_is at_f at_t;
-          home_is = found-number program lists found one run there_f ∙ ap Some at_f;
+      home_is = found-number program lists found one run there_f ∙ ap Some at_f;
       stand = (Contains-map (fact_of program) found.facts one there_f, (Contains-map (fact_of program) found.facts told there_t, tt));
       first_is = is-premise program lists found one id first run there_f is_f;
       second_is = is-premise program lists found told other_id second run there_t is_t;

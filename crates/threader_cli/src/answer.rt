@@ -4,7 +4,6 @@ ghost use Rattle.thr_base.specs.Reading.{KeepsFiles};
 ghost use Rattle.horn_rules.specs.Stored.{AreStoredSetsOf};
 ghost use Rattle.threader_cli.specs.Answer as specs;
 ghost use Rattle.threader_cli.specs.Answer.{predicates_text, no_predicates, AnswersFiles, AnswersPredicates, AnswersProgram, AnswersProgramText, AnswersTables, AnswersText, Ends, Frame};
-
 ghost use Rattle.threader_cli.specs.inside.Parts.{names, IsReadText, Wrote};
 
 use crate::reader::read_program;

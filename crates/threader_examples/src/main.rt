@@ -1,10 +1,9 @@
 //! Runs the program on the examples, and tells of each run whether it answers what is stored beside them.
 #![tactic(auto)]
 
-use std::fs;
-use std::io;
 use std::rt::Files;
 use std::str::FromStr;
+use std::{fs, io};
 use thr_base::{FileStore, RoomSink};
 use threader_cli::threader_serial;
 
