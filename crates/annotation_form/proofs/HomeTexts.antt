@@ -5,7 +5,7 @@ use Rattle.thr_base.specs.Number.{Fits, number_text}
 use Rattle.thr_base.proofs.Numbers.{IsTextOf-number_text}
 use Rattle.horn_rules.specs.Home.{Home, State, Env}
 use Rattle.transition_formula.proofs.Words.{number_text-plain, no_blanks}
-use Rattle.annotation_form.specs.inside.Reading.{IsSmall, AreWordsOf, IsHead}
+use Rattle.annotation_form.specs.Reading.{IsSmall, AreWordsOf, IsHead}
 use Rattle.annotation_form.proofs.Cuts.{cut-at_mark, no_mark}
 
 abbrev pub HasNoBlank : List ℕ → Type 0

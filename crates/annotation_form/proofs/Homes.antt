@@ -5,16 +5,14 @@ use Rattle.std.specs.Option.{IsSome}
 use Rattle.std.specs.List.{slice_get, Contains, range_with_len}
 use Rattle.std.proofs.lemmas.Option.{slice_get_within, slice_get-map, get_or_from_slice_get}
 use Rattle.std.proofs.lemmas.List.{length-map}
-use Rattle.std.proofs.lemmas.List.Elements.{Contains-append_left, Contains-append_right}
 use Rattle.std.proofs.lemmas.List.FromFn.{length-map-range_with_len}
 use Rattle.transition_formula.specs.Program.{Program, Thread, IsThreadOf, IsProgram, numbered}
 use Rattle.transition_formula.specs.Stored.{edge_of}
 use Rattle.transition_formula.specs.declared.graph.Edge.{Edge as StoredEdge}
-use Rattle.horn_rules.specs.Home.{Home, State, Env, by_number, state_homes, env_homes, homes, IsHomeOf}
-use Rattle.horn_rules.proofs.Places.{range-at}
-use Rattle.horn_rules.proofs.ByNumber.{by_number-there}
+use Rattle.horn_rules.specs.Home.{Home, State, Env, by_thread, state_homes, env_homes, homes, IsHomeOf}
+use Rattle.horn_rules.proofs.Places.{slice_get-append_left, slice_get-append_right, range-at, by_thread-at}
 use Rattle.horn_rules.proofs.Numbers.{state_home-place, env_home-place}
-use Rattle.annotation_form.specs.inside.Reading.{IsSmall}
+use Rattle.annotation_form.specs.Reading.{IsSmall}
 
 contains : {A : Type 0} (xs : List A) (p : ℕ) (x : A) → slice_get xs p ≡ Some x → Contains xs x
 contains xs p x e = (p, slice_get_within xs p x e, get_or_from_slice_get xs p x x e)
@@ -56,24 +54,27 @@ env_kind = record {
 -- ---- the homes that there are
 
 home-from_thread : (give : ℕ → Thread → List Home) (home_in : ℕ → ℕ → Home) → IsKind give home_in → (threads : List Thread) (k place : ℕ) (thread : Thread) → slice_get threads k ≡ Some thread
-    → place < length (give (suc k) thread) → Contains (by_number give 1 threads) (home_in (suc k) place)
-home-from_thread give home_in is threads k place thread at within =
-    let number : suc k ≡ 1 + k = omega arith in
-    by_number-there give 1 threads k thread (home_in (suc k) place) at
-    (subst (λ n. Contains (give n thread) (home_in (suc k) place)) number (contains (give (suc k) thread) place (home_in (suc k) place) (is.at (suc k) thread place within)))
+    → place < length (give (suc k) thread) → (p : ℕ) × (slice_get (by_thread give 1 threads) p ≡ Some (home_in (suc k) place))
+home-from_thread give home_in is threads k place thread at within = (
+  length (by_thread give 1 (take k threads)) + place,
+  by_thread-at give 1 k threads thread (suc k) _ place at (omega arith) within refl ∙ is.at (suc k) thread place within,
+)
 
 state-from_place : (program : Program) (i place : ℕ) (thread : Thread) → IsThreadOf program i thread → place < length (state_homes i thread) → IsHomeOf program (State i place)
 state-from_place program zero place thread at within = cc
 state-from_place program (suc k) place thread at within =
-    Contains-append_left (by_number state_homes 1 program.threads) (by_number env_homes 1 program.threads) (State (suc k) place)
-    (home-from_thread state_homes State state_kind program.threads k place thread at within)
+    let there = home-from_thread state_homes State state_kind program.threads k place thread at within in
+    contains (homes program) there.0 (State (suc k) place)
+    (slice_get-append_left (by_thread state_homes 1 program.threads) (by_thread env_homes 1 program.threads) there.0 (slice_get_within _ there.0 _ there.1) ∙ there.1)
 
 env-from_place : (program : Program) (i place : ℕ) (thread : Thread) → IsThreadOf program i thread → place < length (env_homes i thread) → IsHomeOf program (Env i (suc place))
 unfolding edge_at
 env-from_place program zero place thread at within = cc
 env-from_place program (suc k) place thread at within =
-    Contains-append_right (by_number state_homes 1 program.threads) (by_number env_homes 1 program.threads) (Env (suc k) (suc place))
-    (home-from_thread env_homes edge_at env_kind program.threads k place thread at within)
+    let there = home-from_thread env_homes edge_at env_kind program.threads k place thread at within in
+    let states = by_thread state_homes 1 program.threads in
+    contains (homes program) (length states + there.0) (Env (suc k) (suc place))
+    (slice_get-append_right states (by_thread env_homes 1 program.threads) (length states + there.0) there.0 refl ∙ there.1)
 
 -- what a thread has, where the thread is known
 pub location-there : (program : Program) (i l n : ℕ) (thread : Option Thread) → numbered program.threads i ≡ thread → option_map (λ thread. thread.locations) thread ≡ Some n → l < n → IsHomeOf program (State i l)

@@ -6,16 +6,14 @@ use Rattle.std.specs.Char.{IsAsciiDigit}
 use Rattle.thr_base.specs.Number.{Fits, number_text}
 use Rattle.thr_base.proofs.Numbers.{IsTextOf-number_text}
 use Rattle.lin_rows.specs.Row.{Row}
-use Rattle.lin_rows.proofs.Lists.{AllByRecursion-append, AllByRecursion-map, AllByRecursion-weaken}
-use Rattle.transition_formula.specs.Program.{Program, Column, IsColumn, IsProgram}
-use Rattle.transition_formula.specs.inside.AtomReading.{is_text_byte}
-use Rattle.transition_formula.proofs.ColumnTexts.{IsTextByte, text-bytes}
+use Rattle.lin_rows.proofs.Lists.{AllByRecursion-append, AllByRecursion-map}
+use Rattle.transition_formula.specs.Program.{Program, Column, IsProgram, IsTextOf, is_text_byte}
 use Rattle.transition_formula.specs.AtomText.{column_texts, atom_text, terms_text, term_text, joint, factor, IsAtomText}
 use Rattle.horn_rules.specs.Home.{Home, State, Env, home_width}
 use Rattle.horn_rules.specs.HomeText.{home_text}
 use Rattle.annotation_form.specs.Lines.{IsLine}
 use Rattle.annotation_form.specs.Predicates.{Predicate, IsPredicateOf, predicate_text, predicate_texts}
-use Rattle.annotation_form.specs.inside.Reading.{IsSmall, IsHead, IsLineOf, is_env}
+use Rattle.annotation_form.specs.Reading.{IsSmall, IsHead, IsLineOf, is_env}
 use Rattle.annotation_form.proofs.HomeTexts.{head-same, small-fits}
 use Rattle.annotation_form.proofs.Homes.{home-small}
 
@@ -97,19 +95,26 @@ terms-line first (k ∷ ks) [] fit lines = tt
 terms-line first (k ∷ ks) (text ∷ texts) fit lines =
     line-append (term_text first k text) (terms_text (first && (unsigned_abs k == 0)) ks texts) (term-line first k text fit.0 lines.0) (terms-line (first && (unsigned_abs k == 0)) ks texts fit.1 lines.1)
 
-text_byte-line : (b : ℕ) → IsTextByte b → b ≢ 10
+text_byte-line : (b : ℕ) → is_text_byte b ≡ true → b ≢ 10
 text_byte-line b passes e = let wrong : is_text_byte 10 ≡ true = subst (λ c. is_text_byte c ≡ true) e passes in cc
 
-column-line : (program : Program) (column : Column) → IsProgram program → IsColumn (length program.threads) column → IsLine column.text
-column-line program column is of =
-    AllByRecursion-weaken IsTextByte (λ b. b ≢ 10) text_byte-line column.text
-    (text-bytes (length program.threads) column.owner column.text (let few = is.few_threads in omega arith) of.text_is)
+bytes-line : (xs : List ℕ) → list_all is_text_byte xs ≡ true → IsLine xs
+bytes-line [] all = tt
+bytes-line (x ∷ xs) all = (text_byte-line x (left (is_text_byte x) (list_all is_text_byte xs) all), bytes-line xs (right (is_text_byte x) (list_all is_text_byte xs) all))
+  where
+    left : (a b : Bool) → (a && b) ≡ true → a ≡ true
+    left true b e = refl
+    left false b e = e
+
+    right : (a b : Bool) → (a && b) ≡ true → b ≡ true
+    right true b e = e
+    right false b e = cc
 
 columns-lines : (program : Program) → IsProgram program → AllByRecursion IsLine (column_texts program.columns)
 columns-lines program is =
     AllByRecursion-append IsLine (map (λ (column : Column). column.text) program.columns) (map (λ (column : Column). column.text ++ codes "'") program.columns)
-    (AllByRecursion-map (IsColumn (length program.threads)) IsLine (λ (column : Column). column.text) (λ column of. column-line program column is of) program.columns is.columns_are)
-    (AllByRecursion-map (IsColumn (length program.threads)) IsLine (λ (column : Column). column.text ++ codes "'") (λ column of. line-append column.text (codes "'") (column-line program column is of) (λ e. omega arith, tt)) program.columns is.columns_are)
+    (AllByRecursion-map (λ (column : Column). IsTextOf column.owner column.text) IsLine (λ (column : Column). column.text) (λ column word. bytes-line column.text word.is_text.bytes) program.columns is.texts_are)
+    (AllByRecursion-map (λ (column : Column). IsTextOf column.owner column.text) IsLine (λ (column : Column). column.text ++ codes "'") (λ column word. line-append column.text (codes "'") (bytes-line column.text word.is_text.bytes) (λ e. omega arith, tt)) program.columns is.texts_are)
 
 words-line : (k : ℕ) (i l : ℕ) → k ≢ 10 → i < 2 ^ 32 → l < 2 ^ 32 → IsLine (k ∷ 32 ∷ (number_text (pos i) ++ (32 ∷ number_text (pos l))))
 words-line k i l other h j = (

@@ -10,7 +10,7 @@ use Rattle.horn_rules.specs.Home.{homes}
 use Rattle.annotation_form.specs.Lines.{IsLine, lines_text}
 use Rattle.annotation_form.specs.Predicates.{Predicate, IsPredicateOf, AreAllowed, IsPredicatesText, predicate_text, predicate_texts, lists_of}
 use Rattle.annotation_form.specs.BadLine.{Begin, IsRefused, Ended, NotEnded, IsBadLine, IsReadAs}
-use Rattle.annotation_form.specs.inside.Reading.{HasRoom, IsLineOf, IsTaken, IsReadSoFar}
+use Rattle.annotation_form.specs.Reading.{HasRoom, IsLineOf, IsTaken, IsReadSoFar}
 use Rattle.annotation_form.proofs.Cuts.{AllByRecursion-left, AllByRecursion-right, lines_text-more, length-lines_text, Longer, cut-lines, cut-open}
 use Rattle.annotation_form.proofs.Marks.{marked_or_not, Marked}
 use Rattle.annotation_form.proofs.Sets.{allowed-none, allowed-more, allowed-room, allowed-last, lists_of-none}

@@ -2,12 +2,12 @@
 use Rattle.std.proofs.Common.{◌≡◌, ◌≢◌, ℕ, zero, suc, ◌<◌, ◌≤◌, List, [], ◌∷◌, ◌++◌, length, Some, refl, sym, ap, subst, ◌∙◌, arith}
 use Rattle.lin_rows.specs.Row.{Row}
 use Rattle.transition_formula.specs.Program.{Program, numbered}
-use Rattle.lin_rows.proofs.Lists.{AllByRecursion-slice_get}
+use Rattle.transition_formula.proofs.Lookups.{AllByRecursion-slice_get}
 use Rattle.horn_rules.specs.Home.{Home, homes}
 use Rattle.predicate_sets.specs.HomeSet.{Lacks, StandsAt}
 use Rattle.predicate_sets.specs.Sets.{set_at, with_set}
 use Rattle.annotation_form.specs.Predicates.{Predicate, atoms_at, most_atoms_read, lists_of}
-use Rattle.annotation_form.specs.inside.Reading.{HasRoom}
+use Rattle.annotation_form.specs.Reading.{HasRoom}
 use Rattle.annotation_form.proofs.Sets.{set_at-lists_of, with_set-lists_of}
 
 -- What is known of a home's list where a predicate may be added to it.

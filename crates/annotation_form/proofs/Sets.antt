@@ -1,9 +1,11 @@
 -- The predicates of each home, and how they grow.
 use Rattle.std.proofs.Common.{◌≡◌, ◌≢◌, ℕ, zero, suc, ◌-◌, ◌<◌, Bool, true, false, List, [], ◌∷◌, ◌++◌, length, map, get_or, set, replicate, Some, refl, sym, ap, ap₂, subst, ◌∙◌, arith, inl, inr, ◌⊎◌, append-nil, length-append}
-use Rattle.std.specs.Prelude.{if◌then◌else◌, option_map}
+use Rattle.std.specs.Prelude.{if◌then◌else◌, option_map, AllPairs}
 use Rattle.std.specs.List.{slice_get}
 use Rattle.std.proofs.lemmas.Bool.Decides.{eqb_tells}
 use Rattle.std.proofs.lemmas.Option.{slice_get-map, get_or_from_slice_get}
+use Rattle.std.proofs.lemmas.List.Quantifiers.{all_pairs_push}
+use Rattle.std.proofs.Math.Seq.{get_or-append_seam}
 use Rattle.lin_rows.specs.Row.{Row}
 use Rattle.lin_rows.proofs.Lists.{AllByRecursion-append, AllByRecursion-at}
 use Rattle.transition_formula.specs.Program.{Program, numbered}
@@ -11,10 +13,10 @@ use Rattle.horn_rules.specs.Home.{Home, State, Env, homes}
 use Rattle.horn_rules.specs.Fact.{IsAtomOf, IsSetOf}
 use Rattle.horn_rules.specs.Stored.{same_home}
 use Rattle.horn_rules.proofs.StoredSets.{one-number}
-use Rattle.predicate_sets.specs.HomeSet.{AreDistinct, Lacks}
+use Rattle.predicate_sets.specs.HomeSet.{Lacks}
 use Rattle.predicate_sets.specs.Sets.{set_at, with_set}
 use Rattle.annotation_form.specs.Predicates.{Predicate, IsPredicateOf, AreAllowed, atoms_at, most_atoms_read, lists_of}
-use Rattle.annotation_form.specs.inside.Reading.{HasRoom}
+use Rattle.annotation_form.specs.Reading.{HasRoom}
 use Rattle.annotation_form.proofs.Cuts.{AllByRecursion-right}
 
 -- ---- the atoms at a home
@@ -109,19 +111,14 @@ lists_of-none program = none (homes program)
 pub allowed-none : (program : Program) → AreAllowed program []
 allowed-none program = record {
   of_program = tt;
-  are_sets = λ home. record { are_atoms = tt; none_twice = tt };
+  are_sets = λ home. record { are_atoms = tt; none_twice = λ i j d lt within. absurd (omega arith) };
   few = λ home. omega arith;
 }
-
-distinct-more : (atoms : List Row) (atom : Row) → AreDistinct atoms → Lacks atoms atom → AreDistinct (atoms ++ atom ∷ [])
-distinct-more [] atom distinct lacks = (tt, tt)
-distinct-more (other ∷ atoms) atom distinct lacks =
-    (AllByRecursion-append (λ a. a ≢ other) atoms (atom ∷ []) distinct.0 (λ e. lacks.0 (sym e), tt), distinct-more atoms atom distinct.1 lacks.1)
 
 set-more : (program : Program) (home : Home) (atoms : List Row) (atom : Row) → IsSetOf program home atoms → IsAtomOf program home atom → Lacks atoms atom → IsSetOf program home (atoms ++ atom ∷ [])
 set-more program home atoms atom is one lacks = record {
   are_atoms = AllByRecursion-append (IsAtomOf program home) atoms (atom ∷ []) is.are_atoms (one, tt);
-  none_twice = distinct-more atoms atom is.none_twice lacks;
+  none_twice = all_pairs_push (λ a b. a ≢ b) atoms atom is.none_twice (λ k d within. AllByRecursion-at (λ other. other ≢ atom) atoms k d lacks within);
 }
 
 pub allowed-more : (program : Program) (before : List Predicate) (p : Predicate) → AreAllowed program before → IsPredicateOf program p → HasRoom before p → AreAllowed program (before ++ p ∷ [])
@@ -143,9 +140,12 @@ allowed-more program before p allowed is has = record {
     few-here : (home : Home) → home ≡ p.home → length (atoms_at home before) < most_atoms_read
     few-here home e = subst (λ h. length (atoms_at h before) < most_atoms_read) (sym e) has.room
 
-lacks-from : (xs : List Row) (a : Row) (ys : List Row) → AreDistinct (xs ++ a ∷ ys) → Lacks xs a
+lacks-from : (xs : List Row) (a : Row) (ys : List Row) → AllPairs (λ a b. a ≢ b) (xs ++ a ∷ ys) → Lacks xs a
 lacks-from [] a ys h = tt
-lacks-from (x ∷ xs) a ys h = (λ e. (AllByRecursion-right (λ other. other ≢ x) xs (a ∷ ys) h.0).0 (sym e), lacks-from xs a ys h.1)
+lacks-from (x ∷ xs) a ys h = (
+  λ e. h 0 (suc (length xs)) a (omega arith) (omega (arith, length-append xs (a ∷ ys))) (e ∙ sym (get_or-append_seam xs a ys a)),
+  lacks-from xs a ys (λ i j d lt within. h (suc i) (suc j) d (omega arith) (omega arith)),
+)
 
 -- what stands behind allowed predicates, in a longer list of such, has room there
 pub allowed-room : (program : Program) (before : List Predicate) (p : Predicate) (more : List Predicate) → AreAllowed program (before ++ p ∷ more) → HasRoom before p
@@ -153,7 +153,7 @@ allowed-room program before p more allowed =
     let here : atoms_at p.home (before ++ p ∷ more) ≡ atoms_at p.home before ++ (p.atom ∷ atoms_at p.home more) =
     atoms_at-append p.home before (p ∷ more) ∙ ap (λ (r : List Row). atoms_at p.home before ++ r) (atoms_at-append p.home (p ∷ []) more ∙ ap (λ (r : List Row). r ++ atoms_at p.home more) (atoms_at-here p.home p refl)) in
     record {
-      lacks = lacks-from (atoms_at p.home before) p.atom (atoms_at p.home more) (subst AreDistinct here (allowed.are_sets p.home).none_twice);
+      lacks = lacks-from (atoms_at p.home before) p.atom (atoms_at p.home more) (subst (AllPairs (λ a b. a ≢ b)) here (allowed.are_sets p.home).none_twice);
       room = omega (arith, allowed.few p.home, ap length here, length-append (atoms_at p.home before) (p.atom ∷ atoms_at p.home more));
     }
 

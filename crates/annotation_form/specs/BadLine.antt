@@ -1,10 +1,10 @@
 -- Which line of a text is the first that cannot stand there, and what is read.
-use Rattle.std.specs.Prelude.{◌≡◌, ℕ, ◌+◌, List, [], ◌∷◌, ◌++◌, length, Result}
+use Rattle.std.specs.Prelude.{◌≡◌, ℕ, ◌+◌, List, [], ◌∷◌, ◌++◌, length, Result, Ok, Err}
 use Rattle.std.specs.List.{AllByRecursion}
 use Rattle.lin_rows.specs.Row.{Row}
 use Rattle.transition_formula.specs.Program.{Program}
 use Rattle.thr_base.specs.declared.stops.LineStop.{LineStop}
-use Rattle.thr_base.specs.Refusals.{MatchLineStop}
+use Rattle.thr_base.specs.declared.stops.LineStop.TheVariants.{BadLine, Memory}
 use Rattle.annotation_form.specs.Lines.{IsLine, lines_text}
 use Rattle.annotation_form.specs.Predicates.{Predicate, IsPredicatesText, lists_of}
 
@@ -38,6 +38,8 @@ pub record IsReadAs (program : Program) (text : List ℕ) (sets : List (List Row
   pub is_text : IsPredicatesText program predicates text
   pub sets_are : sets ≡ lists_of program predicates
 
--- When each answer comes.
+-- When each answer comes. Want of memory may come always.
 abbrev pub IsReadAnswer : Program → List ℕ → Result (List (List Row)) LineStop → Type 0
-IsReadAnswer program text answer = MatchLineStop answer (IsReadAs program text) (IsBadLine program text)
+IsReadAnswer program text (Ok sets) = IsReadAs program text sets
+IsReadAnswer program text (Err (BadLine n)) = IsBadLine program text n
+IsReadAnswer program text (Err Memory) = Unit {0}

@@ -1,4 +1,4 @@
 pub mod Lines
 pub mod Predicates
 pub mod BadLine
-pub mod inside
+pub mod Reading

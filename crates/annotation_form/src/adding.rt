@@ -3,7 +3,7 @@ ghost use Rattle.transition_formula.specs.Program.{IsProgram};
 ghost use Rattle.horn_rules.specs.Home.{homes, IsHomeOf};
 ghost use Rattle.horn_rules.specs.Stored.{home_of};
 ghost use Rattle.annotation_form.specs.Predicates.{Predicate, lists_of};
-ghost use Rattle.annotation_form.specs.inside.Reading.{IsAdded, IsLineOf, IsTakenAs};
+ghost use Rattle.annotation_form.specs.Reading.{IsAdded, IsLineOf, IsTakenAs};
 
 use crate::head::{has_home, is_at_edge, read_head};
 use horn_rules::number;

@@ -3,7 +3,7 @@ ghost use Rattle.thr_base.specs.Number.{number_text};
 ghost use Rattle.transition_formula.specs.Program.{numbered};
 ghost use Rattle.horn_rules.specs.Home.{Home as HomeMeant, Env, State, IsHomeOf};
 ghost use Rattle.horn_rules.specs.Stored.{home_of};
-ghost use Rattle.annotation_form.specs.inside.Reading.{AreWordsOf, IsHead, IsSmall, is_env};
+ghost use Rattle.annotation_form.specs.Reading.{AreWordsOf, IsHead, IsSmall, is_env};
 
 use crate::line::{behind_colon, is_same, read_number, split_at};
 use thr_base::{EdgeNo, Home, Loc, ThreadNo};

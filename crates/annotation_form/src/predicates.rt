@@ -1,8 +1,7 @@
 ghost use Rattle.std.specs.Prelude.{◌≡◌, ◌≤◌, List, length, IfOk};
-ghost use Rattle.thr_base.specs.Limits.{text_limit};
 ghost use Rattle.annotation_form.specs.Predicates.{Predicate, IsPredicatesText, lists_of};
 ghost use Rattle.annotation_form.specs.BadLine.{IsReadAnswer};
-ghost use Rattle.annotation_form.specs.inside.Reading.{IsLinesAnswer, IsReadOnly};
+ghost use Rattle.annotation_form.specs.Reading.{IsLinesAnswer, IsReadOnly};
 
 use crate::adding::take_line;
 use crate::line::{is_same, split_at};
@@ -21,7 +20,7 @@ enum Lines {
 }
 
 fn read_lines(alloc: Global, program: &Program, text: &[u8]) -> Result<Lines, AllocError>
-    requires { length text.now ≤ text_limit }
+    requires { length text.now ≤ 1048576 }
     ensures answer { IfOk result (λ lines. IsLinesAnswer program.now text.now lines) }
     ensures only { IfOk result (λ lines. IsReadOnly program.now text.now lines) }
 {
@@ -47,7 +46,7 @@ fn read_lines(alloc: Global, program: &Program, text: &[u8]) -> Result<Lines, Al
 
 /// The predicates of a text: for each home of the program its atoms, in the order of their lines.
 pub fn read_predicates(alloc: Global, program: &Program, text: &[u8]) -> Result<Sets, LineStop>
-    requires { length text.now ≤ text_limit }
+    requires { length text.now ≤ 1048576 }
     ensures answer { IsReadAnswer program.now text.now result }
     // A text is read as the sets of its predicates, whatever predicates it is the text of.
     ensures only { (predicates : List Predicate) → IsPredicatesText program.now predicates text.now → IfOk result (λ sets. sets ≡ lists_of program.now predicates) }

@@ -1,7 +1,7 @@
 ghost use Rattle.std.specs.Prelude.{◌≡◌, ◌≤◌, ◌<◌, ◌∷◌, [], map, length, IfOk};
 ghost use Rattle.predicate_sets.specs.Sets.{HasHome};
 ghost use Rattle.transition_formula.specs.Stored.{column_of, edge_of, thread_of};
-ghost use Rattle.horn_rules.specs.inside.Worked.{bare_edge, counter_column, first_thread, second_thread, worked_columns, worked_program};
+ghost use Rattle.horn_rules.specs.Worked.{bare_edge, counter_column, first_thread, second_thread, worked_columns, worked_program};
 
 use super::*;
 use lin_rows::Rows;
@@ -91,7 +91,7 @@ fn worked(alloc: Global) -> Result<Program, AllocError>
 /// What a text of the program is read as; it has 10 homes.
 fn read(alloc: Global, program: &Program, text: &[u8]) -> Result<Sets, LineStop>
     requires program { program.now ≡ worked_program }
-    requires length { length text.now ≤ text_limit }
+    requires length { length text.now ≤ 1048576 }
     ensures { IfOk result (λ sets. length sets ≡ 10) }
 {
     read_predicates(alloc, program, text)

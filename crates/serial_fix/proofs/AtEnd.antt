@@ -1,5 +1,5 @@
 -- What a run has found at the end is the least set.
-use Rattle.std.proofs.Common.{◌≡◌, ℕ, ◌≤◌, List, [], ◌∷◌, length, take, sym, subst, ◌∙◌, arith}
+use Rattle.std.proofs.Common.{◌≡◌, ℕ, ◌≤◌, List, [], ◌∷◌, length, take, sym, subst, arith}
 use Rattle.std.specs.List.{AllByRecursion, Contains}
 use Rattle.std.proofs.lemmas.List.{length-map, take_all}
 use Rattle.thr_base.specs.declared.names.RuleName.TheVariants.{Rg}
@@ -12,7 +12,7 @@ use Rattle.horn_rules.specs.Least.{IsDerivation, Least}
 use Rattle.horn_rules.specs.Stored.{fact_of, facts_of, sets_of, HasItsHome}
 use Rattle.horn_rules.proofs.Covering.{closed-least-covers}
 use Rattle.horn_rules.proofs.Derivations.{least-closed}
-use Rattle.horn_rules.proofs.Lists.{Contains-unmap, all-contained}
+use Rattle.horn_rules.proofs.Lists.{all-contained}
 use Rattle.horn_rules.proofs.StoredSets.{stored-sets-are}
 use Rattle.serial_fix.specs.Least.{AreLeast}
 use Rattle.serial_fix.specs.inside.Found.{FoundFacts}

@@ -1,5 +1,5 @@
 -- What an instance that a point allows gives.
-use Rattle.std.proofs.Common.{◌≡◌, ℕ, zero, suc, List, [], Some, MatchBool, ℤ, pos, ◌*ℤ◌, ◌≤ℤ◌, refl, sym, ap, subst, ◌∙◌, arith}
+use Rattle.std.proofs.Common.{◌≡◌, List, MatchBool, ℤ, pos, ◌*ℤ◌, ◌≤ℤ◌, subst, arith}
 use Rattle.std.proofs.lemmas.Int.{ints}
 use Rattle.lin_rows.specs.Row.{Row, Meets, MeetsOver, product_of}
 use Rattle.lin_rows.specs.System.{System, IsPoint}

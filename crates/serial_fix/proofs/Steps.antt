@@ -22,9 +22,8 @@ use Rattle.transition_formula.specs.Program.{Program, numbered}
 use Rattle.horn_rules.specs.declared.job.Premise.{Premise}
 use Rattle.horn_rules.specs.Home.{Home, State, homes}
 use Rattle.horn_rules.specs.Fact.{Sets, Fact}
-use Rattle.horn_rules.specs.Instance.{premises_of}
 use Rattle.horn_rules.specs.Case.{Case}
-use Rattle.horn_rules.specs.Post.{IsFactOf, IsPost}
+use Rattle.horn_rules.specs.Post.{IsFactOf}
 use Rattle.horn_rules.specs.Least.{Comes, IsDerivation, Least}
 use Rattle.horn_rules.specs.Laws.{bare_at}
 use Rattle.horn_rules.specs.Stored.{fact_of, facts_of, sets_of}
@@ -34,7 +33,6 @@ use Rattle.horn_rules.proofs.Lists.{Contains-first, first-or-later, contains-not
 use Rattle.abstract_post.specs.Left.{IsLeft}
 use Rattle.serial_fix.specs.Least.{Leaves}
 use Rattle.serial_fix.specs.inside.Found.{FoundFacts, IsInserted}
-use Rattle.serial_fix.specs.inside.Jobs.{IsJobCase}
 use Rattle.serial_fix.specs.inside.Run.{IsStored, IsRun, Extends, IsSettled, IsInstance, InstanceIsSettled}
 use Rattle.serial_fix.proofs.Cases.{to-rules}
 use Rattle.serial_fix.proofs.Gives.{not-refuted}

@@ -18,7 +18,7 @@ use Rattle.predicate_sets.specs.Sets.{set_at}
 use Rattle.horn_rules.specs.Home.{Home, homes}
 use Rattle.horn_rules.specs.Stored.{facts_of, sets_of, AreStoredSetsOf}
 use Rattle.annotation_form.specs.BadLine.{IsReadAs}
-use Rattle.annotation_form.specs.Predicates.{atoms_at}
+use Rattle.annotation_form.specs.Predicates.{home_atoms}
 use Rattle.horn_rules.specs.Fact.{Sets, Fact, IsSetOf}
 use Rattle.horn_rules.specs.Least.{Least}
 use Rattle.horn_rules.specs.Table.{IsTable}
@@ -121,7 +121,7 @@ mapped-at give hs (suc k) home is =
 -- what is read is a list of predicates for each home
 pub IsReadAs-stored : (program : Program) (bytes : List ℕ) (lists : List (List Row)) → IsReadAs program bytes lists → AreStoredSetsOf program lists
 IsReadAs-stored program bytes lists read =
-    let give = λ (home : Home). atoms_at home read.predicates in
+    let give = λ (home : Home). home_atoms home read.predicates in
     record {
       one_each = ap length read.sets_are ∙ length-map (homes program) give;
       sets_are = λ n home is.

@@ -1,7 +1,7 @@
 use Rattle.std.proofs.Common.{◌≡◌, ◌==◌, ◌∙◌, ◌<◌, ◌∷◌, ◌++◌, ℕ, true, false, List, codes, length, sym, ap, subst, arith, inl, inr}
 use Rattle.std.proofs.lemmas.Bool.Decides.{eqb_tells}
 use Rattle.std.proofs.lemmas.Bool.{false≢true}
-use Rattle.annotation_form.specs.inside.Reading.{IsTakenAs}
+use Rattle.annotation_form.specs.Reading.{IsTakenAs}
 use Rattle.annotation_form.proofs.ReadLines.{so_far-start, so_far-length, so_far-number, so_far-next, so_far-whole, so_far-only, so_far-bad, so_far-open, so_far-behind}
 use Rattle.annotation_form.proofs.predicates.read_lines.Goals as goal
 

@@ -1,5 +1,5 @@
 use Rattle.std.proofs.Common.{length}
-use Rattle.annotation_form.specs.inside.Reading.{IsReadSoFar}
+use Rattle.annotation_form.specs.Reading.{IsReadSoFar}
 use Rattle.annotation_form.proofs.predicates.read_lines.Given as goal
 
 abbrev pub invariant-loop-line : goal.invariant-loop-line
