@@ -4,8 +4,8 @@ use Rattle.std.specs.Bool.{⊤}
 use Rattle.std.specs.Option.{option_map}
 use Rattle.std.specs.List.{AllByRecursion}
 use Rattle.std.proofs.lemmas.List.{reverse-append, reverse-reverse}
-use Rattle.lin_rows.specs.System.{System, IsWellFormed, HasWidths}
-use Rattle.lin_rows.proofs.Lists.{AllByRecursion-append, AllByRecursion-weaken}
+use Rattle.lin_rows.specs.System.{System, HasWidths}
+use Rattle.lin_rows.proofs.Lists.{AllByRecursion-append}
 use Rattle.farkas_cert.specs.Cert.{Pairs}
 use Rattle.farkas_cert.specs.Proof.{Proves, overflow_of}
 use Rattle.farkas_cert.specs.Line.{Line, is_false, given_lines, lowest_of}

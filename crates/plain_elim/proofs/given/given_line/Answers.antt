@@ -1,11 +1,11 @@
-use Rattle.std.proofs.Common.{◌≡◌, ◌∙◌, sym, subst, ap, ap₂, arith, List}
+use Rattle.std.proofs.Common.{◌≡◌, ◌∙◌, sym, subst, ap, arith, List}
 use Rattle.std.specs.Prelude.{ℤ, Bool, false}
 use Rattle.std.specs.Option.{unwrap_or}
 use Rattle.std.specs.List.{AllByRecursion}
 use Rattle.thr_base.specs.Number.{Fits}
 use Rattle.lin_rows.specs.System.{IsRowOver}
 use Rattle.lin_rows.proofs.Lists.{AllByRecursion-slice_get, slice_get-there}
-use Rattle.farkas_cert.specs.Line.{Line, given_line}
+use Rattle.farkas_cert.specs.Line.{Line}
 use Rattle.plain_elim.proofs.GivenLines.{given_fit, equality-place}
 use Rattle.plain_elim.proofs.given.given_line.Goals as goal
 

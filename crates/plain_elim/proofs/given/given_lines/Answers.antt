@@ -1,4 +1,4 @@
-use Rattle.std.proofs.Common.{◌≡◌, ◌∙◌, ap, sym, subst, List, length, ◌<◌, arith}
+use Rattle.std.proofs.Common.{◌∙◌, ap, sym, subst, List, length, ◌<◌, arith}
 use Rattle.std.specs.List.{AllByRecursion}
 use Rattle.lin_rows.proofs.Lists.{slice_get-there}
 use Rattle.farkas_cert.proofs.NamedRowsLemmas.{HasWidths-named}

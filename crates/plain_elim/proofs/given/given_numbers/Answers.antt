@@ -1,4 +1,4 @@
-use Rattle.std.proofs.Common.{◌≡◌, ◌∙◌, ap, arith, ◌++◌, ◌∷◌, [], ◌+◌, length, length-append}
+use Rattle.std.proofs.Common.{◌≡◌, ◌∙◌, ap, arith, ◌++◌, ◌∷◌, length}
 use Rattle.std.specs.Prelude.{pos, replicate, slice_set}
 use Rattle.lin_rows.specs.System.{IsRowOver}
 use Rattle.lin_rows.proofs.Lists.{AllByRecursion-slice_get}
