@@ -9,8 +9,8 @@ use Rattle.std.proofs.Math.Seq.{take-append_seam}
 use Rattle.std.proofs.lemmas.List.Elements.{filter-append}
 use Rattle.std.proofs.lemmas.Option.{slice_get-get_or}
 use Rattle.thr_base.specs.declared.names.Fact.{Fact as StoredFact}
-use Rattle.serial_fix.specs.Found.{held_at, IsIndex}
-use Rattle.serial_fix.proofs.Members.{first, later, first-or-later, nothing}
+use Rattle.serial_fix.specs.inside.Found.{held_at, IsIndex}
+use Rattle.horn_rules.proofs.Lists.{Contains-first as first, Contains-later as later, first-or-later, contains-nothing}
 
 -- the fact at the home of a number with a word
 abbrev pub fact_at : ℕ → ℕ → StoredFact
@@ -34,7 +34,7 @@ held-first n held fact facts true at rest c = elim (first-or-later fact.held hel
 held-first n held fact facts false at rest c = later fact (fact_at n held) facts (rest c)
 
 pub held-there : (n held : ℕ) (facts : List StoredFact) → Contains (held_at n facts) held → Contains facts (fact_at n held)
-held-there n held [] c = absurd (nothing held c)
+held-there n held [] c = absurd (contains-nothing held c)
 held-there n held (fact ∷ facts) c = held-first n held fact facts (fact.home.0 == n) refl (held-there n held facts) c
 
 there-first : (fact one : StoredFact) (facts : List StoredFact) (b : Bool) → (one.home.0 == fact.home.0) ≡ b → (Contains facts fact → Contains (held_at fact.home.0 facts) fact.held)
@@ -49,7 +49,7 @@ there-first fact one facts false at rest c = elim (first-or-later one fact facts
 ]
 
 pub there-held : (facts : List StoredFact) (fact : StoredFact) → Contains facts fact → Contains (held_at fact.home.0 facts) fact.held
-there-held [] fact c = absurd (nothing fact c)
+there-held [] fact c = absurd (contains-nothing fact c)
 there-held (one ∷ facts) fact c = there-first fact one facts (one.home.0 == fact.home.0) refl (there-held facts fact) c
 
 -- a test by the words is one by the facts
@@ -69,7 +69,7 @@ some-there n facts (word ∷ held) is more =
 pub there-some : (n : ℕ) (facts : List StoredFact) (held : List ℕ) → held ≡ held_at n facts → Any (λ (f : StoredFact). f.home.0 ≡ n) facts → held ≢ []
 there-some n facts held is (k, fact, within, at, home) none =
     let there : Contains (held_at n facts) fact.held = subst (λ m. Contains (held_at m facts) fact.held) home (there-held facts fact (k, within, at)) in
-    nothing fact.held (subst (λ l. Contains l fact.held) (sym is ∙ none) there)
+    contains-nothing fact.held (subst (λ l. Contains l fact.held) (sym is ∙ none) there)
 
 -- ---- the words of a home in the code
 

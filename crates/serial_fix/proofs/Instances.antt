@@ -18,22 +18,24 @@ use Rattle.transition_formula.specs.declared.graph.Edge.{Edge as StoredEdge}
 use Rattle.transition_formula.proofs.Lookups.{numbered-mapped, AllByRecursion-numbered}
 use Rattle.transition_formula.proofs.Lookups as lookups
 use Rattle.horn_rules.specs.declared.job.Premise.{Premise}
-use Rattle.horn_rules.specs.Home.{Home, State, Env, by_thread, state_homes, env_homes, homes, IsHomeOf}
+use Rattle.horn_rules.specs.Home.{Home, State, Env, by_number, state_homes, env_homes, homes, IsHomeOf}
 use Rattle.horn_rules.specs.Fact.{Fact, IsSetOf}
-use Rattle.horn_rules.specs.Instance.{init_case, own_case, guar_case, env_case}
-use Rattle.horn_rules.specs.Job.{positions, Says, IsPremise, init, own, guar, env}
-use Rattle.horn_rules.specs.Stored.{sets_of}
-use Rattle.horn_rules.proofs.Numbers.{state_home-place, env_home-place}
+use Rattle.horn_rules.specs.Case.{init_case}
+use Rattle.horn_rules.specs.Job.{IsPremise}
+use Rattle.thr_base.specs.Held.{positions}
+use Rattle.serial_fix.specs.inside.Cases.{own_case, guar_case, env_case}
+use Rattle.serial_fix.specs.inside.Jobs.{Says, init, own, guar, env}
+use Rattle.horn_rules.specs.Stored.{sets_of, fact_of, home_numbered, HasItsHome}
+use Rattle.horn_rules.proofs.Numbers.{state_home-place, env_home-place, home-numbered}
 use Rattle.horn_rules.proofs.Places.{slice_get-there, range-at}
-use Rattle.horn_rules.proofs.WorkedProgram.{home-numbered}
 use Rattle.std.proofs.lemmas.List.{length-map}
-use Rattle.serial_fix.specs.Stored.{HasItsHome}
-use Rattle.serial_fix.specs.Found.{FoundFacts}
-use Rattle.serial_fix.specs.Run.{fact_of, IsStored, IsRun, IsInstance, InstanceIsSettled, StartIsSettled, HasEdge, IsFrom, OwnIsSettled, GuarIsSettled, tells_another, PairIsSettled, IsStep}
+use Rattle.serial_fix.specs.inside.Found.{FoundFacts}
+use Rattle.horn_rules.specs.Instances.{tells_another}
+use Rattle.serial_fix.specs.inside.Run.{IsStored, IsRun, IsInstance, InstanceIsSettled, StartIsSettled, HasEdge, IsFrom, OwnIsSettled, GuarIsSettled, PairIsSettled, IsStep}
 use Rattle.serial_fix.specs.declared.step.Step.{Step}
 use Rattle.serial_fix.specs.declared.step.Step.TheVariants.{Done, Left}
-use Rattle.serial_fix.proofs.Members.{Contains-map, Contains-slice_get}
-use Rattle.serial_fix.proofs.Steps.{all-at, target-set}
+use Rattle.horn_rules.proofs.Lists.{all-contained, Contains-map, Contains-slice_get}
+use Rattle.serial_fix.proofs.Jobs.{target-set}
 
 -- ---- homes that are there
 
@@ -41,30 +43,30 @@ pub some-is : {A : Type 0} (o : Option A) → IsSome o → (x : A) × (o ≡ Som
 some-is None h = cc
 some-is (Some x) h = (x, refl)
 
-by_thread-has : (give : ℕ → Thread → List Home) (i k j : ℕ) (threads : List Thread) (thread : Thread) (home : Home)
-    → slice_get threads k ≡ Some thread → j ≡ i + k → Contains (give j thread) home → Contains (by_thread give i threads) home
-by_thread-has give i k j [] thread home at e c = cc
-by_thread-has give i zero j (t ∷ threads) thread home at e c =
+by_number-has : (give : ℕ → Thread → List Home) (i k j : ℕ) (threads : List Thread) (thread : Thread) (home : Home)
+    → slice_get threads k ≡ Some thread → j ≡ i + k → Contains (give j thread) home → Contains (by_number give i threads) home
+by_number-has give i k j [] thread home at e c = cc
+by_number-has give i zero j (t ∷ threads) thread home at e c =
     let same : thread ≡ t = cc in
     let number : j ≡ i = omega arith in
-    Contains-append_left (give i t) (by_thread give (suc i) threads) home
+    Contains-append_left (give i t) (by_number give (suc i) threads) home
     (subst (λ t'. Contains (give i t') home) same (subst (λ j'. Contains (give j' thread) home) number c))
-by_thread-has give i (suc k) j (t ∷ threads) thread home at e c =
-    Contains-append_right (give i t) (by_thread give (suc i) threads) home (by_thread-has give (suc i) k j threads thread home at (omega arith) c)
+by_number-has give i (suc k) j (t ∷ threads) thread home at e c =
+    Contains-append_right (give i t) (by_number give (suc i) threads) home (by_number-has give (suc i) k j threads thread home at (omega arith) c)
 
 pub state-home : (program : Program) (i l : ℕ) (thread : Thread) → IsThreadOf program i thread → l < thread.locations → IsHomeOf program (State i l)
 state-home program zero l thread at below = cc
 state-home program (suc k) l thread at below =
-    Contains-append_left (by_thread state_homes 1 program.threads) (by_thread env_homes 1 program.threads) (State (suc k) l)
-    (by_thread-has state_homes 1 k (suc k) program.threads thread (State (suc k) l) at (omega arith)
+    Contains-append_left (by_number state_homes 1 program.threads) (by_number env_homes 1 program.threads) (State (suc k) l)
+    (by_number-has state_homes 1 k (suc k) program.threads thread (State (suc k) l) at (omega arith)
     (Contains-slice_get (state_homes (suc k) thread) l (State (suc k) l) (slice_get-map (State (suc k)) (range_with_len 0 thread.locations) l ∙ ap (option_map (State (suc k))) (range-at 0 thread.locations l l below (omega arith)))))
 
 pub env-home : (program : Program) (i e : ℕ) (thread : Thread) (edge : Edge) → IsEdgeOf program i e thread edge → IsHomeOf program (Env i e)
 env-home program zero e thread edge is = let at = is.thread_is in cc
 env-home program (suc k) zero thread edge is = let at = is.edge_is in cc
 env-home program (suc k) (suc p) thread edge is =
-    Contains-append_right (by_thread state_homes 1 program.threads) (by_thread env_homes 1 program.threads) (Env (suc k) (suc p))
-    (by_thread-has env_homes 1 k (suc k) program.threads thread (Env (suc k) (suc p)) is.thread_is (omega arith)
+    Contains-append_right (by_number state_homes 1 program.threads) (by_number env_homes 1 program.threads) (Env (suc k) (suc p))
+    (by_number-has env_homes 1 k (suc k) program.threads thread (Env (suc k) (suc p)) is.thread_is (omega arith)
     (Contains-slice_get (env_homes (suc k) thread) p (Env (suc k) (suc p)) (slice_get-map (Env (suc k)) (range_with_len 1 (length thread.edges)) p ∙ ap (option_map (Env (suc k))) (range-at 1 (length thread.edges) p (suc p) (slice_get_within thread.edges p edge is.edge_is) (omega arith)))))
 
 pub target-home : (program : Program) (i e : ℕ) (thread : Thread) (edge : Edge) → IsProgram program → IsEdgeOf program i e thread edge → IsHomeOf program (State i edge.to)
@@ -109,7 +111,7 @@ known-home program stored has = of-option (numbered (homes program) stored.home.
     of-option (Some x) h = refl
 
 pub found-stored : (program : Program) (lists : List (List Row)) (found : FoundFacts) (stored : StoredFact) → IsRun program lists found → Contains found.facts stored → IsStored program lists stored
-found-stored program lists found stored run there = all-at (IsStored program lists) found.facts stored run.facts_are there
+found-stored program lists found stored run there = all-contained (IsStored program lists) found.facts stored run.facts_are there
 
 pub found-number : (program : Program) (lists : List (List Row)) (found : FoundFacts) (stored : StoredFact) → IsRun program lists found → Contains found.facts stored
     → numbered (homes program) stored.home.0 ≡ Some (fact_of program stored).home
@@ -121,32 +123,33 @@ found-home program lists found stored run there =
     (within.0, omega (arith, within.1, run.lists_are.one_each))
 
 -- the premise is made of the fact
-pub record IsPremiseOf (lists : List (List Row)) (stored : StoredFact) (premise : Premise) : Type 0 where
+pub record IsPremiseOf (lists : List (List Row)) (stored : StoredFact) (id : FactId) (premise : Premise) : Type 0 where
+  pub id_is : premise.id ≡ id
   pub fact_is : premise.fact ≡ stored
   pub set_is : premise.set.value ≡ set_at lists stored.home.0
 
-says : (program : Program) (lists : List (List Row)) (found : FoundFacts) (stored : StoredFact) (premise : Premise) → IsRun program lists found → Contains found.facts stored
-    → IsPremiseOf lists stored premise → Says program (sets_of program lists) premise (fact_of program stored)
-says program lists found stored premise run there is =
+says : (program : Program) (lists : List (List Row)) (found : FoundFacts) (stored : StoredFact) (id : FactId) (premise : Premise) → IsRun program lists found → Contains found.facts stored
+    → IsPremiseOf lists stored id premise → Says program (sets_of program lists) id premise (fact_of program stored)
+says program lists found stored id premise run there is =
     let at = found-number program lists found stored run there in
     record {
+      id_is = is.id_is;
       home_is = ap (λ (f : StoredFact). numbered (homes program) f.home.0) is.fact_is ∙ at;
       set_is = target-set program lists stored.home.0 (fact_of program stored).home run.lists_are at ∙ sym is.set_is;
       held_is = ap (λ (f : StoredFact). positions f.held) (sym is.fact_is);
     }
 
-is-premise : (program : Program) (lists : List (List Row)) (found : FoundFacts) (stored : StoredFact) (premise : Premise) → IsRun program lists found → Contains found.facts stored
-    → IsPremiseOf lists stored premise → IsPremise program premise
-is-premise program lists found stored premise run there is =
+is-premise : (program : Program) (lists : List (List Row)) (found : FoundFacts) (stored : StoredFact) (id : FactId) (premise : Premise) → IsRun program lists found → Contains found.facts stored
+    → IsPremiseOf lists stored id premise → IsPremise program premise
+is-premise program lists found stored id premise run there is =
     let at = found-number program lists found stored run there in
+    let kept = found-stored program lists found stored run there in
     record {
-      home = (fact_of program stored).home;
-      premise_is = record {
-        home_is = ap (λ (f : StoredFact). numbered (homes program) f.home.0) is.fact_is ∙ at;
-        set_is = subst (IsSetOf program (fact_of program stored).home) (sym is.set_is) (run.lists_are.sets_are stored.home.0 (fact_of program stored).home at);
-      };
+      has_home = subst (λ (f : StoredFact). HasItsHome program f) (sym is.fact_is) kept.has_home;
+      set_is = subst (λ (f : StoredFact). IsSetOf program (home_numbered program f.home.0) premise.set.value) (sym is.fact_is)
+          (subst (IsSetOf program (fact_of program stored).home) (sym is.set_is) (run.lists_are.sets_are stored.home.0 (fact_of program stored).home at));
       held_within = subst (λ (f : StoredFact). f.held < 2 ^ length premise.set.value) (sym is.fact_is)
-          (subst (λ l. stored.held < 2 ^ length l) (sym is.set_is) (found-stored program lists found stored run there).within);
+          (subst (λ l. stored.held < 2 ^ length l) (sym is.set_is) kept.within);
     }
 
 -- ---- the instances
@@ -155,34 +158,32 @@ pub start-instance : (program : Program) (lists : List (List Row)) (found : List
     → numbered (homes program) home ≡ Some (State i.0 1) → IsInstance program lists found (Init i) None None home
 start-instance program lists found i home some at =
     let (thread, is) = some-is (numbered program.threads i.0) some in
-    record { premises = []; given = init_case program i.0; is_case = init i thread is; has_kind = tt; home_is = at; stand = tt; first_is = tt; second_is = tt }
+    record { premises = []; given = init_case program i.0; is_case = init i thread is; home_is = at; stand = tt; first_is = tt; second_is = tt }
 
 pub own-instance : (program : Program) (lists : List (List Row)) (found : FoundFacts) (stored : StoredFact) (id : FactId) (i : ℕ) (e : EdgeNo) (premise : Premise) (home to : ℕ)
-    → IsRun program lists found → Contains found.facts stored → IsPremiseOf lists stored premise → IsFrom program i e.0 (fact_of program stored)
+    → IsRun program lists found → Contains found.facts stored → IsPremiseOf lists stored id premise → IsFrom program i e.0 (fact_of program stored)
     → ((thread : Thread) (edge : Edge) → IsEdgeOf program i e.0 thread edge → to ≡ edge.to)
     → numbered (homes program) home ≡ Some (State i to) → IsInstance program lists found.facts (Own id e) (Some premise) None home
 own-instance program lists found stored id i e premise home to run there is from ends at = record {
   premises = fact_of program stored ∷ [];
   given = own_case program (sets_of program lists) i from.thread from.edge (fact_of program stored);
-  is_case = own id e premise i from.thread from.edge (fact_of program stored) (says program lists found stored premise run there is) from.edge_is from.at;
-  has_kind = tt;
+  is_case = own id e premise i from.thread from.edge (fact_of program stored) (says program lists found stored id premise run there is) from.edge_is from.at;
   home_is = at ∙ ap (λ l. Some (State i l)) (ends from.thread from.edge from.edge_is);
   stand = (Contains-map (fact_of program) found.facts stored there, tt);
-  first_is = is-premise program lists found stored premise run there is;
+  first_is = is-premise program lists found stored id premise run there is;
   second_is = tt;
 }
 
 pub guar-instance : (program : Program) (lists : List (List Row)) (found : FoundFacts) (stored : StoredFact) (id : FactId) (i : ℕ) (e : EdgeNo) (premise : Premise) (home : ℕ)
-    → IsRun program lists found → Contains found.facts stored → IsPremiseOf lists stored premise → IsFrom program i e.0 (fact_of program stored)
+    → IsRun program lists found → Contains found.facts stored → IsPremiseOf lists stored id premise → IsFrom program i e.0 (fact_of program stored)
     → numbered (homes program) home ≡ Some (Env i e.0) → IsInstance program lists found.facts (Guar id e) (Some premise) None home
 guar-instance program lists found stored id i e premise home run there is from at = record {
   premises = fact_of program stored ∷ [];
   given = guar_case program (sets_of program lists) i e.0 from.thread from.edge (fact_of program stored);
-  is_case = guar id e premise i from.thread from.edge (fact_of program stored) (says program lists found stored premise run there is) from.edge_is from.at;
-  has_kind = tt;
+  is_case = guar id e premise i from.thread from.edge (fact_of program stored) (says program lists found stored id premise run there is) from.edge_is from.at;
   home_is = at;
   stand = (Contains-map (fact_of program) found.facts stored there, tt);
-  first_is = is-premise program lists found stored premise run there is;
+  first_is = is-premise program lists found stored id premise run there is;
   second_is = tt;
 }
 
@@ -201,20 +202,20 @@ start-settled program lists found i home some at settled =
     settled [] (init_case program i.0) (init i thread is) at
 
 pub own-settled : (program : Program) (lists : List (List Row)) (old new : FoundFacts) (stored : StoredFact) (id : FactId) (i : ℕ) (e : EdgeNo) (premise : Premise) (home to : ℕ)
-    → IsRun program lists old → Contains old.facts stored → IsPremiseOf lists stored premise
+    → IsRun program lists old → Contains old.facts stored → IsPremiseOf lists stored id premise
     → ((thread : Thread) (edge : Edge) → IsEdgeOf program i e.0 thread edge → to ≡ edge.to)
     → numbered (homes program) home ≡ Some (State i to) → InstanceIsSettled program lists (Own id e) (Some premise) None home new.facts → OwnIsSettled program lists i e.0 (fact_of program stored) new.facts
 own-settled program lists old new stored id i e premise home to run there is ends at settled thread edge edge_is from =
     settled (fact_of program stored ∷ []) (own_case program (sets_of program lists) i thread edge (fact_of program stored))
-    (own id e premise i thread edge (fact_of program stored) (says program lists old stored premise run there is) edge_is from)
+    (own id e premise i thread edge (fact_of program stored) (says program lists old stored id premise run there is) edge_is from)
     (at ∙ ap (λ l. Some (State i l)) (ends thread edge edge_is))
 
 pub guar-settled : (program : Program) (lists : List (List Row)) (old new : FoundFacts) (stored : StoredFact) (id : FactId) (i : ℕ) (e : EdgeNo) (premise : Premise) (home : ℕ)
-    → IsRun program lists old → Contains old.facts stored → IsPremiseOf lists stored premise
+    → IsRun program lists old → Contains old.facts stored → IsPremiseOf lists stored id premise
     → numbered (homes program) home ≡ Some (Env i e.0) → InstanceIsSettled program lists (Guar id e) (Some premise) None home new.facts → GuarIsSettled program lists i e.0 (fact_of program stored) new.facts
 guar-settled program lists old new stored id i e premise home run there is at settled thread edge edge_is from =
     settled (fact_of program stored ∷ []) (guar_case program (sets_of program lists) i e.0 thread edge (fact_of program stored))
-    (guar id e premise i thread edge (fact_of program stored) (says program lists old stored premise run there is) edge_is from) at
+    (guar id e premise i thread edge (fact_of program stored) (says program lists old stored id premise run there is) edge_is from) at
 
 -- ---- pairs
 
@@ -240,7 +241,7 @@ pair-vacuous program lists found f t test k l i e other thread edge differ there
     ]
 
 env-of : (program : Program) (lists : List (List Row)) (found : FoundFacts) (one told : StoredFact) (id other_id : FactId) (first second : Premise) (home_f home_t : Home)
-    → IsRun program lists found → Contains found.facts one → Contains found.facts told → IsPremiseOf lists one first → IsPremiseOf lists told second
+    → IsRun program lists found → Contains found.facts one → Contains found.facts told → IsPremiseOf lists one id first → IsPremiseOf lists told other_id second
     → (fact_of program one).home ≡ home_f → (fact_of program told).home ≡ home_t → IsHomeOf program home_f → IsHomeOf program home_t → AreApart home_f home_t
     → IsInstance program lists found.facts (Environment id other_id) (Some first) (Some second) one.home.0
 env-of program lists found one told id other_id first second home_f home_t run there_f there_t is_f is_t at_f at_t has_f has_t (apart k l i e differ) =
@@ -254,16 +255,15 @@ env-of program lists found one told id other_id first second home_f home_t run t
       premises = fact_of program one ∷ fact_of program told ∷ [];
       given = env_case program (sets_of program lists) k l place.thread edge_place.thread edge (fact_of program one) (fact_of program told);
       is_case = env id other_id first second k l i e place.thread edge_place.thread edge (fact_of program one) (fact_of program told)
-          (says program lists found one first run there_f is_f) (says program lists found told second run there_t is_t) differ place.thread_is edge_is at_f at_t;
-      has_kind = tt;
+          (says program lists found one id first run there_f is_f) (says program lists found told other_id second run there_t is_t) differ place.thread_is edge_is at_f at_t;
       home_is = found-number program lists found one run there_f ∙ ap Some at_f;
       stand = (Contains-map (fact_of program) found.facts one there_f, (Contains-map (fact_of program) found.facts told there_t, tt));
-      first_is = is-premise program lists found one first run there_f is_f;
-      second_is = is-premise program lists found told second run there_t is_t;
+      first_is = is-premise program lists found one id first run there_f is_f;
+      second_is = is-premise program lists found told other_id second run there_t is_t;
     }
 
 pub env-instance : (program : Program) (lists : List (List Row)) (found : FoundFacts) (one told : StoredFact) (id other_id : FactId) (first second : Premise)
-    → IsRun program lists found → Contains found.facts one → Contains found.facts told → IsPremiseOf lists one first → IsPremiseOf lists told second
+    → IsRun program lists found → Contains found.facts one → Contains found.facts told → IsPremiseOf lists one id first → IsPremiseOf lists told other_id second
     → tells_another (fact_of program one).home (fact_of program told).home ≡ true
     → IsInstance program lists found.facts (Environment id other_id) (Some first) (Some second) one.home.0
 env-instance program lists found one told id other_id first second run there_f there_t is_f is_t test =
@@ -273,12 +273,12 @@ env-instance program lists found one told id other_id first second run there_f t
     (are-apart (fact_of program one).home (fact_of program told).home test)
 
 pub pair-settled : (program : Program) (lists : List (List Row)) (old new : FoundFacts) (one told : StoredFact) (id other_id : FactId) (first second : Premise)
-    → IsRun program lists old → Contains old.facts one → Contains old.facts told → IsPremiseOf lists one first → IsPremiseOf lists told second
+    → IsRun program lists old → Contains old.facts one → Contains old.facts told → IsPremiseOf lists one id first → IsPremiseOf lists told other_id second
     → InstanceIsSettled program lists (Environment id other_id) (Some first) (Some second) one.home.0 new.facts → PairIsSettled program lists (fact_of program one) (fact_of program told) new.facts
 pair-settled program lists old new one told id other_id first second run there_f there_t is_f is_t settled k l i e other thread edge differ there at home_f home_t =
     settled (fact_of program one ∷ fact_of program told ∷ []) (env_case program (sets_of program lists) k l other thread edge (fact_of program one) (fact_of program told))
     (env id other_id first second k l i e other thread edge (fact_of program one) (fact_of program told)
-    (says program lists old one first run there_f is_f) (says program lists old told second run there_t is_t) differ there at home_f home_t)
+    (says program lists old one id first run there_f is_f) (says program lists old told other_id second run there_t is_t) differ there at home_f home_t)
     (found-number program lists old one run there_f ∙ ap Some home_f)
 
 -- the homes that the code names are those of the facts

@@ -6,8 +6,6 @@ use Rattle.std.proofs.lemmas.List.{length-map, length-append}
 use Rattle.std.proofs.lemmas.Option.{slice_get_within}
 use Rattle.std.proofs.lemmas.List.Elements.{Contains-append_left}
 use Rattle.horn_rules.proofs.Places.{slice_get-append_left}
-use Rattle.thr_base.specs.declared.names.RuleName.{RuleName}
-use Rattle.thr_base.specs.declared.names.RuleName.TheVariants.{Rg}
 use Rattle.thr_base.specs.declared.names.Fact.{Fact as StoredFact}
 use Rattle.lin_rows.specs.Row.{Row}
 use Rattle.transition_formula.specs.Program.{Program, Thread, Edge, numbered, IsProgram, IsThreadOf, IsEdgeOf}
@@ -16,15 +14,15 @@ use Rattle.transition_formula.specs.declared.graph.Edge.{Edge as StoredEdge}
 use Rattle.transition_formula.proofs.Lookups.{numbered-within}
 use Rattle.horn_rules.specs.Home.{Home, State, Env, homes}
 use Rattle.horn_rules.specs.Fact.{Fact}
-use Rattle.horn_rules.specs.Instance.{Case, IsCase, init_case, own_case, guar_case, env_case, init, own, guar, env, inter}
-use Rattle.horn_rules.specs.Stored.{sets_of}
-use Rattle.horn_rules.proofs.Numbers.{state_home-place}
-use Rattle.horn_rules.proofs.WorkedProgram.{home-numbered}
-use Rattle.serial_fix.specs.Found.{FoundFacts}
-use Rattle.serial_fix.specs.Run.{fact_of, facts_of, IsRun, Extends, IsSettled, StartIsSettled, HasEdge, IsFrom, OwnIsSettled, GuarIsSettled, EdgeIsSettled, OwnAreSettled, PairIsSettled, PairsAreSettled, IsLookedAt, StartsAreSettled, AllAreSettled, IsStep}
+use Rattle.horn_rules.specs.Case.{Case, init_case}
+use Rattle.serial_fix.specs.inside.Cases.{IsCase, own_case, guar_case, env_case, init, own, guar, env}
+use Rattle.horn_rules.specs.Stored.{sets_of, fact_of, facts_of}
+use Rattle.horn_rules.proofs.Numbers.{state_home-place, home-numbered}
+use Rattle.serial_fix.specs.inside.Found.{FoundFacts}
+use Rattle.serial_fix.specs.inside.Run.{IsRun, Extends, IsSettled, StartIsSettled, HasEdge, IsFrom, OwnIsSettled, GuarIsSettled, EdgeIsSettled, OwnAreSettled, PairIsSettled, PairsAreSettled, IsLookedAt, StartsAreSettled, AllAreSettled, IsStep}
 use Rattle.serial_fix.specs.declared.step.Step.{Step}
 use Rattle.serial_fix.specs.declared.step.Step.TheVariants.{Done, Left}
-use Rattle.serial_fix.proofs.Members.{later, first-or-later, nothing}
+use Rattle.horn_rules.proofs.Lists.{Contains-later as later, first-or-later, contains-nothing}
 use Rattle.serial_fix.proofs.Steps.{Extends-Contains}
 use Rattle.serial_fix.proofs.Instances.{found-number, some-is}
 
@@ -220,8 +218,8 @@ looked-at program lists n one old mid found at begun on own_done pairs_done stor
 
 -- ---- all instances over the first facts
 take-at : {A : Type 0} (xs : List A) (n : ℕ) (x : A) → Contains (take n xs) x → (k : ℕ) × (k < n) × (slice_get xs k ≡ Some x)
-take-at xs zero x c = absurd (nothing x c)
-take-at [] (suc n) x c = absurd (nothing x c)
+take-at xs zero x c = absurd (contains-nothing x c)
+take-at [] (suc n) x c = absurd (contains-nothing x c)
 take-at (y ∷ ys) (suc n) x c = elim (first-or-later y x (take n ys) c) [
   | inl is ↦ (0, omega arith, ap Some is)
   | inr there ↦ let (k, below, at) = take-at ys n x there in (suc k, omega arith, at)
@@ -276,22 +274,22 @@ module _ (program : Program) (lists : List (List Row)) (n : ℕ) (old new : List
             inl (ap (fact_of program) stored ∙ is.is)
       ]
 
-  settled-case : (rule : RuleName) (premises : List Fact) (given : Case) → IsCase program (sets_of program lists) rule premises given → rule ≡ Rg
+  settled-case : (premises : List Fact) (given : Case) → IsCase program (sets_of program lists) premises given
       → AllByRecursion (Contains (take (n + 1) (facts_of program new))) premises → IsSettled program lists new given
-  settled-case rule premises given (init _ i thread at) rg all = settled-lasts program lists (init_case program i) old new on (done [] (init_case program i) (init Rg i thread at) tt)
-  settled-case rule premises given (own _ i e thread edge f at home) rg all = elim (premise-is f all.0) [
+  settled-case premises given (init i thread at) all = settled-lasts program lists (init_case program i) old new on (done [] (init_case program i) (init i thread at) tt)
+  settled-case premises given (own i e thread edge f at home) all = elim (premise-is f all.0) [
     | inl is ↦ subst (λ (g : Fact). g.home ≡ State i edge.from → IsSettled program lists new (own_case program (sets_of program lists) i thread edge g)) is
         (λ from. ((looked one at_n).0 i e).0 thread edge at from) home
     | inr (is, before) ↦ settled-lasts program lists (own_case program (sets_of program lists) i thread edge f) old new on
-        (done (f ∷ []) (own_case program (sets_of program lists) i thread edge f) (own Rg i e thread edge f at home) (unplaced program old (n + 1) n f is before, tt))
+        (done (f ∷ []) (own_case program (sets_of program lists) i thread edge f) (own i e thread edge f at home) (unplaced program old (n + 1) n f is before, tt))
   ]
-  settled-case rule premises given (guar i e thread edge f at home) rg all = elim (premise-is f all.0) [
+  settled-case premises given (guar i e thread edge f at home) all = elim (premise-is f all.0) [
     | inl is ↦ subst (λ (g : Fact). g.home ≡ State i edge.from → IsSettled program lists new (guar_case program (sets_of program lists) i e thread edge g)) is
         (λ from. ((looked one at_n).0 i e).1 thread edge at from) home
     | inr (is, before) ↦ settled-lasts program lists (guar_case program (sets_of program lists) i e thread edge f) old new on
         (done (f ∷ []) (guar_case program (sets_of program lists) i e thread edge f) (guar i e thread edge f at home) (unplaced program old (n + 1) n f is before, tt))
   ]
-  settled-case rule premises given (env k l i e other thread edge f t apart there at home_f home_t) rg all = elim (premise-is f all.0) [
+  settled-case premises given (env k l i e other thread edge f t apart there at home_f home_t) all = elim (premise-is f all.0) [
     | inl f_is ↦ elim (premise-is t all.1.0) [
       | inl t_is ↦
           let clash : State k l ≡ Env i e = sym home_f ∙ ap (λ (g : Fact). g.home) (sym f_is ∙ t_is) ∙ home_t in
@@ -314,23 +312,21 @@ module _ (program : Program) (lists : List (List Row)) (n : ℕ) (old new : List
           (unplaced program old (n + 1) n f f_is f_before, (unplaced program old (n + 1) n t t_is t_before, tt)))
     ]
   ]
-  settled-case rule premises given (inter k l i e other thread edge f g apart there at home_f home_g) rg all = cc
 
 pub all-more : (program : Program) (lists : List (List Row)) (n : ℕ) (old new : List StoredFact) → n < length old → Extends old new
     → AllAreSettled program lists n old → IsLookedAt program lists n old new → AllAreSettled program lists (n + 1) new
 all-more program lists n old new within on done looked premises given is all =
     let (one, at) = slice-there old n within in
-    settled-case program lists n old new one within at on done looked Rg premises given is refl all
+    settled-case program lists n old new one within at on done looked premises given is all
 
 pub all-none : (program : Program) (lists : List (List Row)) (found : List StoredFact) → StartsAreSettled program lists found → AllAreSettled program lists 0 found
-all-none program lists found starts premises given is all = of-case Rg premises given is all
+all-none program lists found starts premises given is all = of-case premises given is all
   where
-    of-case : (rule : RuleName) (premises : List Fact) (given : Case) → IsCase program (sets_of program lists) rule premises given → AllByRecursion (Contains (take 0 (facts_of program found))) premises → IsSettled program lists found given
-    of-case rule premises given (init _ i thread at) all = starts i thread at
-    of-case rule premises given (own _ i e thread edge f at home) all = absurd (nothing f all.0)
-    of-case rule premises given (guar i e thread edge f at home) all = absurd (nothing f all.0)
-    of-case rule premises given (env k l i e other thread edge f t apart there at home_f home_t) all = absurd (nothing f all.0)
-    of-case rule premises given (inter k l i e other thread edge f g apart there at home_f home_g) all = absurd (nothing f all.0)
+    of-case : (premises : List Fact) (given : Case) → IsCase program (sets_of program lists) premises given → AllByRecursion (Contains (take 0 (facts_of program found))) premises → IsSettled program lists found given
+    of-case premises given (init i thread at) all = starts i thread at
+    of-case premises given (own i e thread edge f at home) all = absurd (contains-nothing f all.0)
+    of-case premises given (guar i e thread edge f at home) all = absurd (contains-nothing f all.0)
+    of-case premises given (env k l i e other thread edge f t apart there at home_f home_t) all = absurd (contains-nothing f all.0)
 
 -- ---- loops
 pub Extends-length : (earlier later : List StoredFact) → Extends earlier later → length earlier ≤ length later

@@ -4,9 +4,12 @@ use Rattle.std.specs.List.{AllByRecursion, Contains, Any}
 use Rattle.std.specs.Option.{ForSome}
 use Rattle.std.proofs.lemmas.List.{map-append, reverse-append, append-nil}
 use Rattle.std.proofs.lemmas.List.Elements.{Contains-append_left, Contains-push, Contains-get_or}
-use Rattle.std.proofs.lemmas.Bool.{eqb-true}
+use Rattle.std.proofs.Math.Pow.{pow_mono}
+use Rattle.std.proofs.lemmas.Bool.{eqb-true, cases_lt}
 use Rattle.std.proofs.lemmas.Option.{slice_get_within}
 use Rattle.std.proofs.lemmas.List.Quantifiers.{all_pairs_push}
+use Rattle.thr_base.specs.Held.{positions}
+use Rattle.thr_base.proofs.Positions.{words-below, are-positions}
 use Rattle.thr_base.specs.declared.names.RuleName.TheVariants.{Rg}
 use Rattle.thr_base.specs.declared.names.Instance.{Instance}
 use Rattle.thr_base.specs.declared.names.HomeNo.{HomeNo}
@@ -19,22 +22,21 @@ use Rattle.transition_formula.specs.Program.{Program, numbered}
 use Rattle.horn_rules.specs.declared.job.Premise.{Premise}
 use Rattle.horn_rules.specs.Home.{Home, State, homes}
 use Rattle.horn_rules.specs.Fact.{Sets, Fact}
-use Rattle.horn_rules.specs.Instance.{Case}
-use Rattle.horn_rules.specs.Job.{positions, IsCaseOf}
-use Rattle.horn_rules.specs.Posted.{posted}
-use Rattle.horn_rules.specs.Least.{IsFactOf, IsPost, Comes, IsDerivation, Least}
-use Rattle.horn_rules.specs.Stored.{sets_of, AreStoredSetsOf}
-use Rattle.horn_rules.proofs.Posts.{posts-unique}
-use Rattle.horn_rules.proofs.Jobs.{jobs-are-cases}
-use Rattle.horn_rules.proofs.StoredSets.{sets_of-numbered}
+use Rattle.horn_rules.specs.Case.{Case}
+use Rattle.horn_rules.specs.Post.{IsFactOf}
+use Rattle.horn_rules.specs.Least.{Comes, IsDerivation, Least}
+use Rattle.horn_rules.specs.Laws.{bare_at}
+use Rattle.horn_rules.specs.Stored.{fact_of, facts_of, sets_of}
+use Rattle.horn_rules.proofs.Posts.{facts-same}
+use Rattle.horn_rules.proofs.Derivations.{bare-fact}
+use Rattle.horn_rules.proofs.Lists.{Contains-first, first-or-later, contains-nothing, Contains-map, all-contained}
 use Rattle.abstract_post.specs.Left.{IsLeft}
 use Rattle.serial_fix.specs.Least.{Leaves}
-use Rattle.serial_fix.specs.Laws.{bare_at}
-use Rattle.serial_fix.specs.Found.{FoundFacts, IsInserted}
-use Rattle.serial_fix.specs.Run.{fact_of, facts_of, IsStored, IsRun, Extends, IsSettled, IsInstance, InstanceIsSettled}
-use Rattle.serial_fix.proofs.Members.{first, later, first-or-later, nothing, Contains-map}
-use Rattle.serial_fix.proofs.Positions.{held-within}
-use Rattle.serial_fix.proofs.Gives.{not-refuted, no-number, bare-fact}
+use Rattle.serial_fix.specs.inside.Found.{FoundFacts, IsInserted}
+use Rattle.serial_fix.specs.inside.Run.{IsStored, IsRun, Extends, IsSettled, IsInstance, InstanceIsSettled}
+use Rattle.serial_fix.proofs.Cases.{to-rules}
+use Rattle.serial_fix.proofs.Gives.{not-refuted}
+use Rattle.serial_fix.proofs.Jobs.{job-case, target-set, Outcome}
 
 -- ---- lists
 
@@ -46,16 +48,11 @@ pub all-weaker : {A : Type 0} (P Q : A → Type 0) → ((x : A) → P x → Q x)
 all-weaker P Q then [] all = tt
 all-weaker P Q then (x ∷ xs) all = (then x all.0, all-weaker P Q then xs all.1)
 
-pub all-at : {A : Type 0} (P : A → Type 0) (xs : List A) (x : A) → AllByRecursion P xs → Contains xs x → P x
-all-at P [] x all c = absurd (nothing x c)
-all-at P (y ∷ ys) x all (zero, h, e) = subst P e all.0
-all-at P (y ∷ ys) x all (suc k, h, e) = all-at P ys x all.1 (k, omega arith, e)
-
 reverse-push : {A : Type 0} (xs : List A) (x : A) → reverse (xs ++ x ∷ []) ≡ x ∷ reverse xs
 reverse-push xs x = reverse-append xs (x ∷ [])
 
 pub Contains-reverse : {A : Type 0} (xs : List A) (x : A) → Contains xs x → Contains (reverse xs) x
-Contains-reverse [] x c = absurd (nothing x c)
+Contains-reverse [] x c = absurd (contains-nothing x c)
 Contains-reverse (y ∷ ys) x c = subst (λ l. Contains l x) (sym (reverse-append (y ∷ []) ys)) (elim (first-or-later y x ys c) [
   | inl is ↦ subst (Contains (reverse ys ++ y ∷ [])) is (Contains-push (reverse ys) y)
   | inr there ↦ Contains-append_left (reverse ys) (y ∷ []) x (Contains-reverse ys x there)
@@ -67,7 +64,7 @@ none-is-it xs x lacks k d within is = lacks (subst (Contains xs) is (Contains-ge
 -- a list in which nothing stands is empty
 empty : (xs : List ℕ) → ((k : ℕ) → Contains xs k → ⊥) → xs ≡ []
 empty [] none = refl
-empty (k ∷ ks) none = absurd (none k (first k ks))
+empty (k ∷ ks) none = absurd (none k (Contains-first k ks))
 
 -- ---- stored facts
 
@@ -76,9 +73,6 @@ pub fact-is : (program : Program) (home : HomeNo) (held : ℕ) (target : Home) �
 fact-is program home held target at =
     let made : Option Home → Fact = λ o. record { home = unwrap_or o (State 0 0); held = positions held } in
     ap made at
-
-pub target-set : (program : Program) (lists : List (List Row)) (n : ℕ) (home : Home) → AreStoredSetsOf program lists → numbered (homes program) n ≡ Some home → sets_of program lists home ≡ set_at lists n
-target-set program lists n home are at = sets_of-numbered program lists n home are.one_each at
 
 pub numbered-within : {A : Type 0} (xs : List A) (n : ℕ) (x : A) → numbered xs n ≡ Some x → n ≤ length xs
 numbered-within xs zero x e = cc
@@ -101,12 +95,26 @@ Extends-Contains program earlier later fact on c =
 
 -- a fact without predicates at a home without predicates
 no-positions : positions 0 ≡ []
-no-positions = refl
+no-positions = empty (positions 0) (λ k there.
+    let small : k ≤ 0 = (words-below 0 0 (omega arith) (omega arith)).0 (omega arith) k there in
+    let (from_1, to_128, held) = ((are-positions 0).exact k).0 there in
+    absurd (omega (arith, small, from_1)))
+
+no-number : (k : ℕ) (atom : Row) → numbered [] k ≡ Some atom → ⊥
+no-number zero atom e = cc
+no-number (suc k) atom e = cc
 
 nothing-held : (sets : Sets) (given : Case) (fact : Fact) → IsFactOf sets given fact → sets given.target ≡ [] → fact.held ≡ []
 nothing-held sets given fact is none = empty fact.held (λ k there.
-    let (atom, at, entails) = (is.entailed k).0 there in
+    let (atom, at, entails) = (is.entailed.exact k).0 there in
     no-number k atom (ap (λ l. numbered l k) (sym none) ∙ at))
+
+-- a word whose positions are within a list is below 2 ^ its length
+held-within : (held n : ℕ) → held < 2 ^ 128 → ((k : ℕ) → Contains (positions held) k → k ≤ n) → held < 2 ^ n
+held-within held n small each = elim (cases_lt 128 n) [
+  | inl above ↦ let within : 128 ≤ n = omega arith in let most : 2 ^ 128 ≤ 2 ^ n = pow_mono {i = 128} {j = n} within in omega (arith, small, most)
+  | inr within ↦ (words-below held n small (omega arith)).1 each
+]
 
 stood-alone : (program : Program) (lists : List (List Row)) (home : HomeNo) (target : Home) (stored : StoredFact) → numbered (homes program) home.0 ≡ Some target
     → set_at lists home.0 ≡ [] → stored.home.0 ≡ home.0 → stored.held < 2 ^ length (set_at lists stored.home.0) → fact_of program stored ≡ record { home = target; held = [] }
@@ -123,7 +131,7 @@ pub skipped : (program : Program) (lists : List (List Row)) (found : FoundFacts)
 skipped program lists found home given run at none (k, stored, within, is, same) =
     let bare : sets_of program lists given.target ≡ [] = target-set program lists home.0 given.target run.lists_are at ∙ none in
     let stands : Contains found.facts stored = (k, within, is) in
-    let kept : IsStored program lists stored = all-at (IsStored program lists) found.facts stored run.facts_are stands in
+    let kept : IsStored program lists stored = all-contained (IsStored program lists) found.facts stored run.facts_are stands in
     let one : fact_of program stored ≡ record { home = given.target; held = [] } = stood-alone program lists home given.target stored at none same kept.within in
     record {
       there = λ fact of.
@@ -136,15 +144,9 @@ skipped program lists found home given run at none (k, stored, within, is, same)
 
 -- ---- an instance that is posted
 
--- what the post is of the given case, where its home has the given number
-abbrev Outcome : Program → List (List Row) → Instance → Option Premise → Option Premise → ℕ → Option ℕ → Type 0
-Outcome program lists instance first second home held =
-    (premises : List Fact) (given : Case) → IsCaseOf program (sets_of program lists) instance first second premises given
-    → sets_of program lists given.target ≡ set_at lists home → IsPost (sets_of program lists) given (posted given.target held)
-
 settled-nothing : (program : Program) (lists : List (List Row)) (found : List StoredFact) (given : Case) → IsRefuted given.system → IsSettled program lists found given
 settled-nothing program lists found given refuted = record {
-  there = λ fact of. absurd (of.open_system refuted);
+  there = λ fact of. absurd (of.entailed.open_system refuted);
   gives = λ z point. absurd (not-refuted given.system z point refuted);
 }
 
@@ -152,8 +154,7 @@ settled-fact : (program : Program) (lists : List (List Row)) (found : List Store
     → Contains (facts_of program found) one → IsSettled program lists found given
 settled-fact program lists found given one is there = record {
   there = λ fact of.
-      let both : Some one ≡ Some fact = posts-unique (sets_of program lists) given (Some one) (Some fact) is of in
-      let same : one ≡ fact = cc in
+      let same : one ≡ fact = facts-same (sets_of program lists) given one fact is of in
       subst (Contains (facts_of program found)) same there;
   gives = λ z point. (one, is);
 }
@@ -166,7 +167,7 @@ module _ (program : Program) (lists : List (List Row)) (old : FoundFacts) (insta
   new-fact = record { home = home; held = held }
 
   of-case : IsFactOf (sets_of program lists) is.given (record { home = is.given.target; held = positions held })
-  of-case = outcome is.premises is.given is.is_case (target-set program lists home.0 is.given.target run.lists_are is.home_is)
+  of-case = record { at_target = refl; entailed = outcome is.premises is.given is.is_case is.home_is }
 
   new-is : fact_of program (record { home = home; held = held }) ≡ record { home = is.given.target; held = positions held }
   new-is = fact-is program home held is.given.target is.home_is
@@ -174,19 +175,24 @@ module _ (program : Program) (lists : List (List Row)) (old : FoundFacts) (insta
   new-stored : IsStored program lists (record { home = home; held = held })
   new-stored = record {
     has_home = subst (λ o. IsSome o) (sym is.home_is) refl;
-    within = held-within (set_at lists home.0) held small (λ k there.
-        let (atom, at, entails) = (of-case.entailed k).0 there in
-        (atom, ap (λ l. numbered l k) (sym (target-set program lists home.0 is.given.target run.lists_are is.home_is)) ∙ at));
+    within = held-within held (length (set_at lists home.0)) small (λ k there.
+        let (atom, at, entails) = (of-case.entailed.exact k).0 there in
+        let here = ap (λ l. numbered l k) (sym (target-set program lists home.0 is.given.target run.lists_are is.home_is)) ∙ at in
+        numbered-within (set_at lists home.0) k atom here);
   }
 
   new-comes : Comes program Rg (sets_of program lists) (reverse (facts_of program old.facts)) (fact_of program (record { home = home; held = held }))
-  new-comes = record {
-    premises = is.premises;
-    given = is.given;
-    is_case = jobs-are-cases program (sets_of program lists) Rg instance one two is.premises is.given is.has_kind is.is_case;
-    stand_earlier = all-weaker (Contains (facts_of program old.facts)) (Contains (reverse (facts_of program old.facts))) (Contains-reverse (facts_of program old.facts)) is.premises is.stand;
-    is_post = subst (λ (f : Fact). IsPost (sets_of program lists) is.given (Some f)) (sym new-is) of-case;
-  }
+  new-comes =
+      let of_rules = to-rules program (sets_of program lists) is.premises is.given (job-case program (sets_of program lists) instance one two is.premises is.given is.is_case) in
+      record {
+        instance = of_rules.instance;
+        given = is.given;
+        has_kind = of_rules.has_kind;
+        is_case = of_rules.is_case;
+        stand_earlier = subst (AllByRecursion (Contains (reverse (facts_of program old.facts)))) (sym of_rules.premises_are)
+            (all-weaker (Contains (facts_of program old.facts)) (Contains (reverse (facts_of program old.facts))) (Contains-reverse (facts_of program old.facts)) is.premises is.stand);
+        is_fact = subst (IsFactOf (sets_of program lists) is.given) (sym new-is) of-case;
+      }
 
   new-run : (¬ Contains old.facts (record { home = home; held = held })) → IsRun program lists (record old { facts = old.facts ++ record { home = home; held = held } ∷ [] })
   new-run lacks = record {
@@ -207,13 +213,13 @@ pub added : (program : Program) (lists : List (List Row)) (old new : FoundFacts)
 added program lists old new instance one two home None run is small outcome same = (
   subst (IsRun program lists) (sym same) run,
   subst (λ (f : FoundFacts). Extends old.facts f.facts) (sym same) (Extends-same old.facts),
-  λ premises given of at. settled-nothing program lists new.facts given (outcome premises given of (target-set program lists home.0 given.target run.lists_are at)),
+  λ premises given of at. settled-nothing program lists new.facts given (outcome premises given of at),
 )
 added program lists old new instance one two home (Some held) run is small outcome (inl (there, same)) = (
   subst (IsRun program lists) (sym same) run,
   subst (λ (f : FoundFacts). Extends old.facts f.facts) (sym same) (Extends-same old.facts),
   λ premises given of at.
-      settled-fact program lists new.facts given (record { home = given.target; held = positions held }) (outcome premises given of (target-set program lists home.0 given.target run.lists_are at))
+      settled-fact program lists new.facts given (record { home = given.target; held = positions held }) (record { at_target = refl; entailed = outcome premises given of at })
       (subst (λ (f : FoundFacts). Contains (facts_of program f.facts) (record { home = given.target; held = positions held })) (sym same)
       (subst (Contains (facts_of program old.facts)) (fact-is program home held given.target at) (Contains-map (fact_of program) old.facts (record { home = home; held = held }) there))),
 )
@@ -221,7 +227,7 @@ added program lists old new instance one two home (Some held) run is small outco
   subst (IsRun program lists) (sym more) (new-run program lists old instance one two home held run is (small held refl) outcome lacks),
   record { more = record { home = home; held = held } ∷ []; is = ap (λ (f : FoundFacts). f.facts) more },
   λ premises given of at.
-      settled-fact program lists new.facts given (record { home = given.target; held = positions held }) (outcome premises given of (target-set program lists home.0 given.target run.lists_are at))
+      settled-fact program lists new.facts given (record { home = given.target; held = positions held }) (record { at_target = refl; entailed = outcome premises given of at })
       (subst (λ (f : FoundFacts). Contains (facts_of program f.facts) (record { home = given.target; held = positions held })) (sym more)
       (subst (Contains (facts_of program (old.facts ++ record { home = home; held = held } ∷ []))) (fact-is program home held given.target at)
       (Contains-map (fact_of program) (old.facts ++ record { home = home; held = held } ∷ []) (record { home = home; held = held }) (Contains-push old.facts (record { home = home; held = held }))))),
@@ -233,14 +239,16 @@ pub found-least : (program : Program) (lists : List (List Row)) (found : FoundFa
 found-least program lists found fact run there = (reverse (facts_of program found.facts), run.derived, Contains-reverse (facts_of program found.facts) fact there)
 
 pub leaves : (program : Program) (lists : List (List Row)) (found : FoundFacts) (instance : Instance) (one two : Option Premise) (home : ℕ) (atoms : List Row) (kind : LeaveKind)
-    → IsRun program lists found → IsInstance program lists found.facts instance one two home → atoms ≡ set_at lists home
-    → ((sets : Sets) (premises : List Fact) (given : Case) → IsCaseOf program sets instance one two premises given → IsLeft given atoms kind)
-    → Leaves program lists
-leaves program lists found instance one two home atoms kind run is are left = record {
-  premises = is.premises;
-  given = is.given;
-  kind = kind;
-  is_case = jobs-are-cases program (sets_of program lists) Rg instance one two is.premises is.given is.has_kind is.is_case;
-  are_least = all-weaker (Contains (facts_of program found.facts)) (Least program Rg (sets_of program lists)) (λ fact there. found-least program lists found fact run there) is.premises is.stand;
-  is_left = subst (λ l. IsLeft is.given l kind) (are ∙ sym (target-set program lists home is.given.target run.lists_are is.home_is)) (left (sets_of program lists) is.premises is.given is.is_case);
-}
+    → IsRun program lists found → (is : IsInstance program lists found.facts instance one two home) → atoms ≡ set_at lists home → IsLeft is.given atoms kind → Leaves program lists
+leaves program lists found instance one two home atoms kind run is are left =
+    let of_rules = to-rules program (sets_of program lists) is.premises is.given (job-case program (sets_of program lists) instance one two is.premises is.given is.is_case) in
+    record {
+      instance = of_rules.instance;
+      given = is.given;
+      kind = kind;
+      has_kind = of_rules.has_kind;
+      is_case = of_rules.is_case;
+      are_least = subst (AllByRecursion (Least program Rg (sets_of program lists))) (sym of_rules.premises_are)
+          (all-weaker (Contains (facts_of program found.facts)) (Least program Rg (sets_of program lists)) (λ fact there. found-least program lists found fact run there) is.premises is.stand);
+      is_left = subst (λ l. IsLeft is.given l kind) (are ∙ sym (target-set program lists home is.given.target run.lists_are is.home_is)) left;
+    }

@@ -1,18 +1,18 @@
 -- What a run answers.
-use Rattle.std.specs.Prelude.{◌≢◌, List, Any, AllPairs}
-use Rattle.std.specs.List.{AllByRecursion}
+use Rattle.std.specs.Prelude.{◌≢◌, ◌↔◌, List, AllPairs}
+use Rattle.std.specs.List.{AllByRecursion, Contains}
 use Rattle.thr_base.specs.declared.names.RuleName.TheVariants.{Rg}
 use Rattle.thr_base.specs.declared.names.Fact.{Fact as StoredFact}
 use Rattle.lin_rows.specs.Row.{Row}
 use Rattle.farkas_cert.specs.declared.answers.LeaveKind.{LeaveKind}
 use Rattle.transition_formula.specs.Program.{Program}
-use Rattle.horn_rules.specs.Fact.{Fact}
-use Rattle.horn_rules.specs.Instance.{Case, IsCase}
-use Rattle.horn_rules.specs.Least.{Least}
-use Rattle.horn_rules.specs.Stored.{sets_of}
+use Rattle.horn_rules.specs.Fact.{Fact, statement_of}
+use Rattle.horn_rules.specs.Instance.{Instance, HasKind, premises_of, map_instance}
+use Rattle.horn_rules.specs.Case.{Case, IsCaseOf}
+use Rattle.horn_rules.specs.Least.{Least, LeastSays}
+use Rattle.horn_rules.specs.Cover.{Covers}
+use Rattle.horn_rules.specs.Stored.{facts_of, sets_of, HasItsHome}
 use Rattle.abstract_post.specs.Left.{IsLeft}
-use Rattle.serial_fix.specs.Stored.{HasItsHome, StandsFor}
-use Rattle.serial_fix.specs.Runs.{Covers}
 use Rattle.serial_fix.specs.declared.fixpoint.LeastAnswer.{LeastAnswer}
 use Rattle.serial_fix.specs.declared.fixpoint.LeastAnswer.TheVariants.{Facts, Leaves as LeavesAnswer}
 
@@ -20,18 +20,18 @@ use Rattle.serial_fix.specs.declared.fixpoint.LeastAnswer.TheVariants.{Facts, Le
 pub record AreLeast (program : Program) (lists : List (List Row)) (stored : List StoredFact) : Type 0 where
   pub have_homes : AllByRecursion (HasItsHome program) stored
   pub none_twice : AllPairs (λ a b. a ≢ b) stored
-  pub sound : (fact : Fact) → Any (λ one. StandsFor program one fact) stored → Least program Rg (sets_of program lists) fact
-  pub complete : (fact : Fact) → Least program Rg (sets_of program lists) fact → Any (λ one. StandsFor program one fact) stored
-  pub covers : Covers program (sets_of program lists)
+  pub exact : (fact : Fact) → Contains (facts_of program stored) fact ↔ Least program Rg (sets_of program lists) fact
+  pub covers : Covers program (LeastSays program Rg (sets_of program lists))
 
 -- The elimination leaves on a system that decides an instance over the least set: that of its rows, or it with the negation of a
 -- predicate of the home of its fact.
 pub record Leaves (program : Program) (lists : List (List Row)) : Type 0 where
-  pub premises : List Fact
+  pub instance : Instance Fact
   pub given : Case
   pub kind : LeaveKind
-  pub is_case : IsCase program (sets_of program lists) Rg premises given
-  pub are_least : AllByRecursion (Least program Rg (sets_of program lists)) premises
+  pub has_kind : HasKind Rg instance
+  pub is_case : IsCaseOf program (map_instance (statement_of (sets_of program lists)) instance) given
+  pub are_least : AllByRecursion (Least program Rg (sets_of program lists)) (premises_of instance)
   pub is_left : IsLeft given (sets_of program lists given.target) kind
 
 -- What an answer says.

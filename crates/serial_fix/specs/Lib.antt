@@ -1,10 +1,2 @@
-pub mod Stored
-pub mod Table
-pub mod Runs
 pub mod Least
-pub mod Laws
-pub mod Lines
-pub mod Found
-pub mod Run
-pub mod Worked
-pub mod Asserting
+pub mod inside

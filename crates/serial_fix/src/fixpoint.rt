@@ -1,7 +1,7 @@
 ghost use Rattle.std.specs.Prelude.{◌≡◌, ◌≤◌, ◌<◌, Contains, length, IfOk};
-ghost use Rattle.horn_rules.specs.Stored.{AreStoredSetsOf};
+ghost use Rattle.horn_rules.specs.Stored.{fact_of, AreStoredSetsOf};
 ghost use Rattle.serial_fix.specs.Least.{IsLeastAnswer};
-ghost use Rattle.serial_fix.specs.Run.{AreAllSettled, BothAreSettled, IsLookedAt, IsRun, IsStep, PairsAreSettled, StartsAreSettled, fact_of};
+ghost use Rattle.serial_fix.specs.inside.Run.{AreAllSettled, BothAreSettled, IsLookedAt, IsRun, IsStep, PairsAreSettled, StartsAreSettled};
 
 use crate::found::Found;
 use crate::run::{Known, environment_step, nth, own_steps, start};

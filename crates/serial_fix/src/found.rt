@@ -1,5 +1,5 @@
 ghost use Rattle.std.specs.Prelude.{◌≡◌, ◌↔◌, ◌+◌, ◌^◌, ◌<◌, ◌≤◌, [], ◌∷◌, ◌++◌, length, map, replicate, Any, Contains, IfOk, OnOk, IsTrue};
-ghost use Rattle.serial_fix.specs.Found.{FoundFacts, held_at};
+ghost use Rattle.serial_fix.specs.inside.Found.{FoundFacts, held_at};
 
 use std::alloc::{AllocError, Global};
 use std::marker::Model;
@@ -14,7 +14,7 @@ pub(crate) struct Found {
 
 impl Model for Found {
     ghost use Rattle.std.specs.Prelude.{length, map};
-    ghost use Rattle.serial_fix.specs.Found.{FoundFacts, IsIndex};
+    ghost use Rattle.serial_fix.specs.inside.Found.{FoundFacts, IsIndex};
 
     ghost Value = { FoundFacts };
 

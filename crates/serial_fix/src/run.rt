@@ -3,9 +3,10 @@ ghost use Rattle.predicate_sets.specs.Sets.{HasHome, set_at};
 ghost use Rattle.transition_formula.specs.Program.{Thread, IsEdgeOf, numbered};
 ghost use Rattle.transition_formula.specs.Program as specs;
 ghost use Rattle.transition_formula.specs.Stored.{edge_of};
-ghost use Rattle.horn_rules.specs.Stored.{home_of};
+ghost use Rattle.horn_rules.specs.Instances.{tells_another};
+ghost use Rattle.horn_rules.specs.Stored.{fact_of, home_of};
 ghost use Rattle.horn_rules.specs.Home.{State};
-ghost use Rattle.serial_fix.specs.Run.{EdgeIsSettled, GuarIsSettled, HasEdge, IsFrom, IsRun, IsStep, OwnAreSettled, OwnIsSettled, PairIsSettled, StartIsSettled, fact_of, tells_another};
+ghost use Rattle.serial_fix.specs.inside.Run.{EdgeIsSettled, GuarIsSettled, HasEdge, IsFrom, IsRun, IsStep, OwnAreSettled, OwnIsSettled, PairIsSettled, StartIsSettled};
 
 use crate::found::Found;
 use crate::step::{Step, add};
@@ -37,6 +38,7 @@ pub(crate) fn nth(found: &Found, n: u32) -> Known
 /// A fact as a premise.
 fn as_premise(sets: &Sets, known: Known) -> Result<Premise, AllocError>
     requires { HasHome sets.now known.fact.home.0 }
+    ensures id { IfOk result (λ premise. premise.id ≡ known.id) }
     ensures fact { IfOk result (λ premise. premise.fact ≡ known.fact) }
     ensures set { IfOk result (λ premise. premise.set.value ≡ set_at sets.now known.fact.home.0) }
 {

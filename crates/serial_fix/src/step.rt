@@ -3,8 +3,8 @@ ghost use Rattle.predicate_sets.specs.Sets.{HasHome, set_at};
 ghost use Rattle.transition_formula.specs.Program.{numbered, IsProgram};
 ghost use Rattle.horn_rules.specs.Home.{homes};
 ghost use Rattle.horn_rules.specs.Job.{IsJob};
-ghost use Rattle.serial_fix.specs.Found.{IsInserted};
-ghost use Rattle.serial_fix.specs.Run.{InstanceIsSettled, IsInstance, IsRun, IsStep};
+ghost use Rattle.serial_fix.specs.inside.Found.{IsInserted};
+ghost use Rattle.serial_fix.specs.inside.Run.{InstanceIsSettled, IsInstance, IsRun, IsStep};
 
 use crate::found::Found;
 use abstract_post::post;

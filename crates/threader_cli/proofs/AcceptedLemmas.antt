@@ -7,10 +7,11 @@ use Rattle.c_lex.specs.declared.token.Token.{Token}
 use Rattle.threader_cli.proofs.ReadingComplete.{program_complete}
 use Rattle.threader_cli.proofs.ReadingSound.{program_sound}
 use Rattle.threader_cli.specs.Accepted.{is_allowed}
-use Rattle.threader_cli.specs.ProgramText.{IsAccepted, StopsTokens}
-use Rattle.threader_cli.specs.Reading.{program_at}
-use Rattle.threader_cli.specs.Refusals.{Fails}
-use Rattle.threader_cli.specs.Seen.{texts}
+use Rattle.threader_cli.specs.ProgramText.{IsAccepted}
+use Rattle.threader_cli.specs.inside.Readers.{StopsTokens}
+use Rattle.threader_cli.specs.inside.Reading.{program_at}
+use Rattle.threader_cli.specs.inside.Readers.{Fails}
+use Rattle.threader_cli.specs.inside.Seen.{texts}
 use Rattle.threader_cli.specs.Tree.{Program}
 
 -- the texts of tokens

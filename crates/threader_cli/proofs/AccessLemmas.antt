@@ -12,7 +12,7 @@ use Rattle.threader_cli.proofs.FormLemmas.{gathered, add_zero}
 use Rattle.threader_cli.proofs.NameLemmas.{list_all_append}
 use Rattle.threader_cli.proofs.NumberLemmas.{Fits-value_of}
 use Rattle.threader_cli.proofs.ReadingSteps.{left_true, right_true}
-use Rattle.threader_cli.specs.Checks.{allows}
+use Rattle.threader_cli.specs.inside.Checks.{allows}
 use Rattle.threader_cli.specs.Form.{at_name, is_called, signed, value_of, term_coefficient, coefficient_in, constant_in, sums_fit_from, has_number}
 use Rattle.threader_cli.specs.Tree.{Term, Number, Named, Multiple, Signed}
 use Rattle.threader_cli.specs.Uses.{Use, Assigns, Tests, Assumes, is_among, reads_among, uses_only, accesses, use_fits, one_if}

@@ -10,10 +10,10 @@ use Rattle.threader_cli.proofs.AccessLemmas.{allows-over, list_all_three}
 use Rattle.threader_cli.proofs.NameLemmas.{list_any_append}
 use Rattle.threader_cli.proofs.ReadingSteps.{left_true, right_true, false_of_not}
 use Rattle.threader_cli.specs.Accepted.{variable_names, function_names, names_in, are_new, locals_are_new_behind, text_declares, locals_are_new, uses_declared, has_few_accesses, numbers_fit, has_few_creations, is_small, main_declares, is_allowed}
-use Rattle.threader_cli.specs.Checks.{allows, is_usable}
+use Rattle.threader_cli.specs.inside.Checks.{allows, is_usable}
 use Rattle.threader_cli.specs.Data.{seen}
 use Rattle.threader_cli.specs.Form.{is_called}
-use Rattle.threader_cli.specs.Scope.{AreApart}
+use Rattle.threader_cli.specs.inside.Scope.{AreApart}
 use Rattle.threader_cli.specs.Tree.{Function, Program}
 use Rattle.threader_cli.specs.Uses.{Use, uses_each, uses_only, accesses, use_fits, is_among}
 

@@ -1,10 +1,14 @@
 -- How answers follow from those of the parts.
-use Rattle.std.proofs.Common.{◌≡◌, ◌<◌, ◌≤◌, ℕ, zero, suc, ◌+◌, ◌-◌, min, List, [], length, map, slice_get, Option, Some, None, option_map, Result, Ok, Err, IfOk, IsTrue, sym, ap, subst, ◌∙◌, arith}
+use Rattle.std.specs.List.{Contains}
+use Rattle.std.proofs.Common.{◌≡◌, ◌↔◌, ◌<◌, ◌≤◌, ℕ, zero, suc, ◌+◌, ◌-◌, min, List, [], length, map, slice_get, Option, Some, None, option_map, Result, Ok, Err, IfOk, IsTrue, refl, sym, ap, subst, ◌∙◌, arith}
 use Rattle.std.proofs.lemmas.List.{length-map}
 use Rattle.std.proofs.lemmas.Option.{slice_get-map, get_or_from_slice_get}
 use Rattle.thr_base.specs.Outside.{StoreMeaning, SinkMeaning, Files, Lacks, Rose, count_end}
 use Rattle.thr_base.specs.Reading.{IsFileNamed, IsLonger, StopsReading, KeepsFiles}
+use Rattle.thr_base.specs.Limits.{text_limit}
 use Rattle.thr_base.specs.declared.names.Fact.{Fact as StoredFact}
+use Rattle.thr_base.specs.declared.names.RuleName.{RuleName}
+use Rattle.thr_base.specs.declared.names.RuleName.TheVariants.{Rg}
 use Rattle.thr_base.specs.declared.stops.ReadStop.{ReadStop}
 use Rattle.thr_base.specs.declared.stops.ReadStop.TheVariants.{Fault, TooLong, Memory}
 use Rattle.thr_base.specs.declared.stops.Refusal.{Refusal}
@@ -12,16 +16,16 @@ use Rattle.lin_rows.specs.Row.{Row}
 use Rattle.transition_formula.specs.Program.{Program, numbered}
 use Rattle.predicate_sets.specs.Sets.{set_at}
 use Rattle.horn_rules.specs.Home.{Home, homes}
-use Rattle.horn_rules.specs.Fact.{IsSetOf}
-use Rattle.horn_rules.specs.Stored.{sets_of, AreStoredSetsOf}
+use Rattle.horn_rules.specs.Stored.{facts_of, sets_of, AreStoredSetsOf}
 use Rattle.annotation_form.specs.BadLine.{IsReadAs}
-use Rattle.annotation_form.specs.Predicates.{atoms_at}
+use Rattle.annotation_form.specs.Predicates.{home_atoms}
+use Rattle.horn_rules.specs.Fact.{Sets, Fact, IsSetOf}
+use Rattle.horn_rules.specs.Least.{Least}
+use Rattle.horn_rules.specs.Table.{IsTable}
 use Rattle.serial_fix.specs.Least.{AreLeast}
-use Rattle.serial_fix.specs.Table.{IsTable}
-use Rattle.threader_cli.specs.Answer.{NamesFiles, refusal_text, no_predicates, AnswersProgram, table, HasProgram, AnswersSecond, predicates_fault, predicates_long, predicates_read, AnswersFiles, refused, alone, second_thread, with_second, Answers, named, Ends, whole, write_fault, Wrote, all, front}
-use Rattle.threader_cli.specs.ProgramText.{text_limit, IsProgramText, Refuses}
-use Rattle.threader_cli.specs.Refusals.{not_built}
+use Rattle.threader_cli.specs.Answer.{TextKind, NamesFiles, AnswersProgram, table, AnswersUnread, fault, long, AnswersText, unread, read_whole, AnswersProgramText, refused, accepted, AnswersTables, alone, second_thread, with_predicates, AnswersFiles, program_text, Answers, named, Ends, whole, write_fault, Frame}
 use Rattle.threader_cli.specs.declared.answer.Answer.{Answer}
+use Rattle.threader_cli.specs.inside.Parts.{Wrote, all, front}
 
 -- ---- answers that are passed on
 
@@ -61,15 +65,49 @@ StopsReading-earlier TooLong before between after name limit kept h = (
 )
 StopsReading-earlier Memory before between after name limit kept h = tt
 
--- the answer of a second file, told of the time before the first was read
-pub AnswersSecond-earlier : {program : Program} {name : List ℕ} {between after : StoreMeaning} {status : ℕ} {text : List ℕ} (before : StoreMeaning)
-    → KeepsFiles before between → AnswersSecond program name between after status text → AnswersSecond program name before after status text
-AnswersSecond-earlier {name = name} {between = between} {after = after} before kept (predicates_fault why) =
-    predicates_fault (StopsReading-earlier Fault before between after name text_limit kept why)
-AnswersSecond-earlier {name = name} {between = between} {after = after} before kept (predicates_long why) =
-    predicates_long (StopsReading-earlier TooLong before between after name text_limit kept why)
-AnswersSecond-earlier {name = name} before kept (predicates_read bytes status text within file answers) =
-    predicates_read bytes status text within (subst (λ (files : Option Files). IsFileNamed files name bytes) kept.files file) answers
+-- what stays in two calls, one behind the other
+pub KeepsFiles-trans : (before between after : StoreMeaning) → KeepsFiles before between → KeepsFiles between after → KeepsFiles before after
+KeepsFiles-trans before between after first second = record {
+  files = second.files ∙ first.files;
+  honest = second.honest ∙ first.honest;
+  taken = (let one = first.taken in let two = second.taken in omega arith);
+  faults = (let one = first.faults in let two = second.faults in omega arith);
+}
+
+-- nothing happened
+pub KeepsFiles-refl : (store : StoreMeaning) → KeepsFiles store store
+KeepsFiles-refl store = record { files = refl; honest = refl; taken = omega arith; faults = omega arith }
+
+-- why a text is not read, told of an earlier time
+pub AnswersUnread-earlier : {kind : TextKind} {name : List ℕ} {between after : StoreMeaning} {status : ℕ} {text : List ℕ} (before : StoreMeaning)
+    → KeepsFiles before between → AnswersUnread kind name between after status text → AnswersUnread kind name before after status text
+AnswersUnread-earlier {kind = kind} {name = name} {between = between} {after = after} before kept (fault why) =
+    fault (StopsReading-earlier Fault before between after name kind.limit kept why)
+AnswersUnread-earlier {kind = kind} {name = name} {between = between} {after = after} before kept (long why) =
+    long (StopsReading-earlier TooLong before between after name kind.limit kept why)
+
+-- the answer of a text, told of an earlier time
+pub AnswersText-earlier : {kind : TextKind} {OfBytes : List ℕ → ℕ → List ℕ → Type 0} {name : List ℕ} {between after : StoreMeaning} {status : ℕ} {text : List ℕ} (before : StoreMeaning)
+    → KeepsFiles before between → AnswersText kind OfBytes name between after status text → AnswersText kind OfBytes name before after status text
+AnswersText-earlier before kept (unread status text why) = unread status text (AnswersUnread-earlier before kept why)
+AnswersText-earlier {name = name} before kept (read_whole bytes status text within file answers) =
+    read_whole bytes status text within (subst (λ (files : Option Files). IsFileNamed files name bytes) kept.files file) answers
+
+-- the answer of a program and a second file, told of an earlier time
+pub AnswersTables-earlier : {between after : StoreMeaning} {predicates : Option (List ℕ)} {program : Program} {status : ℕ} {text : List ℕ} (before : StoreMeaning)
+    → KeepsFiles before between → AnswersTables between after predicates program status text → AnswersTables before after predicates program status text
+AnswersTables-earlier before kept (alone program status text answers) = alone program status text answers
+AnswersTables-earlier before kept (second_thread name program more) = second_thread name program more
+AnswersTables-earlier before kept (with_predicates name program status text one answers) =
+    with_predicates name program status text one (AnswersText-earlier before kept answers)
+
+-- the answer of a program's text where what follows from its program is told of an earlier time
+pub AnswersProgramText-earlier : {between after : StoreMeaning} {predicates : Option (List ℕ)} {bytes : List ℕ} {status : ℕ} {text : List ℕ} (before : StoreMeaning)
+    → KeepsFiles before between → AnswersProgramText (AnswersTables between after predicates) bytes status text
+    → AnswersProgramText (AnswersTables before after predicates) bytes status text
+AnswersProgramText-earlier before kept (refused refusal why) = refused refusal why
+AnswersProgramText-earlier before kept (accepted program status text is answers) =
+    accepted program status text is (AnswersTables-earlier before kept answers)
 
 -- ---- predicates
 
@@ -83,7 +121,7 @@ mapped-at give hs (suc k) home is =
 -- what is read is a list of predicates for each home
 pub IsReadAs-stored : (program : Program) (bytes : List ℕ) (lists : List (List Row)) → IsReadAs program bytes lists → AreStoredSetsOf program lists
 IsReadAs-stored program bytes lists read =
-    let give = λ (home : Home). atoms_at home read.predicates in
+    let give = λ (home : Home). home_atoms home read.predicates in
     record {
       one_each = ap length read.sets_are ∙ length-map (homes program) give;
       sets_are = λ n home is.
@@ -94,53 +132,30 @@ IsReadAs-stored program bytes lists read =
 -- ---- tables
 
 -- the table of the least set
-pub table-answers : (program : Program) (lists : List (List Row)) (facts held : List StoredFact) (text : List ℕ) → AreLeast program lists facts
-    → held ≡ facts → ((of : List (List Row)) → AreLeast program of held → IsTable program (sets_of program of) text) → AnswersProgram program lists 0 text
-table-answers program lists facts held text least are written = table text (written lists (subst (AreLeast program lists) (sym are) least)) least.covers
+pub table-answers : (program : Program) (lists : List (List Row)) (facts held : List StoredFact) (text : List ℕ) → AreLeast program lists facts → held ≡ facts
+    → ((rule : RuleName) (sets : Sets) → ((fact : Fact) → Contains (facts_of program held) fact ↔ Least program rule sets fact) → IsTable program rule sets text)
+    → AnswersProgram program lists 0 text
+table-answers program lists facts held text least are written =
+    table text (written Rg (sets_of program lists) (subst (AreLeast program lists) (sym are) least).exact) least.covers
 
--- ---- files
+-- ---- programs with a second file
 
--- the program of a file whose bytes are held
-pub has_program : (store : StoreMeaning) (name bytes held : List ℕ) (program : Program) → length bytes ≤ text_limit → IsFileNamed store.files name bytes → held ≡ bytes
-    → IsProgramText held program → HasProgram store name program
-has_program store name bytes held program within file same is =
-    record { bytes = bytes; within = within; file = file; is_text = subst (λ (bs : List ℕ). IsProgramText bs program) same is }
+-- a choice that is known, in the answer of a program
+pub tables-given : {E : Type 0} (before after : StoreMeaning) (program : Program) (given known : Option (List ℕ)) (made : Result Answer E) → given ≡ known
+    → IfOk made (λ answer. AnswersTables before after known program answer.status answer.text.items)
+    → IfOk made (λ answer. AnswersTables before after given program answer.status answer.text.items)
+tables-given before after program given known made same h =
+    subst (λ (names : Option (List ℕ)). IfOk made (λ answer. AnswersTables before after names program answer.status answer.text.items)) (sym same) h
 
-pub said-files : {E : Type 0} {name : List ℕ} {before after : StoreMeaning} {second : Option (List ℕ)} (made : Result Answer E) (status : ℕ) (text : List ℕ)
-    → IfOk made (λ answer. (answer.status ≡ status) × (answer.text.items ≡ text)) → AnswersFiles name before after second status text
-    → IfOk made (λ answer. AnswersFiles name before after second answer.status answer.text.items)
-said-files {name = name} {before = before} {after = after} {second = second} made status text = said (AnswersFiles name before after second) made status text
-
-pub refused-files : {E : Type 0} (name : List ℕ) (before after : StoreMeaning) (second : Option (List ℕ)) (made : Result Answer E) (bytes held : List ℕ) (refusal : Refusal)
-    → length bytes ≤ text_limit → IsFileNamed before.files name bytes → held ≡ bytes → Refuses held refusal
-    → IfOk made (λ answer. (answer.status ≡ 3) × (answer.text.items ≡ refusal_text refusal))
-    → IfOk made (λ answer. AnswersFiles name before after second answer.status answer.text.items)
-refused-files name before after second made bytes held refusal within file same refuses h =
-    said-files made 3 (refusal_text refusal) h (refused second bytes refusal within file (subst (λ (bs : List ℕ). Refuses bs refusal) same refuses))
-
-pub alone-files : {E : Type 0} {name : List ℕ} {before : StoreMeaning} {program : Program} (after : StoreMeaning) (second : Option (List ℕ)) (made : Result Answer E) → second ≡ None
-    → HasProgram before name program → IfOk made (λ answer. AnswersProgram program (no_predicates program) answer.status answer.text.items)
-    → IfOk made (λ answer. AnswersFiles name before after second answer.status answer.text.items)
-alone-files {name = name} {before = before} {program = program} after second made none has h =
-    subst (λ (given : Option (List ℕ)). IfOk made (λ answer. AnswersFiles name before after given answer.status answer.text.items)) (sym none)
-    (passed (AnswersProgram program (no_predicates program)) (AnswersFiles name before after None) made (λ status text answers. alone program status text has answers) h)
-
-pub second_thread-files : {E : Type 0} {name : List ℕ} {before : StoreMeaning} {program : Program} (after : StoreMeaning) (second : Option (List ℕ)) (other : List ℕ) (made : Result Answer E)
-    → second ≡ Some other → HasProgram before name program → 1 < length program.threads
-    → IfOk made (λ answer. (answer.status ≡ 3) × (answer.text.items ≡ refusal_text not_built))
-    → IfOk made (λ answer. AnswersFiles name before after second answer.status answer.text.items)
-second_thread-files {name = name} {before = before} {program = program} after second other made some has more h =
-    subst (λ (given : Option (List ℕ)). IfOk made (λ answer. AnswersFiles name before after given answer.status answer.text.items)) (sym some)
-    (said (AnswersFiles name before after (Some other)) made 3 (refusal_text not_built) h (second_thread other program has more))
-
-pub with_second-files : {E : Type 0} {name : List ℕ} {before between : StoreMeaning} {program : Program} (after : StoreMeaning) (second : Option (List ℕ)) (other : List ℕ) (made : Result Answer E)
-    → second ≡ Some other → HasProgram before name program → length program.threads ≤ 1 → KeepsFiles before between
-    → IfOk made (λ answer. AnswersSecond program other between after answer.status answer.text.items)
-    → IfOk made (λ answer. AnswersFiles name before after second answer.status answer.text.items)
-with_second-files {name = name} {before = before} {between = between} {program = program} after second other made some has one kept h =
-    subst (λ (given : Option (List ℕ)). IfOk made (λ answer. AnswersFiles name before after given answer.status answer.text.items)) (sym some)
-    (passed (AnswersSecond program other between after) (AnswersFiles name before after (Some other)) made
-    (λ status text answers. with_second other program status text has one (AnswersSecond-earlier before kept answers)) h)
+-- the answer of a program whose text is whole, told of the time before it was read
+pub whole-files : {E : Type 0} (before between after : StoreMeaning) (name : List ℕ) (predicates : Option (List ℕ)) (made : Result Answer E) (bytes held : List ℕ)
+    → KeepsFiles before between → length bytes ≤ program_text.limit → IsFileNamed before.files name bytes → held ≡ bytes
+    → IfOk made (λ answer. AnswersProgramText (AnswersTables between after predicates) held answer.status answer.text.items)
+    → IfOk made (λ answer. AnswersFiles before after name predicates answer.status answer.text.items)
+whole-files before between after name predicates made bytes held kept within file same h =
+    passed (AnswersProgramText (AnswersTables between after predicates) held) (AnswersFiles before after name predicates) made
+    (λ status text answers. read_whole bytes status text within file
+    (AnswersProgramText-earlier before kept (subst (λ (bs : List ℕ). AnswersProgramText (AnswersTables between after predicates) bs status text) same answers))) h
 
 -- ---- calls
 
@@ -151,6 +166,16 @@ ends_by status result text answers (front written) = write_fault status text ans
 
 -- the answer to words, of which the text is held
 pub named-held : {words : List (List ℕ)} {before after : StoreMeaning} {program : List ℕ} {predicates : Option (List ℕ)} {status : ℕ} (text held : List ℕ)
-    → NamesFiles words program predicates → held ≡ text → AnswersFiles program before after predicates status text → Answers words before after status held
+    → NamesFiles words program predicates → held ≡ text → AnswersFiles before after program predicates status text → Answers words before after status held
 named-held {words = words} {before = before} {after = after} {program = program} {predicates = predicates} {status = status} text held names same answers =
     subst (λ (t : List ℕ). Answers words before after status t) (sym same) (named program predicates status text names answers)
+
+-- what stays in a call that writes
+pub Frame-wrote : {before after : StoreMeaning} {old new : SinkMeaning} {status result : ℕ} {text : List ℕ} → KeepsFiles before after → Wrote old text new status result
+    → Frame before after old new
+Frame-wrote kept (all written) = record { store = kept; sink = written.kept }
+Frame-wrote kept (front written) = record { store = kept; sink = written.rose.kept }
+
+-- what stays in a call that does not write
+pub Frame-silent : (before after : StoreMeaning) (sink : SinkMeaning) → KeepsFiles before after → Frame before after sink sink
+Frame-silent before after sink kept = record { store = kept; sink = omega arith }

@@ -2,8 +2,8 @@
 use Rattle.std.proofs.Common.{◌≡◌, ℕ, suc, Bool, false, not, List, [], ◌∷◌, codes, refl, Option, Some, None}
 use Rattle.thr_base.specs.declared.stops.Stop.{Stop}
 use Rattle.thr_base.specs.declared.stops.Stop.TheVariants.{Refused, Memory}
-use Rattle.threader_cli.specs.Reading.{Tokens, Reading, after, begins, each, assignment_at, body_at, statement_at, statement_by}
-use Rattle.threader_cli.specs.Refusals.{Fails}
+use Rattle.threader_cli.specs.inside.Reading.{Tokens, Reading, after, begins, each, assignment_at, body_at, statement_at, statement_by}
+use Rattle.threader_cli.specs.inside.Readers.{Fails}
 use Rattle.threader_cli.specs.Tree.{Statement, listed}
 use Rattle.threader_cli.specs.Word.{pieces}
 

@@ -7,10 +7,10 @@ use Rattle.lin_rows.proofs.Lists.{AllByRecursion-append}
 use Rattle.threader_cli.proofs.NameLemmas.{list_all_append, list_any_append}
 use Rattle.threader_cli.proofs.PlaceLemmas.{place_of-variable, place_of-local}
 use Rattle.threader_cli.proofs.ReadingSteps.{left_true, right_true}
-use Rattle.threader_cli.specs.Checks.{allows}
+use Rattle.threader_cli.specs.inside.Checks.{allows}
 use Rattle.threader_cli.specs.Data.{seen}
 use Rattle.threader_cli.specs.Form.{Columns, is_called, place_of, coefficient_in, constant_in, sums_fit_from, has_number}
-use Rattle.threader_cli.specs.Scope.{IsNotAmong, AreApart}
+use Rattle.threader_cli.specs.inside.Scope.{IsNotAmong, AreApart}
 use Rattle.threader_cli.specs.Tree.{Term, Number, Named, Multiple, Signed}
 use Rattle.threader_cli.specs.Uses.{Use, Assigns, Tests, Assumes, is_among, uses_only, accesses, use_fits}
 

@@ -4,18 +4,18 @@ use Rattle.std.specs.List.{list_any, list_all, AllByRecursion, cons_option}
 use Rattle.std.proofs.lemmas.List.{length-map, length-append, take_at, append_assoc, append-nil}
 use Rattle.std.proofs.lemmas.Bool.Decides.{nat_tests}
 use Rattle.lin_rows.proofs.Lists.{AllByRecursion-append, AllByRecursion-weaken}
-use Rattle.transition_formula.specs.Program.{Column, Thread, Program as Data, IsTextOf, StartFits, IsOwner, StartsWhereShared, IsCounter, IsThread, IsProgram, IsThreadOf, first_counter}
+use Rattle.transition_formula.specs.Program.{Column, Thread, Program as Data, IsColumn, StartsWhereShared, IsCounter, IsThread, IsProgram, IsThreadOf, first_counter}
 use Rattle.threader_cli.proofs.AcceptLemmas.{are_new_append}
 use Rattle.threader_cli.proofs.AllowedLemmas.{are_new-apart, are_new-alone, uses-splits, full}
 use Rattle.threader_cli.proofs.ColumnLemmas.{uses_fit, uses_known, known_place}
 use Rattle.threader_cli.proofs.EdgeLemmas.{thread_edges-are, thread_edges-few}
 use Rattle.threader_cli.proofs.NameLemmas.{list_any_append}
 use Rattle.threader_cli.proofs.PlaceLemmas.{length-seen}
-use Rattle.threader_cli.proofs.ProgramColumns.{AreNamed, IsColumn, length-locals, length-counters, variables-are, locals-are, counters-are, variables-start, locals-start, counter-at, texts-apart, names-apart}
+use Rattle.threader_cli.proofs.ProgramColumns.{AreNamed, length-locals, length-counters, variables-are, locals-are, counters-are, variables-start, locals-start, counter-at, texts-apart, names-apart}
 use Rattle.threader_cli.proofs.ReadingSteps.{left_true, right_true, false_of_not}
 use Rattle.threader_cli.proofs.TextLemmas.{Apart, AllPairs-Apart}
 use Rattle.threader_cli.specs.Accepted.{variable_names, function_names, find_function, are_new, locals_are_new_behind, text_declares, locals_are_new, uses_declared, has_few_accesses, numbers_fit, has_few_creations, is_small, main_declares, is_allowed}
-use Rattle.threader_cli.specs.Checks.{CanRun}
+use Rattle.threader_cli.specs.inside.Checks.{CanRun}
 use Rattle.threader_cli.specs.Data.{created, variable_column, local_columns, counter_columns, columns_of, seen, thread_of, count_locals, threads_from, threads_of, data_of}
 use Rattle.threader_cli.specs.Graph.{locations, actions_each}
 use Rattle.threader_cli.specs.Proper.{is_proper_variable, is_proper_function, is_proper_program}
@@ -216,10 +216,8 @@ data-is p allowed proper few_columns =
       few_columns = omega (arith, whole, few_columns);
       few_threads = omega (arith, n_threads, two);
       has_counters = omega (arith, whole, n_threads);
-      texts_are = AllByRecursion-weaken (IsColumn (length (threads_of p))) (λ column. IsTextOf column.owner column.text) (λ column is. is.text) (columns_of p) each;
+      columns_are = each;
       texts_differ = AllPairs-Apart _ (texts-apart p.variables fs (omega arith) proper_variables named (names-apart variables (are_new-apart [] variables parts.shared)) (apart-from variables fs run));
-      starts_fit = AllByRecursion-weaken (IsColumn (length (threads_of p))) (λ column. StartFits column.start) (λ column is. is.start) (columns_of p) each;
-      owners_exist = AllByRecursion-weaken (IsColumn (length (threads_of p))) (λ column. IsOwner (length (threads_of p)) column.owner) (λ column is. is.owner) (columns_of p) each;
       others_start = subst (AllByRecursion StartsWhereShared) (sym (ap (λ (xs : List Column). take (first_counter (data_of p)) xs) split ∙ take_at (vs ++ ls) cs (first_counter (data_of p)) (front ∙ sym first)))
           (AllByRecursion-append StartsWhereShared vs ls (variables-start p.variables) (locals-start 1 fs));
       threads_are = by_number run first whole counts;

@@ -9,7 +9,7 @@ use Rattle.threader_cli.proofs.ManyLemmas.{Shrinks}
 use Rattle.threader_cli.proofs.ReadingSteps.{left_true, right_true, false_of_not}
 use Rattle.threader_cli.proofs.ExpressionShrinks.{next_shrinks}
 use Rattle.threader_cli.specs.Proper.{is_proper_term, is_proper_signed, is_proper_comparison, is_proper_condition}
-use Rattle.threader_cli.specs.Reading.{Tokens, Reading, begins, many, is_next, operator_at, factor_at, term_at, first_at, next_at, mark_by, comparison_at, inner_at, condition_at, claim_at}
+use Rattle.threader_cli.specs.inside.Reading.{Tokens, Reading, begins, many, is_next, operator_at, factor_at, term_at, first_at, next_at, mark_by, comparison_at, inner_at, condition_at, claim_at}
 use Rattle.threader_cli.specs.Spelling.{spell_term, spell_operator, spell_first, spell_next, spell_mark, spell_comparison, spell_inner, spell_condition, spell_claim}
 use Rattle.threader_cli.specs.Tree.{Term, Number, Named, Multiple, Signed, Mark, Equal, Unequal, Less, LessOrEqual, Greater, GreaterOrEqual, Comparison, Condition, Choice, Compares}
 use Rattle.threader_cli.specs.Word.{is_word, is_name, is_number, reserved}

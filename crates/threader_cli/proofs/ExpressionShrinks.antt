@@ -3,7 +3,7 @@ use Rattle.std.proofs.Common.{◌≡◌, ℕ, zero, suc, ◌+◌, ◌<◌, ◌�
 use Rattle.std.proofs.lemmas.Option.{cond_some, option_and_then_some, same_Some}
 use Rattle.threader_cli.proofs.ManyLemmas.{Shrinks}
 use Rattle.threader_cli.proofs.ReadingSteps.{none_given, option_map_some, chosen}
-use Rattle.threader_cli.specs.Reading.{Tokens, Reading, begins, begins_number, after, name_at, number_at, many, sign_at, operator_at, factor_at, term_at, first_at, next_at, mark_by, mark_at, comparison_at, inner_at, condition_at}
+use Rattle.threader_cli.specs.inside.Reading.{Tokens, Reading, begins, begins_number, after, name_at, number_at, many, sign_at, operator_at, factor_at, term_at, first_at, next_at, mark_by, mark_at, comparison_at, inner_at, condition_at}
 use Rattle.threader_cli.specs.Tree.{Term}
 use Rattle.threader_cli.specs.Word.{pieces, is_name, is_number}
 

@@ -5,7 +5,7 @@ use Rattle.std.proofs.lemmas.Option.{cond_some, option_and_then_some, same_Some}
 use Rattle.std.proofs.lemmas.Slice.Eq.{bytes_eq-Decides}
 use Rattle.threader_cli.proofs.ReadingSteps.{none_given, option_map_some, chosen}
 use Rattle.threader_cli.specs.Proper.{is_proper_term, is_proper_signed, is_proper_comparison, is_proper_condition}
-use Rattle.threader_cli.specs.Reading.{Tokens, Reading, begins, begins_number, after, name_at, number_at, many, sign_at, operator_at, factor_at, term_at, first_at, next_at, mark_by, mark_at, comparison_at, inner_at, condition_at, claim_at}
+use Rattle.threader_cli.specs.inside.Reading.{Tokens, Reading, begins, begins_number, after, name_at, number_at, many, sign_at, operator_at, factor_at, term_at, first_at, next_at, mark_by, mark_at, comparison_at, inner_at, condition_at, claim_at}
 use Rattle.threader_cli.specs.Spelling.{spell_sign, spell_operator, spell_term, spell_first, spell_next, spell_mark, spell_comparison, spell_inner, spell_condition, spell_claim}
 use Rattle.threader_cli.specs.Tree.{Term, Mark}
 use Rattle.threader_cli.specs.Word.{pieces, is_name, is_number}

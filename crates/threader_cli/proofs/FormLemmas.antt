@@ -10,8 +10,8 @@ use Rattle.std.proofs.lemmas.Slice.Eq.{bytes_eq-Decides}
 use Rattle.thr_base.specs.Number.{Fits, fits}
 use Rattle.transition_formula.specs.Program.{Form}
 use Rattle.threader_cli.specs.Form.{Columns, is_called, place_of, at_name, signed, value_of, coefficient_in, constant_in, sum_from, sums_fit_from, has_number, form_of, sums_fit}
-use Rattle.threader_cli.specs.Scope.{IsNotAmong, AreApart}
-use Rattle.threader_cli.specs.Sums.{coefficients_from, coefficients_fit_from, form_from, fits_from, zero_form, IsSum, Adds, AddsWhereFits, added_at}
+use Rattle.threader_cli.specs.inside.Scope.{IsNotAmong, AreApart}
+use Rattle.threader_cli.specs.inside.Sums.{coefficients_from, coefficients_fit_from, form_from, fits_from, zero_form, IsSum, Adds, AddsWhereFits, added_at}
 use Rattle.threader_cli.specs.Tree.{Signed, Number}
 use Rattle.threader_cli.specs.Word.{is_number}
 

@@ -3,7 +3,7 @@ use Rattle.std.proofs.Common.{◌≡◌, ℕ, ◌+◌, ◌<◌, List, length, dr
 use Rattle.std.proofs.Math.Seq.{drop-cons}
 use Rattle.threader_cli.proofs.SeenLemmas.{statement_of-Block}
 use Rattle.threader_cli.specs.Graph as specs
-use Rattle.threader_cli.specs.Seen.{statement_of, statements_of}
+use Rattle.threader_cli.specs.inside.Seen.{statement_of, statements_of}
 use Rattle.threader_cli.specs.declared.tree.Statement.{Statement, Block}
 
 -- the actions of what is left after one more statement

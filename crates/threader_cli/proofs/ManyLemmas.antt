@@ -1,7 +1,7 @@
 -- Readings of as many things as there are.
 use Rattle.std.proofs.Common.{◌≡◌, ◌<◌, ℕ, zero, suc, Bool, true, false, List, [], ◌∷◌, ◌++◌, length, refl, sym, ap, ◌∙◌, arith, Option, Some, None, option_map, append_assoc}
 use Rattle.std.proofs.lemmas.List.{append-nil}
-use Rattle.threader_cli.specs.Reading.{Tokens, Reading, in_front, many, each}
+use Rattle.threader_cli.specs.inside.Reading.{Tokens, Reading, in_front, many, each}
 
 -- what is read takes a token at least
 abbrev pub Shrinks : {A : Type 0} → Reading A → Type 0

@@ -5,14 +5,15 @@ use Rattle.std.proofs.lemmas.List.{length-map, length-append, map-append}
 use Rattle.std.proofs.lemmas.Slice.Eq.{bytes_eq-Decides}
 use Rattle.lin_rows.proofs.Lists.{AllByRecursion-append, AllByRecursion-weaken}
 use Rattle.thr_base.specs.Number.{Fits}
-use Rattle.transition_formula.specs.Program.{Column, IsTextOf, StartFits, IsOwner, StartsWhereShared, IsCounter}
+use Rattle.thr_base.specs.ColumnText.{own_text, local, counter}
+use Rattle.transition_formula.specs.Program.{Column, IsColumn, StartsWhereShared, IsCounter}
 use Rattle.threader_cli.proofs.NumberLemmas.{Fits-value_of}
 use Rattle.threader_cli.proofs.ReadingSteps.{left_true, right_true}
-use Rattle.threader_cli.proofs.TextLemmas.{Apart, Apart-append, variable_text, own_is_text, own_same, name_not_own, counter_no_name, all_weaken, name_some, name_bytes, is_text_byte-word}
-use Rattle.threader_cli.specs.Data.{start_of, variable_column, own_text, local_column, counter_column, local_columns, counter_columns, count_locals}
+use Rattle.threader_cli.proofs.TextLemmas.{Apart, Apart-append, variable_text, own_is_text, own_same, name_not_own, counter_no_name, name_word}
+use Rattle.threader_cli.specs.Data.{start_of, variable_column, local_column, counter_column, local_columns, counter_columns, count_locals}
 use Rattle.threader_cli.specs.Form.{is_called}
 use Rattle.threader_cli.specs.Proper.{is_proper_variable, is_proper_start}
-use Rattle.threader_cli.specs.Scope.{AreApart}
+use Rattle.threader_cli.specs.inside.Scope.{AreApart}
 use Rattle.threader_cli.specs.Tree.{Variable, Function}
 use Rattle.threader_cli.specs.Word.{is_name}
 
@@ -28,11 +29,6 @@ length-counters i (f ∷ fs) = ap suc (length-counters (suc i) fs)
 
 -- ---- what is asked of each column
 
-pub record IsColumn (threads : ℕ) (column : Column) : Type 0 where
-  pub text : IsTextOf column.owner column.text
-  pub start : StartFits column.start
-  pub owner : IsOwner threads column.owner
-
 -- all locals are names
 abbrev pub AreNamed : List Function → Type 0
 AreNamed fs = AllByRecursion (λ f. list_all is_name f.locals ≡ true) fs
@@ -45,15 +41,14 @@ pub variables-are : (threads : ℕ) (vs : List Variable) → list_all is_proper_
 variables-are threads [] proper = tt
 variables-are threads (v ∷ vs) proper =
     let here = left_true (is_proper_variable v) _ proper in (
-      record { text = variable_text v.name (left_true (is_name v.name) _ here); start = start-fits v.start (right_true (is_name v.name) _ here); owner = tt },
+      record { text_is = variable_text threads v.name (left_true (is_name v.name) _ here); start_fits = start-fits v.start (right_true (is_name v.name) _ here) },
       variables-are threads vs (right_true (is_proper_variable v) _ proper),
     )
 
 local-is : (threads i : ℕ) (name : List ℕ) → 0 < i → i ≤ threads → threads ≤ 8 → is_name name ≡ true → IsColumn threads (local_column i name)
 local-is threads i name some within few named = record {
-  text = own_is_text i name (omega arith) (name_some name named) (all_weaken _ _ is_text_byte-word name (name_bytes name named));
-  start = tt;
-  owner = (some, within);
+  text_is = own_is_text threads i name some within (local name (name_word name named));
+  start_fits = tt;
 }
 
 locals-of : (threads i : ℕ) (names : List (List ℕ)) → 0 < i → i ≤ threads → threads ≤ 8 → list_all is_name names ≡ true → AllByRecursion (IsColumn threads) (map (local_column i) names)
@@ -70,7 +65,7 @@ locals-are threads i (f ∷ fs) some within few named =
 pub counters-are : (threads i : ℕ) (fs : List Function) → 0 < i → i + length fs ≤ suc threads → threads ≤ 8 → AllByRecursion (IsColumn threads) (counter_columns i fs)
 counters-are threads i [] some within few = tt
 counters-are threads i (f ∷ fs) some within few = (
-  record { text = own_is_text i (codes "$pc") (omega arith) (omega arith) refl; start = omega arith; owner = (some, omega arith) },
+  record { text_is = own_is_text threads i (codes "$pc") some (omega arith) counter; start_fits = omega arith },
   counters-are threads (suc i) fs (omega arith) (omega arith) few,
 )
 
@@ -104,7 +99,7 @@ pub counter-at : (front : List Column) (fs : List Function) (k j : ℕ) (column 
 counter-at front fs k j column e at =
     let is = counters-at 1 fs j column (sym (slice_get-behind front (counter_columns 1 fs) k j e) ∙ at) in
     let number : 1 + j ≡ suc j = omega arith in
-    subst (λ (c : Column). IsCounter (suc j) c) (sym (is ∙ ap counter_column number)) (record { owned = refl; starts = refl })
+    subst (λ (c : Column). IsCounter (suc j) c) (sym (is ∙ ap counter_column number)) (record { owned = refl; named = refl; starts = refl })
 
 -- ---- the texts differ
 

@@ -1,11 +1,14 @@
 -- Why bytes give no program, and that a program has its word `main`.
-use Rattle.std.proofs.Common.{◌≡◌, ℕ, Bool, true, false, cond, ◌||◌, List, [], ◌∷◌, ◌++◌, map, flat_map, find, codes, length, bytes_eq, Some, is_some, IsSome, IsUtf8, refl, sym, ap, subst, ◌∙◌}
+use Rattle.std.proofs.Common.{◌≡◌, ℕ, Bool, true, false, cond, ◌||◌, List, [], ◌∷◌, ◌++◌, map, flat_map, find, codes, length, bytes_eq, Some, Err, is_some, IsSome, IsUtf8, refl, sym, ap, subst, ◌∙◌}
 use Rattle.std.specs.List.{list_any}
 use Rattle.thr_base.specs.declared.stops.Stop.{Stop}
 use Rattle.thr_base.specs.declared.stops.Stop.TheVariants.{Refused, Memory}
-use Rattle.c_lex.specs.Tokens.{Lexeme, lexed, Stops}
+use Rattle.thr_base.specs.Refusals.{Gives}
+use Rattle.c_lex.specs.Tokens.{Lexeme, lexed}
+use Rattle.c_tree.specs.declared.item.Tree.{Tree}
 use Rattle.c_tree.specs.Item.{tree_of, parsed}
-use Rattle.threader_cli.specs.ProgramText.{IsText, IsAccepted, Refuses, not_in_profile, not_narrow, StopsTokens, StopsBytes}
+use Rattle.threader_cli.specs.ProgramText.{IsText, IsAccepted, Refuses, not_in_profile, not_narrow}
+use Rattle.threader_cli.specs.inside.Readers.{StopsTokens, StopsBytes}
 use Rattle.threader_cli.specs.Spelling.{spell_program, spell_variable, spell_function, spell_handle, spell_creation}
 use Rattle.threader_cli.specs.Tree.{Program}
 use Rattle.threader_cli.specs.Word.{pieces}
@@ -13,11 +16,11 @@ use Rattle.threader_cli.specs.Word.{pieces}
 -- ---- why there is no program
 
 -- what stops the tokens stops the tree
-pub StopsBytes-lexed : (stop : Stop) (text : List ℕ) → IsUtf8 text → Stops stop (lexed text) → StopsBytes text stop
+pub StopsBytes-lexed : (stop : Stop) (text : List ℕ) → IsUtf8 text → Gives {X = List Lexeme} (λ tokens. tokens) (Err stop) (lexed text) → StopsBytes text stop
 StopsBytes-lexed Memory text utf8 h = tt
 StopsBytes-lexed (Refused refusal) text utf8 h = not_in_profile refusal utf8 (ap (tree_of (length text)) h)
 
-pub StopsBytes-parsed : (stop : Stop) (text : List ℕ) → IsUtf8 text → Stops stop (parsed text) → StopsBytes text stop
+pub StopsBytes-parsed : (stop : Stop) (text : List ℕ) → IsUtf8 text → Gives {X = Tree} (λ tree. tree) (Err stop) (parsed text) → StopsBytes text stop
 StopsBytes-parsed Memory text utf8 h = tt
 StopsBytes-parsed (Refused refusal) text utf8 h = not_in_profile refusal utf8 h
 

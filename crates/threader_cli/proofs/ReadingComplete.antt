@@ -7,7 +7,7 @@ use Rattle.threader_cli.proofs.ReadingSound.{is_shallow_function, from_creations
 use Rattle.threader_cli.proofs.ReadingSteps.{left_true, right_true}
 use Rattle.threader_cli.proofs.StatementComplete.{statement_complete, body_complete, begins_no_int}
 use Rattle.threader_cli.specs.Proper.{are_proper, is_proper_start, is_proper_variable, is_proper_function, is_proper_creation, is_proper_program, is_shallow, deepest}
-use Rattle.threader_cli.specs.Reading.{Tokens, Reading, begins, each, statement_at, level_limit, variable_at, declared_at, declarations_at, function_at, creation_at, is_variable, program_at}
+use Rattle.threader_cli.specs.inside.Reading.{Tokens, Reading, begins, each, statement_at, level_limit, variable_at, declared_at, declarations_at, function_at, creation_at, is_variable, program_at}
 use Rattle.threader_cli.specs.Spelling.{spell_statements, spell_variable, spell_declared, spell_local, spell_function, spell_creation, spell_program}
 use Rattle.threader_cli.specs.Tree.{Variable, Function, Creation, Program}
 use Rattle.threader_cli.specs.Word.{pieces, is_name}

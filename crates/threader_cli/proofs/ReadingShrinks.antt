@@ -4,7 +4,7 @@ use Rattle.std.proofs.lemmas.Option.{option_and_then_some, same_Some}
 use Rattle.threader_cli.proofs.ExpressionShrinks.{after_shorter, name_shrinks, number_shrinks, drop_one, many_no_longer, first_shrinks, next_shrinks, comparison_shrinks, condition_shrinks}
 use Rattle.threader_cli.proofs.ManyLemmas.{Shrinks}
 use Rattle.threader_cli.proofs.ReadingSteps.{none_given, option_map_some, chosen}
-use Rattle.threader_cli.specs.Reading.{Tokens, Reading, begins, after, name_at, number_at, each, is_next, first_at, next_at, comparison_at, condition_at, claim_at, assertion_at, assignment_at, body_at, guarded_at, else_at, statement_by, statement_at, level_limit, start_at, variable_at, declared_at, declarations_at, function_at, creation_at}
+use Rattle.threader_cli.specs.inside.Reading.{Tokens, Reading, begins, after, name_at, number_at, each, is_next, first_at, next_at, comparison_at, condition_at, claim_at, assertion_at, assignment_at, body_at, guarded_at, else_at, statement_by, statement_at, level_limit, start_at, variable_at, declared_at, declarations_at, function_at, creation_at}
 use Rattle.threader_cli.specs.Tree.{Condition, Statement, Variable, Function, Creation}
 use Rattle.threader_cli.specs.Word.{pieces}
 

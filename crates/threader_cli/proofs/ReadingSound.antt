@@ -6,7 +6,7 @@ use Rattle.threader_cli.proofs.ExpressionSound.{Sound, after_sound, begins_sound
 use Rattle.threader_cli.proofs.ReadingSteps.{none_given, option_map_some, chosen}
 use Rattle.threader_cli.proofs.StatementSound.{statement_sound, body_sound}
 use Rattle.threader_cli.specs.Proper.{is_proper_start, is_proper_variable, is_proper_function, is_proper_creation, is_proper_program, is_shallow, deepest}
-use Rattle.threader_cli.specs.Reading.{Tokens, begins, after, name_at, number_at, each, body_at, statement_at, level_limit, start_at, variable_at, declared_at, declarations_at, function_at, creation_at, is_variable, if_last, program_at}
+use Rattle.threader_cli.specs.inside.Reading.{Tokens, begins, after, name_at, number_at, each, body_at, statement_at, level_limit, start_at, variable_at, declared_at, declarations_at, function_at, creation_at, is_variable, if_last, program_at}
 use Rattle.threader_cli.specs.Spelling.{spell_start, spell_statements, spell_variable, spell_declared, spell_local, spell_function, spell_handle, spell_creation, spell_program}
 use Rattle.threader_cli.specs.Tree.{Variable, Function, Creation, Program}
 use Rattle.threader_cli.specs.Word.{pieces, is_name}

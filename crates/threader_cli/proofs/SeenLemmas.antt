@@ -1,7 +1,7 @@
 -- What contracts see of a block.
 use Rattle.std.proofs.Common.{◌≡◌, refl, ap, ◌∙◌, Vec, Global}
 use mathlib.Core.Former.{Count}
-use Rattle.threader_cli.specs.Seen.{statement_of, row_of, statements_of}
+use Rattle.threader_cli.specs.inside.Seen.{statement_of, row_of, statements_of}
 use Rattle.threader_cli.specs.Tree as tree
 use Rattle.threader_cli.specs.declared.tree.Statement.{Statement, Block, Block', Row_of-Statement, end_of-Statement, more_of-Statement, items-the_row-Statement, items_hidden-the_row-Statement-0}
 

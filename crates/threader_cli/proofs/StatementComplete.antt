@@ -7,7 +7,7 @@ use Rattle.threader_cli.proofs.ReadingSteps.{left_true, right_true, false_of_not
 use Rattle.threader_cli.proofs.ReadingShrinks.{statement_shrinks}
 use Rattle.threader_cli.proofs.StatementSound.{is_within, spell-listed}
 use Rattle.threader_cli.specs.Proper.{takes_else, is_proper_signed, is_proper_comparison, is_proper_condition, is_proper, are_proper, depth, deepest}
-use Rattle.threader_cli.specs.Reading.{Tokens, Reading, ◌>>=◌, begins, each, is_next, first_at, next_at, assertion_at, assignment_at, body_at, guarded_at, else_at, statement_by, statement_at}
+use Rattle.threader_cli.specs.inside.Reading.{Tokens, Reading, ◌>>=◌, begins, each, is_next, first_at, next_at, assertion_at, assignment_at, body_at, guarded_at, else_at, statement_by, statement_at}
 use Rattle.threader_cli.specs.Spelling.{spell_term, spell_first, spell_next, spell_condition, spell_claim, spell_statement, spell_statements}
 use Rattle.threader_cli.specs.Tree.{Signed, Comparison, Condition, Statement, Block, Empty, Assign, AssertFalse, Assert, Assume, If, IfElse, While, Statements, End, Then, listed}
 use Rattle.threader_cli.specs.Word.{pieces, is_name, is_number}

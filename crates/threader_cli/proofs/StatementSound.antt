@@ -5,7 +5,7 @@ use Rattle.std.proofs.lemmas.Option.{option_and_then_some, same_Some}
 use Rattle.threader_cli.proofs.ExpressionSound.{same_word, after_sound, begins_sound, name_sound, many_spelled, many_pass, many_sound, first_sound, next_sound, condition_sound, claim_sound}
 use Rattle.threader_cli.proofs.ReadingSteps.{none_given, option_map_some, chosen}
 use Rattle.threader_cli.specs.Proper.{takes_else, is_proper_signed, is_proper_condition, is_proper, are_proper, depth, deepest}
-use Rattle.threader_cli.specs.Reading.{Tokens, Reading, ◌>>=◌, begins, after, name_at, each, is_next, first_at, next_at, condition_at, claim_at, assertion_at, assignment_at, body_at, guarded_at, else_at, statement_by, statement_at}
+use Rattle.threader_cli.specs.inside.Reading.{Tokens, Reading, ◌>>=◌, begins, after, name_at, each, is_next, first_at, next_at, condition_at, claim_at, assertion_at, assignment_at, body_at, guarded_at, else_at, statement_by, statement_at}
 use Rattle.threader_cli.specs.Spelling.{spell_first, spell_next, spell_condition, spell_statement, spell_statements}
 use Rattle.threader_cli.specs.Tree.{Condition, Statement, Block, Empty, Assume, While, Statements, listed}
 use Rattle.threader_cli.specs.Word.{pieces}

@@ -1,5 +1,5 @@
 -- The texts of columns.
-use Rattle.std.proofs.Common.{◌≡◌, ◌≢◌, ℕ, zero, suc, ◌<◌, pos, Bool, true, false, ◌&&◌, ◌||◌, List, [], ◌∷◌, ◌++◌, codes, length, get_or, AllPairs, Some, None, refl, sym, ap, subst, ◌∙◌, inl, inr, arith}
+use Rattle.std.proofs.Common.{◌≡◌, ◌≢◌, ℕ, zero, suc, ◌<◌, ◌≤◌, pos, Bool, true, false, ◌&&◌, ◌||◌, List, [], ◌∷◌, ◌++◌, codes, length, get_or, AllPairs, Some, None, refl, sym, ap, subst, ◌∙◌, inl, inr, arith}
 use Rattle.std.specs.Char.{is_ascii_digit}
 use Rattle.std.specs.List.{list_all, AllByRecursion}
 use Rattle.std.proofs.lemmas.Bool.{cases_Bool}
@@ -8,20 +8,13 @@ use Rattle.c_lex.specs.Bytes.{is_letter, is_word_byte}
 use Rattle.lin_rows.proofs.Lists.{AllByRecursion-at, AllByRecursion-append}
 use Rattle.thr_base.specs.Number.{Fits, number_text, digits_number, AreDigitsOf}
 use Rattle.thr_base.proofs.Numbers.{IsTextOf-number_text}
-use Rattle.transition_formula.specs.Program.{IsTextOf, is_text_byte, is_name_byte}
+use Rattle.thr_base.specs.ColumnText.{own_text, IsTextOf, IsOwnName, variable}
 use Rattle.threader_cli.proofs.NameLemmas.{list_all_append, all_right}
 use Rattle.threader_cli.proofs.NumberLemmas.{number_digits}
 use Rattle.threader_cli.proofs.ReadingSteps.{left_true, right_true}
-use Rattle.threader_cli.specs.Data.{own_text}
 use Rattle.threader_cli.specs.Word.{is_word, is_name}
 
 -- ---- bytes
-
-pub is_text_byte-word : (b : ℕ) → is_word_byte b ≡ true → is_text_byte b ≡ true
-is_text_byte-word b e = grind (arith, nat_tests)
-
-is_name_byte-word : (b : ℕ) → is_word_byte b ≡ true → is_name_byte b ≡ true
-is_name_byte-word b e = grind (arith, nat_tests)
 
 last_true : (a b : Bool) → b ≡ true → (a || b) ≡ true
 last_true true b e = refl
@@ -74,28 +67,13 @@ word_no_number (b ∷ bs) e = elim (cases_Bool (is_ascii_digit b)) [
     true_false : true ≡ false → ⊥
     true_false h = cc
 
-pub variable_text : (name : List ℕ) → is_name name ≡ true → IsTextOf None name
-variable_text name e = record {
-  is_text = record {
-    some = name_some name e;
-    bytes = all_weaken is_word_byte is_text_byte is_text_byte-word name (name_bytes name e);
-    no_number = word_no_number name (name_word name e);
-  };
-  tells_owner = all_weaken is_word_byte is_name_byte is_name_byte-word name (name_bytes name e);
-}
+pub variable_text : (threads : ℕ) (name : List ℕ) → is_name name ≡ true → IsTextOf threads None name
+variable_text threads name e = variable name (name_word name e)
 
 -- ---- the texts of a thread's own columns
 
-own_bytes : (i : ℕ) (name : List ℕ) → Fits (pos i) → list_all is_text_byte name ≡ true → list_all is_text_byte (own_text i name) ≡ true
-own_bytes i name fits all =
-    let digits = all_weaken is_ascii_digit is_text_byte (λ b e. is_text_byte-word b (is_word_byte-digit b e)) (number_text (pos i)) (number_digits i fits) in
-    list_all_append is_text_byte (number_text (pos i)) (46 ∷ name) ∙ ap (λ (b : Bool). b && list_all is_text_byte name) digits ∙ all
-
-pub own_is_text : (i : ℕ) (name : List ℕ) → Fits (pos i) → 0 < length name → list_all is_text_byte name ≡ true → IsTextOf (Some i) (own_text i name)
-own_is_text i name fits some all = record {
-  is_text = record { some = omega arith; bytes = own_bytes i name fits all; no_number = refl };
-  tells_owner = (name, some, refl);
-}
+pub own_is_text : (threads i : ℕ) (name : List ℕ) → 0 < i → i ≤ threads → IsOwnName name → IsTextOf threads (Some i) (own_text i name)
+own_is_text threads i name some within is = record { thread_is = (some, within); name = name; name_is = is; text_is = refl }
 
 split_dot : (xs ys a b : List ℕ) → list_all is_ascii_digit xs ≡ true → list_all is_ascii_digit ys ≡ true → xs ++ (46 ∷ a) ≡ ys ++ (46 ∷ b) → (xs ≡ ys) × (a ≡ b)
 split_dot [] [] a b p q e = (refl, cc)

@@ -2,7 +2,7 @@
 use Rattle.std.proofs.Common.{◌≡◌, Bool, true, false, ◌&&◌, Vec, Global, refl, ap}
 use Rattle.std.specs.List.{list_all}
 use Rattle.threader_cli.proofs.SeenLemmas.{statement_of-Block}
-use Rattle.threader_cli.specs.Seen.{statement_of, statements_of}
+use Rattle.threader_cli.specs.inside.Seen.{statement_of, statements_of}
 use Rattle.threader_cli.specs.Uses.{Use, uses, uses_each}
 use Rattle.threader_cli.specs.declared.tree.Statement.{Statement, Block}
 

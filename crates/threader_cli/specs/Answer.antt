@@ -1,20 +1,23 @@
 -- What the program answers: its words, the files that they name, and the status and text that follow from both.
 use Rattle.std.specs.Prelude.{◌≡◌, ◌<◌, ◌≤◌, ℕ, Bool, true, not, List, [], ◌∷◌, ◌++◌, length, replicate, Option, Some, None, codes, decimal, ◌==◌, IsTrue}
 use Rattle.std.specs.List.{list_all}
+use Rattle.thr_base.specs.Limits.{text_limit}
 use Rattle.thr_base.specs.Outside.{StoreMeaning, SinkMeaning, Appends, WritesFront}
-use Rattle.thr_base.specs.Reading.{IsFileNamed, StopsReading}
+use Rattle.thr_base.specs.Reading.{IsFileNamed, StopsReading, KeepsFiles}
+use Rattle.thr_base.specs.declared.names.RuleName.TheVariants.{Rg}
 use Rattle.thr_base.specs.declared.stops.ReadStop.TheVariants.{Fault, TooLong}
 use Rattle.thr_base.specs.declared.stops.Refusal.{Refusal}
 use Rattle.lin_rows.specs.Row.{Row}
 use Rattle.transition_formula.specs.Program.{Program}
 use Rattle.horn_rules.specs.Home.{homes}
+use Rattle.horn_rules.specs.Cover.{Covers}
+use Rattle.horn_rules.specs.Least.{LeastSays}
 use Rattle.horn_rules.specs.Stored.{sets_of}
+use Rattle.horn_rules.specs.Table.{IsTable}
 use Rattle.annotation_form.specs.BadLine.{IsReadAs, IsBadLine}
 use Rattle.serial_fix.specs.Least.{Leaves}
-use Rattle.serial_fix.specs.Runs.{Covers}
-use Rattle.serial_fix.specs.Table.{IsTable}
-use Rattle.threader_cli.specs.ProgramText.{text_limit, IsProgramText, Refuses}
-use Rattle.threader_cli.specs.Refusals.{not_built}
+use Rattle.threader_cli.specs.ProgramText.{IsProgramText, Refuses}
+use Rattle.threader_cli.specs.Refusals.{not_built_text}
 
 -- ---- words
 
@@ -33,7 +36,20 @@ pub record NamesFiles (words : List (List ℕ)) (program : List ℕ) (predicates
   pub words_are : words ≡ codes "tables" ∷ file_names program predicates
   pub operands : IsTrue (list_all is_operand (file_names program predicates))
 
--- ---- what is written where something is refused: the words, a program's text, a line of predicates
+-- ---- kinds of texts
+
+-- A kind of text: its label in answers, and how many bytes it may have.
+pub record TextKind : Type 0 where
+  pub label : List ℕ
+  pub limit : ℕ
+
+abbrev pub program_text : TextKind
+program_text = record { label = codes "program"; limit = text_limit }
+
+abbrev pub predicates_text : TextKind
+predicates_text = record { label = codes "predicates"; limit = text_limit }
+
+-- ---- what is written where something is refused: the words, a program's text, a line
 
 abbrev pub usage_text : List ℕ
 usage_text = codes "usage: threader verify|tables|check|replay|generate|bench|help\n"
@@ -41,8 +57,8 @@ usage_text = codes "usage: threader verify|tables|check|replay|generate|bench|he
 abbrev pub refusal_text : Refusal → List ℕ
 refusal_text refusal = codes "program E" ++ decimal refusal.code ++ codes " " ++ decimal refusal.place ++ codes "\n"
 
-abbrev pub bad_line_text : ℕ → List ℕ
-bad_line_text n = codes "predicates line " ++ decimal n ++ codes "\n"
+abbrev pub bad_line_text : TextKind → ℕ → List ℕ
+bad_line_text kind n = kind.label ++ codes " line " ++ decimal n ++ codes "\n"
 
 -- ---- programs
 
@@ -52,46 +68,54 @@ no_predicates program = replicate (length (homes program)) []
 
 -- The status and the text that follow from a program and the predicates of its homes, a list for each in the order of homes.
 pub data AnswersProgram (program : Program) (lists : List (List Row)) : ℕ → List ℕ → Type 0 where
-  -- The table is that of the least set, and that covers all runs.
-  table : (text : List ℕ) → IsTable program (sets_of program lists) text → Covers program (sets_of program lists) → AnswersProgram program lists 0 text
+  -- The table is that of the least set of rely-guarantee, and what its facts say covers all runs.
+  table : (text : List ℕ) → IsTable program Rg (sets_of program lists) text → Covers program (LeastSays program Rg (sets_of program lists))
+      → AnswersProgram program lists 0 text
   -- The elimination leaves a system undecided that the least set asks for.
   leaves : Leaves program lists → AnswersProgram program lists 4 (codes "UNKNOWN leaves\n")
 
 -- The status and the text that follow from a program and the bytes of a file of predicates.
 pub data AnswersPredicates (program : Program) (bytes : List ℕ) : ℕ → List ℕ → Type 0 where
-  bad_line : (n : ℕ) → IsBadLine program bytes n → AnswersPredicates program bytes 3 (bad_line_text n)
+  bad_line : (n : ℕ) → IsBadLine program bytes n → AnswersPredicates program bytes 3 (bad_line_text predicates_text n)
   read : (lists : List (List Row)) (status : ℕ) (text : List ℕ) → IsReadAs program bytes lists → AnswersProgram program lists status text
       → AnswersPredicates program bytes status text
 
--- ---- files
+-- ---- texts that the words name
 
--- The store has the text of this program in a file of this name.
-pub record HasProgram (store : StoreMeaning) (name : List ℕ) (program : Program) : Type 0 where
-  pub bytes : List ℕ
-  pub within : length bytes ≤ text_limit
-  pub file : IsFileNamed store.files name bytes
-  pub is_text : IsProgramText bytes program
+-- The status and the text that tell why a file with a text of this kind is not read whole.
+pub data AnswersUnread (kind : TextKind) (name : List ℕ) (before after : StoreMeaning) : ℕ → List ℕ → Type 0 where
+  fault : StopsReading before name kind.limit Fault after → AnswersUnread kind name before after 5 (codes "read fault\n")
+  long : StopsReading before name kind.limit TooLong after → AnswersUnread kind name before after 3 (kind.label ++ codes " long\n")
 
--- The status and the text that follow from a program and the name of a file of predicates.
-pub data AnswersSecond (program : Program) (name : List ℕ) (before after : StoreMeaning) : ℕ → List ℕ → Type 0 where
-  predicates_fault : StopsReading before name text_limit Fault after → AnswersSecond program name before after 5 (codes "read fault\n")
-  predicates_long : StopsReading before name text_limit TooLong after → AnswersSecond program name before after 3 (codes "predicates long\n")
-  predicates_read : (bytes : List ℕ) (status : ℕ) (text : List ℕ) → length bytes ≤ text_limit → IsFileNamed before.files name bytes
-      → AnswersPredicates program bytes status text → AnswersSecond program name before after status text
+-- The status and the text that follow from a file with a text of this kind: it is not read whole, or its bytes answer.
+pub data AnswersText (kind : TextKind) (OfBytes : List ℕ → ℕ → List ℕ → Type 0) (name : List ℕ) (before after : StoreMeaning) : ℕ → List ℕ → Type 0 where
+  unread : (status : ℕ) (text : List ℕ) → AnswersUnread kind name before after status text → AnswersText kind OfBytes name before after status text
+  read_whole : (bytes : List ℕ) (status : ℕ) (text : List ℕ) → length bytes ≤ kind.limit → IsFileNamed before.files name bytes
+      → OfBytes bytes status text → AnswersText kind OfBytes name before after status text
 
--- The status and the text that follow from the names of the files and the store.
-pub data AnswersFiles (name : List ℕ) (before after : StoreMeaning) : Option (List ℕ) → ℕ → List ℕ → Type 0 where
-  program_fault : (second : Option (List ℕ)) → StopsReading before name text_limit Fault after → AnswersFiles name before after second 5 (codes "read fault\n")
-  program_long : (second : Option (List ℕ)) → StopsReading before name text_limit TooLong after → AnswersFiles name before after second 3 (codes "program long\n")
-  refused : (second : Option (List ℕ)) (bytes : List ℕ) (refusal : Refusal) → length bytes ≤ text_limit → IsFileNamed before.files name bytes
-      → Refuses bytes refusal → AnswersFiles name before after second 3 (refusal_text refusal)
-  alone : (program : Program) (status : ℕ) (text : List ℕ) → HasProgram before name program
-      → AnswersProgram program (no_predicates program) status text → AnswersFiles name before after None status text
+-- The status and the text that follow from the bytes of a program's text: they are refused, or the program answers.
+pub data AnswersProgramText (OfProgram : Program → ℕ → List ℕ → Type 0) (bytes : List ℕ) : ℕ → List ℕ → Type 0 where
+  refused : (refusal : Refusal) → Refuses bytes refusal → AnswersProgramText OfProgram bytes 3 (refusal_text refusal)
+  accepted : (program : Program) (status : ℕ) (text : List ℕ) → IsProgramText bytes program → OfProgram program status text
+      → AnswersProgramText OfProgram bytes status text
+
+-- ---- tables
+
+-- The status and the text that follow from the name of a file of predicates, if one is given, and a program.
+pub data AnswersTables (before after : StoreMeaning) : Option (List ℕ) → Program → ℕ → List ℕ → Type 0 where
+  alone : (program : Program) (status : ℕ) (text : List ℕ) → AnswersProgram program (no_predicates program) status text
+      → AnswersTables before after None program status text
   -- Predicates are taken for programs of one thread alone.
-  second_thread : (second : List ℕ) (program : Program) → HasProgram before name program → 1 < length program.threads
-      → AnswersFiles name before after (Some second) 3 (refusal_text not_built)
-  with_second : (second : List ℕ) (program : Program) (status : ℕ) (text : List ℕ) → HasProgram before name program → length program.threads ≤ 1
-      → AnswersSecond program second before after status text → AnswersFiles name before after (Some second) status text
+  second_thread : (name : List ℕ) (program : Program) → 1 < length program.threads
+      → AnswersTables before after (Some name) program 3 (refusal_text not_built_text)
+  with_predicates : (name : List ℕ) (program : Program) (status : ℕ) (text : List ℕ) → length program.threads ≤ 1
+      → AnswersText predicates_text (AnswersPredicates program) name before after status text
+      → AnswersTables before after (Some name) program status text
+
+-- The status and the text that follow from the name of a program's file and, if one is given, that of a file of predicates.
+abbrev pub AnswersFiles : StoreMeaning → StoreMeaning → List ℕ → Option (List ℕ) → ℕ → List ℕ → Type 0
+AnswersFiles before after program predicates =
+    AnswersText program_text (AnswersProgramText (AnswersTables before after predicates)) program before after
 
 -- ---- calls
 
@@ -99,7 +123,7 @@ pub data AnswersFiles (name : List ℕ) (before after : StoreMeaning) : Option (
 pub data Answers (words : List (List ℕ)) (before after : StoreMeaning) : ℕ → List ℕ → Type 0 where
   usage : ((program : List ℕ) (predicates : Option (List ℕ)) → ¬ (NamesFiles words program predicates)) → Answers words before after 2 usage_text
   named : (program : List ℕ) (predicates : Option (List ℕ)) (status : ℕ) (text : List ℕ) → NamesFiles words program predicates
-      → AnswersFiles program before after predicates status text → Answers words before after status text
+      → AnswersFiles before after program predicates status text → Answers words before after status text
 
 -- How a call ends, by its status: its whole answer was written; the sink failed behind a front of it; or there was no memory, and
 -- nothing was written.
@@ -108,7 +132,7 @@ pub data Ends (words : List (List ℕ)) (before after : StoreMeaning) (old new :
   write_fault : (status : ℕ) (text : List ℕ) → Answers words before after status text → WritesFront old text new → Ends words before after old new 6
   no_memory : (program : List ℕ) (predicates : Option (List ℕ)) → NamesFiles words program predicates → new ≡ old → Ends words before after old new 7
 
--- A text was written and its status is the result, or the sink failed behind a front of it.
-pub data Wrote (old : SinkMeaning) (text : List ℕ) (new : SinkMeaning) (status : ℕ) : ℕ → Type 0 where
-  all : Appends old text new → Wrote old text new status status
-  front : WritesFront old text new → Wrote old text new status 6
+-- What stays in a call: the store's files and its honesty. No count of the store or of the sink falls.
+pub record Frame (before after : StoreMeaning) (old new : SinkMeaning) : Type 0 where
+  pub store : KeepsFiles before after
+  pub sink : old.faults ≤ new.faults

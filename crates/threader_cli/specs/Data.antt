@@ -1,6 +1,7 @@
 -- The program of a text, as data: its columns, and its threads with their edges.
 use Rattle.std.specs.Prelude.{ℕ, suc, ◌+◌, ℤ, pos, List, [], ◌∷◌, ◌++◌, map, length, replicate, filter_map, codes, Option, Some, None}
 use Rattle.thr_base.specs.Number.{number_text}
+use Rattle.thr_base.specs.ColumnText.{own_text}
 use Rattle.transition_formula.specs.Program.{Column, Thread, Program as Data}
 use Rattle.threader_cli.specs.Accepted.{variable_names, find_function}
 use Rattle.threader_cli.specs.Form.{Columns, value_of}
@@ -20,10 +21,6 @@ start_of (Some digits) = value_of digits
 
 abbrev pub variable_column : Variable → Column
 variable_column v = record { text = v.name; owner = None; start = Some (start_of v.start) }
-
--- the text of a column of thread i: `t`, its number, `.` and a name
-abbrev pub own_text : ℕ → List ℕ → List ℕ
-own_text i name = codes "t" ++ (number_text (pos i) ++ (codes "." ++ name))
 
 abbrev pub local_column : ℕ → List ℕ → Column
 local_column i name = record { text = own_text i name; owner = Some i; start = None }

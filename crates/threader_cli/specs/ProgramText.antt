@@ -1,22 +1,17 @@
 -- Which bytes are the text of a program, and which rule others break.
 use Rattle.std.specs.Prelude.{◌≡◌, ◌≢◌, ℕ, List, [], map, find, Some, option_map, Ok, Err, codes, bytes_eq, IsOk, IsUtf8, IsTrue}
 use Rattle.std.specs.Str.Lossy.{utf8_valid_len}
+use Rattle.thr_base.specs.Refusals as rules
 use Rattle.thr_base.specs.declared.stops.Refusal.{Refusal}
-use Rattle.thr_base.specs.declared.stops.Stop.{Stop}
-use Rattle.thr_base.specs.declared.stops.Stop.TheVariants.{Refused, Memory}
 use Rattle.c_lex.specs.Tokens.{Lexeme, lexed}
 use Rattle.c_tree.specs.Item.{parsed}
 use Rattle.transition_formula.specs.Program.{Program}
 use Rattle.threader_cli.specs.Accepted.{is_allowed}
 use Rattle.threader_cli.specs.Data.{data_of}
 use Rattle.threader_cli.specs.Proper.{is_proper_program, is_shallow}
-use Rattle.threader_cli.specs.Refusals.{not_built}
+use Rattle.threader_cli.specs.Refusals.{not_built_text}
 use Rattle.threader_cli.specs.Spelling.{spell_program}
 use Rattle.threader_cli.specs.Tree as tree
-
--- how many bytes a text may have
-abbrev pub text_limit : ℕ
-text_limit = 1048576
 
 -- the place of the first word `main`
 abbrev pub IsMainAt : List Lexeme → ℕ → Type 0
@@ -51,21 +46,11 @@ pub record IsProgramText (bytes : List ℕ) (program : Program) : Type 0 where
 -- Which rule the bytes break, and where.
 pub data Refuses (bytes : List ℕ) : Refusal → Type 0 where
   -- They are no text: the place is behind the longest front that is UTF-8.
-  not_text : ¬ (IsUtf8 bytes) → Refuses bytes (record { code = 1; place = utf8_valid_len bytes })
+  not_text : ¬ (IsUtf8 bytes) → Refuses bytes (record { code = rules.not_text; place = utf8_valid_len bytes })
   -- The profile has no such text.
   not_in_profile : (refusal : Refusal) → IsUtf8 bytes → parsed bytes ≡ Err refusal → Refuses bytes refusal
   -- The narrow language has no such text.
-  not_narrow : (tokens : List Lexeme) → IsText bytes tokens → ((p : tree.Program) → ¬ (IsAccepted tokens p)) → Refuses bytes not_built
+  not_narrow : (tokens : List Lexeme) → IsText bytes tokens → ((p : tree.Program) → ¬ (IsAccepted tokens p)) → Refuses bytes not_built_text
   -- The program creates no thread.
   no_thread : (tokens : List Lexeme) (p : tree.Program) (place : ℕ) → Spells bytes tokens p → p.creations ≡ [] → IsMainAt tokens place
-      → Refuses bytes (record { code = 10; place = place })
-
--- Why tokens give no program: they are those of no text of the narrow language, unless there was no memory.
-abbrev pub StopsTokens : List Lexeme → Stop → Type 0
-StopsTokens tokens Memory = Unit {0}
-StopsTokens tokens (Refused refusal) = (refusal ≡ not_built) × ((p : tree.Program) → ¬ (IsAccepted tokens p))
-
--- Why bytes give no program: they break the rule that is told, unless there was no memory.
-abbrev pub StopsBytes : List ℕ → Stop → Type 0
-StopsBytes bytes Memory = Unit {0}
-StopsBytes bytes (Refused refusal) = Refuses bytes refusal
+      → Refuses bytes (record { code = rules.no_thread; place = place })

@@ -1,9 +1,9 @@
 ghost use Rattle.std.specs.Prelude.{◌≡◌, ◌++◌, [], ◌∷◌, ◌&&◌, not, map, nat_le, option_map, Some, IfOk, IsTrue};
 ghost use Rattle.std.specs.List.{list_all};
 ghost use Rattle.threader_cli.specs.Accepted as specs;
-ghost use Rattle.threader_cli.specs.Checks.{is_usable};
+ghost use Rattle.threader_cli.specs.inside.Checks.{is_usable};
 ghost use Rattle.threader_cli.specs.Graph.{locations};
-ghost use Rattle.threader_cli.specs.Seen.{variable_of, function_of, creation_of, program_of};
+ghost use Rattle.threader_cli.specs.inside.Seen.{variable_of, function_of, creation_of, program_of};
 ghost use Rattle.threader_cli.specs.Uses.{is_among};
 
 use crate::graph::actions_each;

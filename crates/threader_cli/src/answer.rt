@@ -1,27 +1,32 @@
-ghost use Rattle.std.specs.Prelude.{◌≡◌, ◌≤◌, map, length, option_map, string_bytes, IfOk};
+ghost use Rattle.std.specs.Prelude.{◌≡◌, ◌≤◌, ◌++◌, map, length, codes, decimal, string_bytes, IfOk};
+ghost use Rattle.thr_base.specs.Limits.{text_limit};
+ghost use Rattle.thr_base.specs.Reading.{KeepsFiles};
 ghost use Rattle.horn_rules.specs.Stored.{AreStoredSetsOf};
 ghost use Rattle.threader_cli.specs.Answer as specs;
-ghost use Rattle.threader_cli.specs.Answer.{AnswersFiles, AnswersPredicates, AnswersProgram, AnswersSecond, Ends, no_predicates, Wrote};
-ghost use Rattle.threader_cli.specs.ProgramText.{text_limit};
+ghost use Rattle.threader_cli.specs.Answer.{predicates_text, no_predicates, AnswersFiles, AnswersPredicates, AnswersProgram, AnswersProgramText, AnswersTables, AnswersText, Ends, Frame};
+ghost use Rattle.threader_cli.specs.inside.Parts.{names, IsReadText, Wrote};
 
 use crate::reader::read_program;
 use crate::words::{Files, tables_files};
 use annotation_form::read_predicates;
-use horn_rules::home_count;
+use horn_rules::{home_count, table};
 use itoa::Buffer;
 use predicate_sets::Sets;
-use serial_fix::{LeastAnswer, least, table};
+use serial_fix::{LeastAnswer, least};
 use std::alloc::{AllocError, Global};
-use thr_base::{Failed, LineStop, ReadStop, Refusal, Sink, Stop, Store, read_all, write_all};
+use thr_base::{
+    Failed, LineStop, NOT_BUILT, ReadStop, Refusal, Sink, Stop, Store, TEXT_LIMIT, read_all,
+    write_all,
+};
 use transition_formula::Program;
 
-/// How many bytes the text of a program or of predicates may have.
-const TEXT_LIMIT: u32 = 1_048_576;
-
 /// How many threads a program may have for which predicates are given.
-const MOST_THREADS: u32 = 1;
+const MOST_READ_THREADS: u32 = 1;
 
-const SECOND_THREAD: Refusal = Refusal { code: 14, place: 0 };
+const SECOND_THREAD: Refusal = Refusal {
+    code: NOT_BUILT,
+    place: 0,
+};
 
 /// All that the program does for its words: the answer goes to the sink, and the result is the status.
 pub fn threader_serial<S: Store, K: Sink>(
@@ -30,7 +35,8 @@ pub fn threader_serial<S: Store, K: Sink>(
     store: &mut S,
     out: &mut K,
 ) -> u8
-    ensures { Ends (map string_bytes words.now) (S.meaning store.old) (S.meaning store.new) (K.meaning out.old) (K.meaning out.new) result }
+    ensures ends { Ends (map string_bytes words.now) (S.meaning store.old) (S.meaning store.new) (K.meaning out.old) (K.meaning out.new) result }
+    ensures frame { Frame (S.meaning store.old) (S.meaning store.new) (K.meaning out.old) (K.meaning out.new) }
 {
     let Some(files) = tables_files(words) else {
         return write(
@@ -69,29 +75,70 @@ fn said(alloc: Global, status: u8, text: &[u8]) -> Result<Answer, AllocError>
     Ok(Answer { status, text })
 }
 
+/// The bytes of a file, or the answer where it is not read whole.
+enum Text {
+    Whole(Vec<u8>),
+    Unread(Answer),
+}
+
+/// Reads a file with a text of the kind that has this label in answers and at most so many bytes.
+fn read_text<S: Store>(
+    alloc: Global,
+    store: &mut S,
+    label: &str,
+    limit: u32,
+    name: &str,
+) -> Result<Text, AllocError>
+    ensures read { IfOk result (IsReadText (record { label = label.now; limit = limit }) name.now (S.meaning store.old) (S.meaning store.new)) }
+    ensures kept { KeepsFiles (S.meaning store.old) (S.meaning store.new) }
+{
+    match read_all(alloc, store, name, limit) {
+        Ok(bytes) => Ok(Text::Whole(bytes)),
+        Err(ReadStop::Fault) => Ok(Text::Unread(said(alloc, 5, b"read fault\n")?)),
+        Err(ReadStop::TooLong) => Ok(Text::Unread(too_long(alloc, label)?)),
+        Err(ReadStop::Memory) => Err(AllocError),
+    }
+}
+
+fn too_long(alloc: Global, label: &str) -> Result<Answer, AllocError>
+    ensures { IfOk result (λ answer. (answer.status ≡ 3) × (answer.text.items ≡ label.now ++ codes " long\n")) }
+{
+    let mut text = Vec::from_slice(alloc, label.as_bytes())?;
+    text.extend_from_slice(b" long\n")?;
+    Ok(Answer { status: 3, text })
+}
+
 /// The answer to the files of these names.
 fn answer_files<S: Store>(
     alloc: Global,
     files: &Files<'_>,
     store: &mut S,
 ) -> Result<Answer, AllocError>
-    ensures { IfOk result (λ answer. AnswersFiles files.now.program.now (S.meaning store.old) (S.meaning store.new) (option_map (λ name. name.now) files.now.predicates) answer.status answer.text.items) }
+    ensures answer { IfOk result (λ answer. AnswersFiles (S.meaning store.old) (S.meaning store.new) files.now.program.now (names files.now.predicates) answer.status answer.text.items) }
+    ensures kept { KeepsFiles (S.meaning store.old) (S.meaning store.new) }
 {
-    let bytes = match read_all(alloc, store, files.program, TEXT_LIMIT) {
-        Ok(bytes) => bytes,
-        Err(ReadStop::Fault) => return said(alloc, 5, b"read fault\n"),
-        Err(ReadStop::TooLong) => return said(alloc, 3, b"program long\n"),
-        Err(ReadStop::Memory) => return Err(AllocError),
-    };
-    let program = match read_program(alloc, &bytes) {
-        Ok(program) => program,
-        Err(Stop::Refused(refusal)) => return refused(alloc, refusal),
-        Err(Stop::Memory) => return Err(AllocError),
-    };
-    match files.predicates {
-        None => alone(alloc, &program),
-        Some(_) if program.threads() > MOST_THREADS => refused(alloc, SECOND_THREAD),
-        Some(name) => second(alloc, &program, name, store),
+    let text = read_text(alloc, store, "program", TEXT_LIMIT, files.program)?;
+    match text {
+        Text::Whole(bytes) => answer_program(alloc, &bytes, files.predicates, store),
+        Text::Unread(answer) => Ok(answer),
+    }
+}
+
+/// The answer to the bytes of a program's text and the name of a file of predicates.
+fn answer_program<S: Store>(
+    alloc: Global,
+    bytes: &[u8],
+    predicates: Option<&str>,
+    store: &mut S,
+) -> Result<Answer, AllocError>
+    requires { length bytes.now ≤ text_limit }
+    ensures answer { IfOk result (λ answer. AnswersProgramText (AnswersTables (S.meaning store.old) (S.meaning store.new) (names predicates.entry)) bytes.now answer.status answer.text.items) }
+    ensures kept { KeepsFiles (S.meaning store.old) (S.meaning store.new) }
+{
+    match read_program(alloc, bytes) {
+        Ok(program) => answer_tables(alloc, &program, predicates, store),
+        Err(Stop::Refused(refusal)) => refused(alloc, refusal),
+        Err(Stop::Memory) => Err(AllocError),
     }
 }
 
@@ -104,6 +151,23 @@ fn refused(alloc: Global, refusal: Refusal) -> Result<Answer, AllocError>
     text.extend_from_slice(Buffer::new().format(refusal.place).as_bytes())?;
     text.extend_from_slice(b"\n")?;
     Ok(Answer { status: 3, text })
+}
+
+/// The answer to a program and the name of a file of predicates.
+fn answer_tables<S: Store>(
+    alloc: Global,
+    program: &Program,
+    predicates: Option<&str>,
+    store: &mut S,
+) -> Result<Answer, AllocError>
+    ensures answer { IfOk result (λ answer. AnswersTables (S.meaning store.old) (S.meaning store.new) (names predicates.entry) program.now answer.status answer.text.items) }
+    ensures kept { KeepsFiles (S.meaning store.old) (S.meaning store.new) }
+{
+    match predicates {
+        None => alone(alloc, program),
+        Some(_) if program.threads() > MOST_READ_THREADS => refused(alloc, SECOND_THREAD),
+        Some(name) => second(alloc, program, name, store),
+    }
 }
 
 /// The answer to a program without predicates.
@@ -121,13 +185,13 @@ fn second<S: Store>(
     name: &str,
     store: &mut S,
 ) -> Result<Answer, AllocError>
-    ensures { IfOk result (λ answer. AnswersSecond program.now name.now (S.meaning store.old) (S.meaning store.new) answer.status answer.text.items) }
+    ensures answer { IfOk result (λ answer. AnswersText predicates_text (AnswersPredicates program.now) name.now (S.meaning store.old) (S.meaning store.new) answer.status answer.text.items) }
+    ensures kept { KeepsFiles (S.meaning store.old) (S.meaning store.new) }
 {
-    match read_all(alloc, store, name, TEXT_LIMIT) {
-        Ok(bytes) => with_predicates(alloc, program, &bytes),
-        Err(ReadStop::Fault) => said(alloc, 5, b"read fault\n"),
-        Err(ReadStop::TooLong) => said(alloc, 3, b"predicates long\n"),
-        Err(ReadStop::Memory) => Err(AllocError),
+    let text = read_text(alloc, store, "predicates", TEXT_LIMIT, name)?;
+    match text {
+        Text::Whole(bytes) => with_predicates(alloc, program, &bytes),
+        Text::Unread(answer) => Ok(answer),
     }
 }
 
@@ -138,15 +202,16 @@ fn with_predicates(alloc: Global, program: &Program, bytes: &[u8]) -> Result<Ans
 {
     match read_predicates(alloc, program, bytes) {
         Ok(sets) => tables(alloc, program, &sets),
-        Err(LineStop::BadLine(line)) => bad_line(alloc, line),
+        Err(LineStop::BadLine(line)) => bad_line(alloc, "predicates", line),
         Err(LineStop::Memory) => Err(AllocError),
     }
 }
 
-fn bad_line(alloc: Global, line: u32) -> Result<Answer, AllocError>
-    ensures { IfOk result (λ answer. (answer.status ≡ 3) × (answer.text.items ≡ specs.bad_line_text line)) }
+fn bad_line(alloc: Global, label: &str, line: u32) -> Result<Answer, AllocError>
+    ensures { IfOk result (λ answer. (answer.status ≡ 3) × (answer.text.items ≡ label.now ++ codes " line " ++ decimal line ++ codes "\n")) }
 {
-    let mut text = Vec::from_slice(alloc, b"predicates line ")?;
+    let mut text = Vec::from_slice(alloc, label.as_bytes())?;
+    text.extend_from_slice(b" line ")?;
     text.extend_from_slice(Buffer::new().format(line).as_bytes())?;
     text.extend_from_slice(b"\n")?;
     Ok(Answer { status: 3, text })

@@ -1,16 +1,20 @@
 ghost use Rattle.std.specs.Prelude.{◌≡◌, [], ◌∷◌, drop, map, MatchOption};
-ghost use Rattle.threader_cli.specs.Reading as specs;
-ghost use Rattle.threader_cli.specs.Refusals.{not_built, Gives};
-ghost use Rattle.threader_cli.specs.Seen.{texts};
+ghost use Rattle.threader_cli.specs.inside.Reading as specs;
+ghost use Rattle.threader_cli.specs.Refusals.{not_built_text};
+ghost use Rattle.threader_cli.specs.inside.Readers.{Gives};
+ghost use Rattle.threader_cli.specs.inside.Seen.{texts};
 
 use crate::word::{is_name, is_number};
 use c_lex::Token;
 use std::alloc::Global;
 use std::marker::Model;
-use thr_base::{Refusal, Stop};
+use thr_base::{NOT_BUILT, Refusal, Stop};
 
 /// The refusal of a text that is none of the narrow language.
-pub const NOT_BUILT: Stop = Stop::Refused(Refusal { code: 14, place: 0 });
+pub const NOT_READ: Stop = Stop::Refused(Refusal {
+    code: NOT_BUILT,
+    place: 0,
+});
 
 /// The tokens that are left, which contracts see as their texts. After an error it is used no more.
 #[derive(Drop)]
@@ -79,7 +83,7 @@ impl<'a> Cursor<'a> {
     {
         for text in front {
             if !self.begins(text) {
-                return Err(NOT_BUILT);
+                return Err(NOT_READ);
             }
             let _token = self.next();
         }
@@ -91,7 +95,7 @@ impl<'a> Cursor<'a> {
     {
         match self.next() {
             Some(first) if is_name(first) => Ok(Vec::from_slice(alloc, first.as_bytes())?),
-            _ => Err(NOT_BUILT),
+            _ => Err(NOT_READ),
         }
     }
 
@@ -100,7 +104,7 @@ impl<'a> Cursor<'a> {
     {
         match self.next() {
             Some(first) if is_number(first) => Ok(Vec::from_slice(alloc, first.as_bytes())?),
-            _ => Err(NOT_BUILT),
+            _ => Err(NOT_READ),
         }
     }
 }

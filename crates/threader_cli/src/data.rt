@@ -1,12 +1,13 @@
 ghost use Rattle.std.specs.Prelude.{◌≡◌, ◌+◌, ◌-◌, ◌^◌, ◌≤◌, ◌++◌, ◌∷◌, [], map, length, min, true, IfOk, OnOk, IsTrue};
 ghost use Rattle.std.specs.List.{list_all, AllByRecursion};
+ghost use Rattle.thr_base.specs.ColumnText as texts;
 ghost use Rattle.thr_base.specs.Number.{Fits};
 ghost use Rattle.transition_formula.specs.Stored.{column_of, thread_of as graph_of};
 ghost use Rattle.threader_cli.specs.Accepted.{are_new, is_allowed, variable_names};
-ghost use Rattle.threader_cli.specs.Checks.{CanRun};
+ghost use Rattle.threader_cli.specs.inside.Checks.{CanRun};
 ghost use Rattle.threader_cli.specs.Data as specs;
 ghost use Rattle.threader_cli.specs.Proper.{is_proper_program, is_proper_start, is_proper_variable};
-ghost use Rattle.threader_cli.specs.Seen.{variable_of, function_of, program_of};
+ghost use Rattle.threader_cli.specs.inside.Seen.{variable_of, function_of, program_of};
 
 use crate::accept::{add_names, add_variables, find};
 use crate::graph::thread;
@@ -62,7 +63,7 @@ fn push_variables(columns: &mut Vec<Column>, variables: &[Variable]) -> Result<(
 
 /// The text of a column of a thread's own.
 fn own_text(alloc: Global, i: ThreadNo, name: &[u8]) -> Result<Vec<u8>, AllocError>
-    ensures { IfOk result (λ text. text.items ≡ specs.own_text i.0 name.now) }
+    ensures { IfOk result (λ text. text.items ≡ texts.own_text i.0 name.now) }
 {
     let mut text = Vec::from_slice(alloc, b"t")?;
     push_number(&mut text, i128::from(i.0))?;

@@ -7,9 +7,9 @@ ghost use Rattle.threader_cli.specs.Comparison.{false_limits, limit_row, limits_
 ghost use Rattle.threader_cli.specs.Form.{at_name, form_of, place_of};
 ghost use Rattle.threader_cli.specs.Tree.{Compares};
 ghost use Rattle.threader_cli.specs.Graph as specs;
-ghost use Rattle.threader_cli.specs.Limits.{limits_in};
-ghost use Rattle.threader_cli.specs.Scope.{columns_of, AreApart, HasRoom};
-ghost use Rattle.threader_cli.specs.Seen.{signed_of, comparison_of, condition_of};
+ghost use Rattle.threader_cli.specs.inside.Limits.{limits_in};
+ghost use Rattle.threader_cli.specs.inside.Scope.{columns_of, AreApart, HasRoom};
+ghost use Rattle.threader_cli.specs.inside.Seen.{signed_of, comparison_of, condition_of};
 ghost use Rattle.threader_cli.specs.Word.{is_number};
 ghost use Rattle.threader_cli.specs.Uses.{Assigns, Tests, Assumes, condition_uses, use_fits};
 

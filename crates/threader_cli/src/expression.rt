@@ -1,9 +1,9 @@
 ghost use Rattle.std.specs.Prelude.{◌≡◌, map, option_map};
-ghost use Rattle.threader_cli.specs.Reading as specs;
-ghost use Rattle.threader_cli.specs.Refusals.{Gives};
-ghost use Rattle.threader_cli.specs.Seen.{mark_of, term_of, signed_of, comparison_of, condition_of};
+ghost use Rattle.threader_cli.specs.inside.Reading as specs;
+ghost use Rattle.threader_cli.specs.inside.Readers.{Gives};
+ghost use Rattle.threader_cli.specs.inside.Seen.{mark_of, term_of, signed_of, comparison_of, condition_of};
 
-use crate::cursor::{Cursor, NOT_BUILT};
+use crate::cursor::{Cursor, NOT_READ};
 use crate::tree::{Comparison, Condition, Mark, Signed, Term};
 use std::alloc::Global;
 use thr_base::Stop;
@@ -20,7 +20,7 @@ fn sign(cursor: &mut Cursor<'_>) -> bool
 }
 
 /// Whether the operator that comes is a `-`.
-#[tactic(auto, unfolding(crate::specs::Reading::operator_at))]
+#[tactic(auto, unfolding(crate::specs::inside::Reading::operator_at))]
 fn operator(cursor: &mut Cursor<'_>) -> Result<bool, Stop>
     ensures { Gives (λ negative. (negative, cursor.new)) result (specs.operator_at cursor.old) }
 {
@@ -33,7 +33,7 @@ fn operator(cursor: &mut Cursor<'_>) -> Result<bool, Stop>
 }
 
 /// What a number is the first part of.
-#[tactic(auto, unfolding(crate::specs::Reading::factor_at))]
+#[tactic(auto, unfolding(crate::specs::inside::Reading::factor_at))]
 fn factor(alloc: Global, digits: Vec<u8>, cursor: &mut Cursor<'_>) -> Result<Term, Stop>
     ensures { Gives (λ found. (term_of found, cursor.new)) result (specs.factor_at digits.items cursor.old) }
 {
@@ -44,7 +44,7 @@ fn factor(alloc: Global, digits: Vec<u8>, cursor: &mut Cursor<'_>) -> Result<Ter
     Ok(Term::Multiple(digits, cursor.name(alloc)?))
 }
 
-#[tactic(auto, unfolding(crate::specs::Reading::term_at))]
+#[tactic(auto, unfolding(crate::specs::inside::Reading::term_at))]
 fn term(alloc: Global, cursor: &mut Cursor<'_>) -> Result<Term, Stop>
     ensures { Gives (λ found. (term_of found, cursor.new)) result (specs.term_at cursor.old) }
 {
@@ -56,7 +56,7 @@ fn term(alloc: Global, cursor: &mut Cursor<'_>) -> Result<Term, Stop>
 }
 
 /// The first term of a sum.
-#[tactic(auto, unfolding(crate::specs::Reading::first_at))]
+#[tactic(auto, unfolding(crate::specs::inside::Reading::first_at))]
 pub fn first(alloc: Global, cursor: &mut Cursor<'_>) -> Result<Signed, Stop>
     ensures { Gives (λ found. (signed_of found, cursor.new)) result (specs.first_at cursor.old) }
 {
@@ -66,7 +66,7 @@ pub fn first(alloc: Global, cursor: &mut Cursor<'_>) -> Result<Signed, Stop>
 }
 
 /// A later term of a sum.
-#[tactic(auto, unfolding(crate::specs::Reading::next_at))]
+#[tactic(auto, unfolding(crate::specs::inside::Reading::next_at))]
 fn next(alloc: Global, cursor: &mut Cursor<'_>) -> Result<Signed, Stop>
     ensures { Gives (λ found. (signed_of found, cursor.new)) result (specs.next_at cursor.old) }
 {
@@ -93,7 +93,7 @@ pub fn more(alloc: Global, cursor: &mut Cursor<'_>) -> Result<Vec<Signed>, Stop>
 }
 
 /// The mark that a token is.
-#[tactic(auto, unfolding(crate::specs::Reading::mark_by))]
+#[tactic(auto, unfolding(crate::specs::inside::Reading::mark_by))]
 fn mark_by(text: &str) -> Option<Mark>
     ensures { option_map mark_of result ≡ specs.mark_by text.now }
 {
@@ -112,15 +112,15 @@ fn mark(cursor: &mut Cursor<'_>) -> Result<Mark, Stop>
     ensures { Gives (λ found. (mark_of found, cursor.new)) result (specs.mark_at cursor.old) }
 {
     let Some(text) = cursor.next() else {
-        return Err(NOT_BUILT);
+        return Err(NOT_READ);
     };
     match mark_by(text) {
         Some(mark) => Ok(mark),
-        None => Err(NOT_BUILT),
+        None => Err(NOT_READ),
     }
 }
 
-#[tactic(auto, unfolding(crate::specs::Reading::comparison_at))]
+#[tactic(auto, unfolding(crate::specs::inside::Reading::comparison_at))]
 pub fn comparison(alloc: Global, cursor: &mut Cursor<'_>) -> Result<Comparison, Stop>
     ensures { Gives (λ found. (comparison_of found, cursor.new)) result (specs.comparison_at cursor.old) }
 {
@@ -137,7 +137,7 @@ pub fn comparison(alloc: Global, cursor: &mut Cursor<'_>) -> Result<Comparison, 
 }
 
 /// A condition without its parentheses.
-#[tactic(auto, unfolding(crate::specs::Reading::inner_at))]
+#[tactic(auto, unfolding(crate::specs::inside::Reading::inner_at))]
 fn inner(alloc: Global, cursor: &mut Cursor<'_>) -> Result<Condition, Stop>
     ensures { Gives (λ found. (condition_of found, cursor.new)) result (specs.inner_at cursor.old) }
 {
@@ -148,7 +148,7 @@ fn inner(alloc: Global, cursor: &mut Cursor<'_>) -> Result<Condition, Stop>
     Ok(Condition::Compares(comparison(alloc, cursor)?))
 }
 
-#[tactic(auto, unfolding(crate::specs::Reading::condition_at))]
+#[tactic(auto, unfolding(crate::specs::inside::Reading::condition_at))]
 pub fn condition(alloc: Global, cursor: &mut Cursor<'_>) -> Result<Condition, Stop>
     ensures { Gives (λ found. (condition_of found, cursor.new)) result (specs.condition_at cursor.old) }
 {

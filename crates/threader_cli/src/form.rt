@@ -4,9 +4,9 @@ ghost use Rattle.thr_base.specs.Number.{Fits, fits};
 ghost use Rattle.lin_rows.specs.Exact.{fitting};
 ghost use Rattle.transition_formula.specs.Stored.{form_of as line_of};
 ghost use Rattle.threader_cli.specs.Form as specs;
-ghost use Rattle.threader_cli.specs.Scope.{columns_of, AreApart, HasRoom};
-ghost use Rattle.threader_cli.specs.Seen.{signed_of};
-ghost use Rattle.threader_cli.specs.Sums.{IsSum, AddsWhereFits, added_at};
+ghost use Rattle.threader_cli.specs.inside.Scope.{columns_of, AreApart, HasRoom};
+ghost use Rattle.threader_cli.specs.inside.Seen.{signed_of};
+ghost use Rattle.threader_cli.specs.inside.Sums.{IsSum, AddsWhereFits, added_at};
 
 use crate::limit::{signed, value_of};
 use crate::scope::Scope;

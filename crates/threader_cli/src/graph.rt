@@ -2,8 +2,8 @@ ghost use Rattle.std.specs.Prelude.{◌≡◌, ◌+◌, ◌-◌, ◌^◌, ◌<�
 ghost use Rattle.std.specs.List.{list_all};
 ghost use Rattle.transition_formula.specs.Stored.{edge_of, thread_of};
 ghost use Rattle.threader_cli.specs.Graph as specs;
-ghost use Rattle.threader_cli.specs.Scope.{columns_of, AreApart, HasRoom};
-ghost use Rattle.threader_cli.specs.Seen.{statement_of, statements_of};
+ghost use Rattle.threader_cli.specs.inside.Scope.{columns_of, AreApart, HasRoom};
+ghost use Rattle.threader_cli.specs.inside.Seen.{statement_of, statements_of};
 ghost use Rattle.threader_cli.specs.Uses.{uses, uses_each, use_fits};
 
 use crate::edges::{push_assignment, push_branches, push_free, push_sides, push_true};

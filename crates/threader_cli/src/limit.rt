@@ -2,8 +2,8 @@ ghost use Rattle.std.specs.Prelude.{◌≡◌, ◌&&◌, option_map, if◌then�
 ghost use Rattle.thr_base.specs.Number.{Fits};
 ghost use Rattle.threader_cli.specs.Comparison as specs;
 ghost use Rattle.threader_cli.specs.Form.{signed, value_of};
-ghost use Rattle.threader_cli.specs.Limits.{limits_in};
-ghost use Rattle.threader_cli.specs.Seen.{mark_of, comparison_of};
+ghost use Rattle.threader_cli.specs.inside.Limits.{limits_in};
+ghost use Rattle.threader_cli.specs.inside.Seen.{mark_of, comparison_of};
 ghost use Rattle.threader_cli.specs.Word.{is_number};
 
 use crate::tree::{Comparison, Mark};

@@ -1,9 +1,9 @@
 ghost use Rattle.std.specs.Prelude.{◌≡◌, map, option_map};
-ghost use Rattle.threader_cli.specs.Reading as specs;
-ghost use Rattle.threader_cli.specs.Refusals.{Gives};
-ghost use Rattle.threader_cli.specs.Seen.{variable_of, function_of, creation_of, program_of, texts};
+ghost use Rattle.threader_cli.specs.inside.Reading as specs;
+ghost use Rattle.threader_cli.specs.inside.Readers.{Gives};
+ghost use Rattle.threader_cli.specs.inside.Seen.{variable_of, function_of, creation_of, program_of, texts};
 
-use crate::cursor::{Cursor, NOT_BUILT};
+use crate::cursor::{Cursor, NOT_READ};
 use crate::statement::body;
 use crate::tree::{Creation, Function, Program, Variable};
 use c_lex::Token;
@@ -23,7 +23,7 @@ fn start(alloc: Global, cursor: &mut Cursor<'_>) -> Result<Option<Vec<u8>>, Stop
     Ok(Some(cursor.number(alloc)?))
 }
 
-#[tactic(auto, unfolding(crate::specs::Reading::variable_at))]
+#[tactic(auto, unfolding(crate::specs::inside::Reading::variable_at))]
 fn variable(alloc: Global, cursor: &mut Cursor<'_>) -> Result<Variable, Stop>
     ensures { Gives (λ found. (variable_of found, cursor.new)) result (specs.variable_at cursor.old) }
 {
@@ -35,7 +35,7 @@ fn variable(alloc: Global, cursor: &mut Cursor<'_>) -> Result<Variable, Stop>
 }
 
 /// A type's word, and the name that is declared.
-#[tactic(auto, unfolding(crate::specs::Reading::declared_at))]
+#[tactic(auto, unfolding(crate::specs::inside::Reading::declared_at))]
 fn declared(alloc: Global, word: &str, cursor: &mut Cursor<'_>) -> Result<Vec<u8>, Stop>
     ensures { Gives (λ found. (found.items, cursor.new)) result (specs.declared_at word.now cursor.old) }
 {
@@ -56,7 +56,7 @@ fn declarations(alloc: Global, word: &str, cursor: &mut Cursor<'_>) -> Result<Ve
     Ok(names)
 }
 
-#[tactic(auto, unfolding(crate::specs::Reading::function_at))]
+#[tactic(auto, unfolding(crate::specs::inside::Reading::function_at))]
 fn function(alloc: Global, cursor: &mut Cursor<'_>) -> Result<Function, Stop>
     ensures { Gives (λ found. (function_of found, cursor.new)) result (specs.function_at cursor.old) }
 {
@@ -75,7 +75,7 @@ fn function(alloc: Global, cursor: &mut Cursor<'_>) -> Result<Function, Stop>
     })
 }
 
-#[tactic(auto, unfolding(crate::specs::Reading::creation_at))]
+#[tactic(auto, unfolding(crate::specs::inside::Reading::creation_at))]
 fn creation(alloc: Global, cursor: &mut Cursor<'_>) -> Result<Creation, Stop>
     ensures { Gives (λ found. (creation_of found, cursor.new)) result (specs.creation_at cursor.old) }
 {
@@ -124,7 +124,7 @@ fn creations(alloc: Global, cursor: &mut Cursor<'_>) -> Result<Vec<Creation>, St
 }
 
 /// The program that the tokens spell.
-#[tactic(auto, unfolding(crate::specs::Reading::program_at))]
+#[tactic(auto, unfolding(crate::specs::inside::Reading::program_at))]
 pub fn program(alloc: Global, tokens: &[Token<'_>]) -> Result<Program, Stop>
     ensures { Gives program_of result (specs.program_at (texts tokens.now)) }
 {
@@ -136,7 +136,7 @@ pub fn program(alloc: Global, tokens: &[Token<'_>]) -> Result<Program, Stop>
     let creations = creations(alloc, &mut cursor)?;
     cursor.skip(&["return", "0", ";", "}"])?;
     if cursor.next().is_some() {
-        return Err(NOT_BUILT);
+        return Err(NOT_READ);
     }
     Ok(Program {
         variables,

@@ -2,11 +2,13 @@
 
 ghost use Rattle.std.specs.Prelude.{◌≡◌, ◌≤◌, length, codes, bytes_eq, find, option_map, IsUtf8, IsSome, IfOk, IfErr};
 ghost use Rattle.c_lex.specs.Tokens.{views};
-ghost use Rattle.threader_cli.specs.ProgramText.{text_limit, IsText, IsAccepted, IsProgramText, StopsBytes, StopsTokens};
-ghost use Rattle.threader_cli.specs.Seen.{program_of};
+ghost use Rattle.thr_base.specs.Limits.{text_limit};
+ghost use Rattle.threader_cli.specs.ProgramText.{IsText, IsAccepted, IsProgramText};
+ghost use Rattle.threader_cli.specs.inside.Readers.{StopsBytes, StopsTokens};
+ghost use Rattle.threader_cli.specs.inside.Seen.{program_of};
 
 use crate::accept::is_accepted;
-use crate::cursor::NOT_BUILT;
+use crate::cursor::NOT_READ;
 use crate::data::program_data;
 use crate::program::program;
 use crate::tree;
@@ -14,12 +16,8 @@ use c_lex::{Token, lex};
 use c_tree::parse;
 use std::alloc::Global;
 use std::str;
-use thr_base::{Refusal, Stop};
+use thr_base::{NO_THREAD, NOT_TEXT, Refusal, Stop};
 use transition_formula::Program;
-
-const NOT_TEXT: u8 = 1;
-
-const NO_THREAD: u8 = 10;
 
 /// The text that the bytes are.
 fn text_of(bytes: &[u8]) -> Result<&str, Stop>
@@ -57,7 +55,7 @@ fn accepted_program(alloc: Global, tokens: &[Token<'_>]) -> Result<tree::Program
     if is_accepted(alloc, &program)? {
         Ok(program)
     } else {
-        Err(NOT_BUILT)
+        Err(NOT_READ)
     }
 }
 

@@ -1,6 +1,6 @@
 ghost use Rattle.std.specs.Prelude.{◌≡◌, ◌≤◌};
 ghost use Rattle.threader_cli.specs.Form.{place_of};
-ghost use Rattle.threader_cli.specs.Scope.{HasRoom, columns_of};
+ghost use Rattle.threader_cli.specs.inside.Scope.{HasRoom, columns_of};
 
 use crate::names::Names;
 

@@ -1,15 +1,15 @@
 ghost use Rattle.std.specs.Prelude.{◌≡◌};
-ghost use Rattle.threader_cli.specs.Reading as specs;
-ghost use Rattle.threader_cli.specs.Refusals.{Gives};
-ghost use Rattle.threader_cli.specs.Seen.{comparison_of, condition_of, statement_of, statements_of};
+ghost use Rattle.threader_cli.specs.inside.Reading as specs;
+ghost use Rattle.threader_cli.specs.inside.Readers.{Gives};
+ghost use Rattle.threader_cli.specs.inside.Seen.{comparison_of, condition_of, statement_of, statements_of};
 
-use crate::cursor::{Cursor, NOT_BUILT};
+use crate::cursor::{Cursor, NOT_READ};
 use crate::expression::{comparison, condition, first, more};
 use crate::tree::{Assignment, Comparison, Condition, Statement};
 use std::alloc::Global;
 use thr_base::Stop;
 
-#[tactic(auto, unfolding(crate::specs::Reading::assignment_at))]
+#[tactic(auto, unfolding(crate::specs::inside::Reading::assignment_at))]
 fn assignment(alloc: Global, cursor: &mut Cursor<'_>) -> Result<Assignment, Stop>
     ensures { Gives (λ found. (statement_of (Statement.Assign found), cursor.new)) result (specs.assignment_at cursor.old) }
 {
@@ -22,7 +22,7 @@ fn assignment(alloc: Global, cursor: &mut Cursor<'_>) -> Result<Assignment, Stop
 }
 
 /// A comparison in parentheses, and what ends the statement.
-#[tactic(auto, unfolding(crate::specs::Reading::claim_at))]
+#[tactic(auto, unfolding(crate::specs::inside::Reading::claim_at))]
 fn claim(alloc: Global, cursor: &mut Cursor<'_>) -> Result<Comparison, Stop>
     ensures { Gives (λ found. (comparison_of found, cursor.new)) result (specs.claim_at cursor.old) }
 {
@@ -33,7 +33,7 @@ fn claim(alloc: Global, cursor: &mut Cursor<'_>) -> Result<Comparison, Stop>
 }
 
 /// What follows `assert`.
-#[tactic(auto, unfolding(crate::specs::Reading::assertion_at))]
+#[tactic(auto, unfolding(crate::specs::inside::Reading::assertion_at))]
 fn assertion(alloc: Global, cursor: &mut Cursor<'_>) -> Result<Statement, Stop>
     ensures { Gives (λ found. (statement_of found, cursor.new)) result (specs.assertion_at cursor.old) }
 {
@@ -46,7 +46,7 @@ fn assertion(alloc: Global, cursor: &mut Cursor<'_>) -> Result<Statement, Stop>
 
 /// The statements up to the brace that closes them, each at most so many levels deep.
 #[cycle(statement)]
-#[tactic(auto, unfolding(crate::specs::Reading::body_at))]
+#[tactic(auto, unfolding(crate::specs::inside::Reading::body_at))]
 pub fn body(alloc: Global, levels: u32, cursor: &mut Cursor<'_>) -> Result<Vec<Statement>, Stop>
     ensures { Gives (λ found. (statements_of found.items, cursor.new)) result (specs.body_at (specs.statement_at levels) cursor.old) }
 {
@@ -60,7 +60,7 @@ pub fn body(alloc: Global, levels: u32, cursor: &mut Cursor<'_>) -> Result<Vec<S
 
 /// A condition, and the statement behind it.
 #[cycle(statement)]
-#[tactic(auto, unfolding(crate::specs::Reading::guarded_at))]
+#[tactic(auto, unfolding(crate::specs::inside::Reading::guarded_at))]
 fn guarded(
     alloc: Global,
     levels: u32,
@@ -75,7 +75,7 @@ fn guarded(
 
 /// What follows the first part of an `if`.
 #[cycle(statement)]
-#[tactic(auto, unfolding(crate::specs::Reading::else_at))]
+#[tactic(auto, unfolding(crate::specs::inside::Reading::else_at))]
 fn otherwise(
     alloc: Global,
     levels: u32,
@@ -95,12 +95,12 @@ fn otherwise(
 
 /// A statement at most so many levels deep.
 #[cycle(statement)]
-#[tactic(auto, unfolding(crate::specs::Reading::statement_at, crate::specs::Reading::statement_by))]
+#[tactic(auto, unfolding(crate::specs::inside::Reading::statement_at, crate::specs::inside::Reading::statement_by))]
 fn statement(alloc: Global, levels: u32, cursor: &mut Cursor<'_>) -> Result<Statement, Stop>
     ensures { Gives (λ found. (statement_of found, cursor.new)) result (specs.statement_at levels cursor.old) }
 {
     if levels == 0 {
-        return Err(NOT_BUILT);
+        return Err(NOT_READ);
     }
     let levels = levels - 1;
     if cursor.begins("{") {

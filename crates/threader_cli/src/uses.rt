@@ -1,8 +1,8 @@
 ghost use Rattle.std.specs.Prelude.{◌≡◌, ◌∷◌, ◌++◌, map, nat_le, IfOk};
 ghost use Rattle.std.specs.List.{list_all, count_by};
-ghost use Rattle.threader_cli.specs.Checks.{allows};
-ghost use Rattle.threader_cli.specs.Scope.{columns_of, AreApart, HasRoom};
-ghost use Rattle.threader_cli.specs.Seen.{term_of, signed_of, comparison_of, condition_of, statement_of, statements_of};
+ghost use Rattle.threader_cli.specs.inside.Checks.{allows};
+ghost use Rattle.threader_cli.specs.inside.Scope.{columns_of, AreApart, HasRoom};
+ghost use Rattle.threader_cli.specs.inside.Seen.{term_of, signed_of, comparison_of, condition_of, statement_of, statements_of};
 ghost use Rattle.threader_cli.specs.Uses as specs;
 
 use crate::form::form;

@@ -1,4 +1,5 @@
-use Rattle.serial_fix.specs.Run.{PairIsSettled, BothAreSettled, fact_of}
+use Rattle.horn_rules.specs.Stored.{fact_of}
+use Rattle.serial_fix.specs.inside.Run.{PairIsSettled, BothAreSettled}
 use Rattle.serial_fix.proofs.Rounds.{if-both, pair-lasts}
 use Rattle.serial_fix.proofs.fixpoint.both_ways.Goals as goal
 

@@ -1,6 +1,7 @@
 use Rattle.std.proofs.Common.{arith}
-use Rattle.serial_fix.specs.Run.{OwnAreSettled, PairsAreSettled, IsLookedAt, fact_of}
-use Rattle.serial_fix.proofs.Members.{Contains-slice_get}
+use Rattle.horn_rules.specs.Stored.{fact_of}
+use Rattle.serial_fix.specs.inside.Run.{OwnAreSettled, PairsAreSettled, IsLookedAt}
+use Rattle.horn_rules.proofs.Lists.{Contains-slice_get}
 use Rattle.serial_fix.proofs.Rounds.{if-both, looked-at, Extends-there, Extends-length}
 use Rattle.serial_fix.proofs.fixpoint.look_at.Goals as goal
 

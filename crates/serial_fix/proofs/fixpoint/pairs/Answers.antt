@@ -1,6 +1,6 @@
 use Rattle.std.proofs.Common.{arith}
-use Rattle.serial_fix.specs.Run.{fact_of}
-use Rattle.serial_fix.proofs.Members.{Contains-slice_get}
+use Rattle.horn_rules.specs.Stored.{fact_of}
+use Rattle.horn_rules.proofs.Lists.{Contains-slice_get}
 use Rattle.serial_fix.proofs.Steps.{Extends-same}
 use Rattle.serial_fix.proofs.Rounds.{Extends-trans, Extends-there, Extends-length, pairs-none, pairs-more, pairs-upto}
 use Rattle.serial_fix.proofs.fixpoint.pairs.Goals as goal

@@ -1,4 +1,5 @@
-use Rattle.serial_fix.specs.Run.{fact_of, IsRun, Extends, PairsAreSettled}
+use Rattle.horn_rules.specs.Stored.{fact_of}
+use Rattle.serial_fix.specs.inside.Run.{IsRun, Extends, PairsAreSettled}
 use Rattle.serial_fix.proofs.fixpoint.pairs.Given as goal
 
 abbrev pub invariant-loop-m : goal.invariant-loop-m

@@ -1,5 +1,5 @@
 use Rattle.std.proofs.Common.{◌-◌, ◌^◌, ◌≤◌, length}
-use Rattle.serial_fix.specs.Run.{IsRun, Extends, AllAreSettled}
+use Rattle.serial_fix.specs.inside.Run.{IsRun, Extends, AllAreSettled}
 use Rattle.serial_fix.proofs.fixpoint.rounds.Given as goal
 
 abbrev pub invariant-loop-next : goal.invariant-loop-next

@@ -1,6 +1,6 @@
 use Rattle.std.proofs.Common.{ℕ, ◌≤◌}
 use Rattle.transition_formula.specs.Program.{Thread, IsThreadOf}
-use Rattle.serial_fix.specs.Run.{IsRun, Extends, StartIsSettled}
+use Rattle.serial_fix.specs.inside.Run.{IsRun, Extends, StartIsSettled}
 use Rattle.serial_fix.proofs.fixpoint.starts.Given as goal
 
 abbrev pub invariant-loop-i : goal.invariant-loop-i

@@ -1,4 +1,5 @@
-use Rattle.serial_fix.specs.Run.{OwnIsSettled, GuarIsSettled, EdgeIsSettled, fact_of}
+use Rattle.horn_rules.specs.Stored.{fact_of}
+use Rattle.serial_fix.specs.inside.Run.{OwnIsSettled, GuarIsSettled, EdgeIsSettled}
 use Rattle.serial_fix.proofs.Steps.{Extends-same}
 use Rattle.serial_fix.proofs.Rounds.{edge-elsewhere, from-here, if-both, own-lasts}
 use Rattle.serial_fix.proofs.run.edge_steps.Goals as goal

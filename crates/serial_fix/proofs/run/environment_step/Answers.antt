@@ -1,7 +1,7 @@
 use Rattle.std.proofs.Common.{Some, sym, ◌∙◌}
 use Rattle.thr_base.specs.declared.names.Instance.TheVariants.{Env}
-use Rattle.horn_rules.specs.Stored.{home_of}
-use Rattle.serial_fix.specs.Run.{InstanceIsSettled, PairIsSettled, fact_of}
+use Rattle.horn_rules.specs.Stored.{home_of, fact_of}
+use Rattle.serial_fix.specs.inside.Run.{InstanceIsSettled, PairIsSettled}
 use Rattle.serial_fix.proofs.Steps.{Extends-same}
 use Rattle.serial_fix.proofs.Instances.{found-home, env-instance, pair-settled, pair-vacuous, same-test, if-step}
 use Rattle.serial_fix.proofs.run.environment_step.Goals as goal
@@ -24,7 +24,7 @@ as_premise-requires-2 c = found-home c.args.program.now c.args.sets.now c.args.f
 pub add-requires-clause-instance : goal.add-requires-clause-instance
 add-requires-clause-instance c =
     env-instance c.args.program.now c.args.sets.now c.args.found.now c.args.one.fact c.args.told.fact c.args.one.id c.args.told.id c.in_ok-first.first c.in_ok-second.second
-    c.requires.run c.requires.one c.requires.told (record { fact_is = c.in_ok-first.ensures.fact; set_is = c.in_ok-first.ensures.set }) (record { fact_is = c.in_ok-second.ensures.fact; set_is = c.in_ok-second.ensures.set })
+    c.requires.run c.requires.one c.requires.told (record { id_is = c.in_ok-first.ensures.id; fact_is = c.in_ok-first.ensures.fact; set_is = c.in_ok-first.ensures.set }) (record { id_is = c.in_ok-second.ensures.id; fact_is = c.in_ok-second.ensures.fact; set_is = c.in_ok-second.ensures.set })
     (sym (same-test c.args.program.now c.args.sets.now c.args.found.now c.args.one.fact c.args.told.fact (home_of c.named.result) (home_of c.named-2.result) c.tells_another.result
     c.requires.run c.requires.one c.requires.told c.named.ensures c.named-2.ensures c.tells_another.ensures) ∙ c.if-not-tells_another.false)
 
@@ -34,4 +34,4 @@ returns c =
     (InstanceIsSettled c.args.program.now c.args.sets.now (Env c.args.one.id c.args.told.id) (Some c.in_ok-first.first) (Some c.in_ok-second.second) c.args.one.fact.home.0)
     (PairIsSettled c.args.program.now c.args.sets.now (fact_of c.args.program.now c.args.one.fact) (fact_of c.args.program.now c.args.told.fact)) c.add.result c.add.ensures
     (pair-settled c.args.program.now c.args.sets.now c.args.found.now c.add.new.found c.args.one.fact c.args.told.fact c.args.one.id c.args.told.id c.in_ok-first.first c.in_ok-second.second
-    c.requires.run c.requires.one c.requires.told (record { fact_is = c.in_ok-first.ensures.fact; set_is = c.in_ok-first.ensures.set }) (record { fact_is = c.in_ok-second.ensures.fact; set_is = c.in_ok-second.ensures.set }))
+    c.requires.run c.requires.one c.requires.told (record { id_is = c.in_ok-first.ensures.id; fact_is = c.in_ok-first.ensures.fact; set_is = c.in_ok-first.ensures.set }) (record { id_is = c.in_ok-second.ensures.id; fact_is = c.in_ok-second.ensures.fact; set_is = c.in_ok-second.ensures.set }))

@@ -1,6 +1,7 @@
 use Rattle.std.proofs.Common.{Some, None}
 use Rattle.thr_base.specs.declared.names.Instance.TheVariants.{Guar}
-use Rattle.serial_fix.specs.Run.{InstanceIsSettled, GuarIsSettled, fact_of}
+use Rattle.horn_rules.specs.Stored.{fact_of}
+use Rattle.serial_fix.specs.inside.Run.{InstanceIsSettled, GuarIsSettled}
 use Rattle.serial_fix.proofs.Instances.{env-home, found-home, guar-instance, guar-settled, if-step}
 use Rattle.serial_fix.proofs.run.guarantee.Goals as goal
 
@@ -13,7 +14,7 @@ as_premise-requires c = found-home c.args.program.now c.args.sets.now c.args.fou
 pub add-requires-clause-instance : goal.add-requires-clause-instance
 add-requires-clause-instance c =
     guar-instance c.args.program.now c.args.sets.now c.args.found.now c.args.known.fact c.args.known.id c.args.i.0 c.args.e c.in_ok-first.first c.number-home.result.0
-    c.requires.run c.requires.there (record { fact_is = c.in_ok-first.ensures.fact; set_is = c.in_ok-first.ensures.set }) c.requires.from c.number-home.ensures
+    c.requires.run c.requires.there (record { id_is = c.in_ok-first.ensures.id; fact_is = c.in_ok-first.ensures.fact; set_is = c.in_ok-first.ensures.set }) c.requires.from c.number-home.ensures
 
 pub returns : goal.returns
 returns c =
@@ -21,4 +22,4 @@ returns c =
     (InstanceIsSettled c.args.program.now c.args.sets.now (Guar c.args.known.id c.args.e) (Some c.in_ok-first.first) None c.number-home.result.0)
     (GuarIsSettled c.args.program.now c.args.sets.now c.args.i.0 c.args.e.0 (fact_of c.args.program.now c.args.known.fact)) c.add.result c.add.ensures
     (guar-settled c.args.program.now c.args.sets.now c.args.found.now c.add.new.found c.args.known.fact c.args.known.id c.args.i.0 c.args.e c.in_ok-first.first c.number-home.result.0
-    c.requires.run c.requires.there (record { fact_is = c.in_ok-first.ensures.fact; set_is = c.in_ok-first.ensures.set }) c.number-home.ensures)
+    c.requires.run c.requires.there (record { id_is = c.in_ok-first.ensures.id; fact_is = c.in_ok-first.ensures.fact; set_is = c.in_ok-first.ensures.set }) c.number-home.ensures)

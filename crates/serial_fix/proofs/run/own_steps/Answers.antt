@@ -1,5 +1,5 @@
 use Rattle.horn_rules.specs.Home.{State, Env}
-use Rattle.serial_fix.specs.Run.{fact_of}
+use Rattle.horn_rules.specs.Stored.{fact_of}
 use Rattle.serial_fix.proofs.Steps.{Extends-same}
 use Rattle.serial_fix.proofs.Rounds.{own-vacuous, thread-there, home-is}
 use Rattle.serial_fix.proofs.run.own_steps.Goals as goal

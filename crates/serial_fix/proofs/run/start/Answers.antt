@@ -1,4 +1,4 @@
-use Rattle.serial_fix.specs.Run.{InstanceIsSettled, StartIsSettled}
+use Rattle.serial_fix.specs.inside.Run.{InstanceIsSettled, StartIsSettled}
 use Rattle.thr_base.specs.declared.names.Instance.TheVariants.{Init}
 use Rattle.std.proofs.Common.{None}
 use Rattle.serial_fix.proofs.Instances.{start-home, start-instance, start-settled, if-step}

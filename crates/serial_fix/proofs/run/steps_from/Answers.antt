@@ -1,5 +1,5 @@
 use Rattle.std.proofs.Common.{refl, arith}
-use Rattle.serial_fix.specs.Run.{fact_of}
+use Rattle.horn_rules.specs.Stored.{fact_of}
 use Rattle.serial_fix.proofs.Steps.{Extends-same}
 use Rattle.serial_fix.proofs.Rounds.{edges-few, edge-there, done-none, done-more, done-all, Extends-trans, Extends-there}
 use Rattle.serial_fix.proofs.run.steps_from.Goals as goal

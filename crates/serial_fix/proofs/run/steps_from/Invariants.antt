@@ -1,4 +1,5 @@
-use Rattle.serial_fix.specs.Run.{fact_of, IsRun, Extends}
+use Rattle.horn_rules.specs.Stored.{fact_of}
+use Rattle.serial_fix.specs.inside.Run.{IsRun, Extends}
 use Rattle.serial_fix.proofs.Rounds.{DoneTo}
 use Rattle.serial_fix.proofs.run.steps_from.Given as goal
 

@@ -1,6 +1,6 @@
 use Rattle.std.proofs.Common.{◌≡◌, ◌&&◌, map, drop}
 use Rattle.threader_cli.specs.Accepted.{are_new, locals_are_new_behind}
-use Rattle.threader_cli.specs.Seen.{function_of}
+use Rattle.threader_cli.specs.inside.Seen.{function_of}
 use Rattle.threader_cli.proofs.accept.add_functions.Given as goal
 
 abbrev pub invariant-loop-function : goal.invariant-loop-function

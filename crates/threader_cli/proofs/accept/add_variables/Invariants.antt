@@ -1,6 +1,6 @@
 use Rattle.std.proofs.Common.{◌≡◌, ◌++◌, map, drop}
 use Rattle.threader_cli.specs.Accepted.{are_new}
-use Rattle.threader_cli.specs.Seen.{variable_of}
+use Rattle.threader_cli.specs.inside.Seen.{variable_of}
 use Rattle.threader_cli.proofs.accept.add_variables.Given as goal
 
 abbrev pub invariant-loop-variable : goal.invariant-loop-variable

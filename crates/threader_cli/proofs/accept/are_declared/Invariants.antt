@@ -1,7 +1,7 @@
 use Rattle.std.proofs.Common.{◌≡◌, map, drop}
 use Rattle.std.specs.List.{list_all}
 use Rattle.threader_cli.specs.Accepted.{is_declared}
-use Rattle.threader_cli.specs.Seen.{creation_of, program_of}
+use Rattle.threader_cli.specs.inside.Seen.{creation_of, program_of}
 use Rattle.threader_cli.proofs.accept.are_declared.Given as goal
 
 abbrev pub invariant-loop-creation : goal.invariant-loop-creation

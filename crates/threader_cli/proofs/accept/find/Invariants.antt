@@ -1,6 +1,6 @@
 use Rattle.std.proofs.Common.{◌≡◌, map, drop}
 use Rattle.threader_cli.specs.Accepted.{find_function}
-use Rattle.threader_cli.specs.Seen.{function_of}
+use Rattle.threader_cli.specs.inside.Seen.{function_of}
 use Rattle.threader_cli.proofs.accept.find.Given as goal
 
 abbrev pub invariant-loop-function : goal.invariant-loop-function

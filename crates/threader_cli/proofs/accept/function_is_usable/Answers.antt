@@ -2,9 +2,9 @@ use Rattle.std.proofs.Common.{rules, ◌≡◌, [], ℕ, Bool, true, map, Some, 
 use Rattle.std.specs.List.{list_all}
 use Rattle.threader_cli.proofs.AllowedLemmas.{are_new-apart, own_columns, with_new}
 use Rattle.threader_cli.specs.Accepted.{are_new}
-use Rattle.threader_cli.specs.Checks.{allows}
-use Rattle.threader_cli.specs.Scope.{AreApart}
-use Rattle.threader_cli.specs.Seen.{statements_of, function_of}
+use Rattle.threader_cli.specs.inside.Checks.{allows}
+use Rattle.threader_cli.specs.inside.Scope.{AreApart}
+use Rattle.threader_cli.specs.inside.Seen.{statements_of, function_of}
 use Rattle.threader_cli.specs.Uses.{uses_each}
 use Rattle.threader_cli.proofs.accept.function_is_usable.Goals as goal
 

@@ -3,8 +3,8 @@ use Rattle.std.specs.List.{list_all}
 use Rattle.std.proofs.lemmas.List.{length-map}
 use Rattle.threader_cli.proofs.AllowedLemmas.{not_usable, usable_main, few_enough}
 use Rattle.threader_cli.specs.Accepted as specs
-use Rattle.threader_cli.specs.Checks.{is_usable}
-use Rattle.threader_cli.specs.Seen.{program_of, creation_of}
+use Rattle.threader_cli.specs.inside.Checks.{is_usable}
+use Rattle.threader_cli.specs.inside.Seen.{program_of, creation_of}
 use Rattle.threader_cli.proofs.accept.is_accepted.Goals as goal
 
 pub returns-then-not-branch-2 : goal.returns-then-not-branch-2

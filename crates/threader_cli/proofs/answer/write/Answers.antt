@@ -1,4 +1,4 @@
-use Rattle.threader_cli.specs.Answer.{all, front}
+use Rattle.threader_cli.specs.inside.Parts.{all, front}
 use Rattle.threader_cli.proofs.answer.write.Goals as goal
 
 pub returns-in-Ok : goal.returns-in-Ok

@@ -1,6 +1,6 @@
 use Rattle.std.proofs.Common.{◌≡◌, ◌≤◌, ◌+◌, ◌-◌, ◌^◌, min, map, drop}
 use Rattle.threader_cli.specs.Data as specs
-use Rattle.threader_cli.specs.Seen.{function_of}
+use Rattle.threader_cli.specs.inside.Seen.{function_of}
 use Rattle.threader_cli.proofs.data.count_locals.Given as goal
 
 abbrev pub invariant-loop-function : goal.invariant-loop-function

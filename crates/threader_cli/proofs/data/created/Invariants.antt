@@ -1,6 +1,6 @@
 use Rattle.std.proofs.Common.{◌≡◌, ◌++◌, map, drop, filter_map}
 use Rattle.threader_cli.specs.Accepted.{find_function}
-use Rattle.threader_cli.specs.Seen.{function_of, creation_of, program_of}
+use Rattle.threader_cli.specs.inside.Seen.{function_of, creation_of, program_of}
 use Rattle.threader_cli.proofs.data.created.Given as goal
 
 -- the functions so far, and those of the creations that are left

@@ -5,9 +5,9 @@ use Rattle.transition_formula.specs.Stored.{program_of as stored_program, thread
 use Rattle.std.proofs.lemmas.List.{length-map}
 use Rattle.threader_cli.proofs.DataLemmas.{allowed-parts, created-are, created-few, data-is}
 use Rattle.threader_cli.specs.Accepted.{variable_names}
-use Rattle.threader_cli.specs.Checks.{CanRun}
+use Rattle.threader_cli.specs.inside.Checks.{CanRun}
 use Rattle.threader_cli.specs.Data.{created, count_locals, threads_from, threads_of, data_of}
-use Rattle.threader_cli.specs.Seen.{program_of, function_of}
+use Rattle.threader_cli.specs.inside.Seen.{program_of, function_of}
 use Rattle.threader_cli.specs.Tree.{Function}
 use Rattle.threader_cli.proofs.data.program_data.Goals as goal
 

@@ -1,7 +1,7 @@
 use Rattle.std.proofs.Common.{◌≡◌, ◌+◌, ◌++◌, map, drop}
 use Rattle.transition_formula.specs.Stored.{column_of}
 use Rattle.threader_cli.specs.Data.{counter_columns}
-use Rattle.threader_cli.specs.Seen.{function_of}
+use Rattle.threader_cli.specs.inside.Seen.{function_of}
 use Rattle.threader_cli.proofs.data.push_counters.Given as goal
 
 abbrev pub invariant-loop-function : goal.invariant-loop-function

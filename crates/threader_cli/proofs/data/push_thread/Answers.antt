@@ -2,8 +2,8 @@ use Rattle.std.proofs.Common.{rules, ◌≡◌, ◌+◌, ◌-◌, true, List, �
 use Rattle.std.specs.List.{list_all}
 use Rattle.threader_cli.proofs.ColumnLemmas.{seen_apart, uses_fit}
 use Rattle.threader_cli.specs.Data.{seen}
-use Rattle.threader_cli.specs.Scope.{AreApart}
-use Rattle.threader_cli.specs.Seen.{function_of, statements_of}
+use Rattle.threader_cli.specs.inside.Scope.{AreApart}
+use Rattle.threader_cli.specs.inside.Seen.{function_of, statements_of}
 use Rattle.threader_cli.specs.Uses.{use_fits, uses_each}
 use Rattle.threader_cli.specs.declared.tree.Statement.{Statement}
 use Rattle.threader_cli.proofs.data.push_thread.Goals as goal

@@ -3,7 +3,7 @@ use Rattle.std.specs.List.{list_all}
 use Rattle.transition_formula.specs.Stored.{column_of}
 use Rattle.threader_cli.specs.Data.{variable_column}
 use Rattle.threader_cli.specs.Proper.{is_proper_variable}
-use Rattle.threader_cli.specs.Seen.{variable_of}
+use Rattle.threader_cli.specs.inside.Seen.{variable_of}
 use Rattle.threader_cli.proofs.data.push_variables.Given as goal
 
 abbrev pub invariant-loop-variable : goal.invariant-loop-variable

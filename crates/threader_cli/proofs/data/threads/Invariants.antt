@@ -1,9 +1,9 @@
 use Rattle.std.proofs.Common.{◌≡◌, ◌+◌, ◌++◌, map, drop, length}
 use Rattle.std.specs.List.{AllByRecursion}
 use Rattle.transition_formula.specs.Stored.{thread_of}
-use Rattle.threader_cli.specs.Checks.{CanRun}
+use Rattle.threader_cli.specs.inside.Checks.{CanRun}
 use Rattle.threader_cli.specs.Data.{count_locals, threads_from}
-use Rattle.threader_cli.specs.Seen.{function_of}
+use Rattle.threader_cli.specs.inside.Seen.{function_of}
 use Rattle.threader_cli.proofs.data.threads.Given as goal
 
 abbrev pub invariant-loop-function : goal.invariant-loop-function

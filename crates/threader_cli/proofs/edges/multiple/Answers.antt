@@ -5,7 +5,7 @@ use Rattle.thr_base.specs.Number.{Fits}
 use Rattle.threader_cli.proofs.FormLemmas.{set-place, Fits-multiple}
 use Rattle.threader_cli.proofs.ScopeLemmas.{scope_width}
 use Rattle.threader_cli.specs.Form.{at_name, place_of}
-use Rattle.threader_cli.specs.Scope.{columns_of}
+use Rattle.threader_cli.specs.inside.Scope.{columns_of}
 use Rattle.threader_cli.proofs.edges.multiple.Goals as goal
 
 pub returns-clause-value : goal.returns-clause-value

@@ -3,9 +3,9 @@ use Rattle.std.specs.List.{list_all}
 use Rattle.thr_base.specs.Number.{fits}
 use Rattle.transition_formula.specs.Stored.{form_of as line_of}
 use Rattle.threader_cli.specs.Form.{signed, value_of, place_of}
-use Rattle.threader_cli.specs.Seen.{signed_of, term_of}
-use Rattle.threader_cli.specs.Scope.{columns_of}
-use Rattle.threader_cli.specs.Sums.{AddsWhereFits, added_at}
+use Rattle.threader_cli.specs.inside.Seen.{signed_of, term_of}
+use Rattle.threader_cli.specs.inside.Scope.{columns_of}
+use Rattle.threader_cli.specs.inside.Sums.{AddsWhereFits, added_at}
 use Rattle.threader_cli.specs.Tree as tree
 use Rattle.threader_cli.specs.Word.{is_number}
 use Rattle.threader_cli.proofs.FormLemmas.{adds_number, adds_multiple}

@@ -2,9 +2,9 @@ use Rattle.std.proofs.Common.{◌≡◌, ◌<◌, ◌≤◌, ◌+◌, get_or, �
 use Rattle.std.proofs.lemmas.List.{drop_all}
 use Rattle.transition_formula.specs.Program.{Form}
 use Rattle.transition_formula.specs.Stored.{form_of as line_of}
-use Rattle.threader_cli.specs.Scope.{columns_of}
-use Rattle.threader_cli.specs.Seen.{signed_of}
-use Rattle.threader_cli.specs.Sums.{form_from, fits_from, zero_form, IsSum}
+use Rattle.threader_cli.specs.inside.Scope.{columns_of}
+use Rattle.threader_cli.specs.inside.Seen.{signed_of}
+use Rattle.threader_cli.specs.inside.Sums.{form_from, fits_from, zero_form, IsSum}
 use Rattle.threader_cli.specs.declared.tree.Signed.{Signed}
 use Rattle.threader_cli.proofs.FormLemmas.{none_made, some_made, zero_is_sum, drop_item}
 use Rattle.threader_cli.proofs.ScopeLemmas.{scope_width}

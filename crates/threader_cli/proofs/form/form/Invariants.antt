@@ -1,8 +1,8 @@
 use Rattle.std.proofs.Common.{◌≡◌, ◌∷◌, length, map, drop}
 use Rattle.transition_formula.specs.Stored.{form_of as line_of}
-use Rattle.threader_cli.specs.Scope.{columns_of}
-use Rattle.threader_cli.specs.Seen.{signed_of}
-use Rattle.threader_cli.specs.Sums.{IsSum, form_from, fits_from, zero_form}
+use Rattle.threader_cli.specs.inside.Scope.{columns_of}
+use Rattle.threader_cli.specs.inside.Seen.{signed_of}
+use Rattle.threader_cli.specs.inside.Sums.{IsSum, form_from, fits_from, zero_form}
 use Rattle.threader_cli.proofs.form.form.Given as goal
 
 -- what is left, added to the form so far, is what all terms are, added to nothing

@@ -2,7 +2,7 @@ use Rattle.std.proofs.Common.{◌+◌, min, ap, sym, ◌∙◌, arith}
 use Rattle.std.proofs.lemmas.List.{drop_all}
 use Rattle.threader_cli.proofs.SeenLemmas.{statement_of-Block}
 use Rattle.threader_cli.specs.Graph as specs
-use Rattle.threader_cli.specs.Seen.{statement_of, statements_of}
+use Rattle.threader_cli.specs.inside.Seen.{statement_of, statements_of}
 use Rattle.threader_cli.proofs.graph.+actions.Goals as goal
 
 pub actions-returns-in-Block : goal.actions-returns-in-Block

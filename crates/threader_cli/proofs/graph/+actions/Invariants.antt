@@ -1,6 +1,6 @@
 use Rattle.std.proofs.Common.{◌≡◌, ◌≤◌, ◌+◌, ◌-◌, ◌^◌, min, drop}
 use Rattle.threader_cli.specs.Graph as specs
-use Rattle.threader_cli.specs.Seen.{statements_of}
+use Rattle.threader_cli.specs.inside.Seen.{statements_of}
 use Rattle.threader_cli.proofs.graph.+actions.Given as goal
 
 -- what is counted so far, and what is left, are all actions

@@ -5,8 +5,8 @@ use Rattle.threader_cli.specs.declared.tree.Statement.{the_lemmas}
 use Rattle.threader_cli.proofs.NameLemmas.{all_right}
 use Rattle.threader_cli.proofs.SeenLemmas.{statement_of-Block}
 use Rattle.threader_cli.specs.Graph as specs
-use Rattle.threader_cli.specs.Scope.{columns_of}
-use Rattle.threader_cli.specs.Seen.{statement_of, statements_of, condition_of}
+use Rattle.threader_cli.specs.inside.Scope.{columns_of}
+use Rattle.threader_cli.specs.inside.Seen.{statement_of, statements_of, condition_of}
 use Rattle.threader_cli.specs.Tree as tree
 use Rattle.threader_cli.specs.Uses.{uses, condition_uses, use_fits}
 use Rattle.threader_cli.proofs.graph.+edges.Goals as goal

@@ -2,8 +2,8 @@ use Rattle.std.proofs.Common.{◌≡◌, ◌+◌, ◌++◌, true, map, drop}
 use Rattle.std.specs.List.{list_all}
 use Rattle.transition_formula.specs.Stored.{edge_of}
 use Rattle.threader_cli.specs.Graph as specs
-use Rattle.threader_cli.specs.Scope.{columns_of}
-use Rattle.threader_cli.specs.Seen.{statements_of}
+use Rattle.threader_cli.specs.inside.Scope.{columns_of}
+use Rattle.threader_cli.specs.inside.Seen.{statements_of}
 use Rattle.threader_cli.specs.Uses.{uses_each, use_fits}
 use Rattle.threader_cli.proofs.graph.+edges.Given as goal
 

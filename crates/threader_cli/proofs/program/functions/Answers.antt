@@ -4,8 +4,8 @@ use Rattle.std.proofs.lemmas.Result.{err_from_is_err_and}
 use Rattle.threader_cli.proofs.BodyLemmas.{Fails-through}
 use Rattle.threader_cli.proofs.ManyLemmas.{all_in_front, each-step, each-stop, each-none}
 use Rattle.threader_cli.proofs.ReadingShrinks.{function_shrinks}
-use Rattle.threader_cli.specs.Reading as specs
-use Rattle.threader_cli.specs.Seen.{function_of}
+use Rattle.threader_cli.specs.inside.Reading as specs
+use Rattle.threader_cli.specs.inside.Seen.{function_of}
 use Rattle.threader_cli.proofs.program.functions.Goals as goal
 
 pub returns-in_err-function : goal.returns-in_err-function

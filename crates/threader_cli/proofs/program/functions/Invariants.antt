@@ -1,7 +1,7 @@
 use Rattle.std.proofs.Common.{◌≡◌, map, length}
 use Rattle.threader_cli.proofs.ManyLemmas.{all_in_front}
-use Rattle.threader_cli.specs.Reading as specs
-use Rattle.threader_cli.specs.Seen.{function_of}
+use Rattle.threader_cli.specs.inside.Reading as specs
+use Rattle.threader_cli.specs.inside.Seen.{function_of}
 use Rattle.threader_cli.proofs.program.functions.Given as goal
 
 -- those so far, and those that are left, are all

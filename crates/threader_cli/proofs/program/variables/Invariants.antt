@@ -1,7 +1,7 @@
 use Rattle.std.proofs.Common.{◌≡◌, map, length}
 use Rattle.threader_cli.proofs.ManyLemmas.{all_in_front}
-use Rattle.threader_cli.specs.Reading as specs
-use Rattle.threader_cli.specs.Seen.{variable_of}
+use Rattle.threader_cli.specs.inside.Reading as specs
+use Rattle.threader_cli.specs.inside.Seen.{variable_of}
 use Rattle.threader_cli.proofs.program.variables.Given as goal
 
 -- those so far, and those that are left, are all

@@ -1,7 +1,7 @@
 use Rattle.std.proofs.Common.{refl, sym, ◌∙◌}
 use Rattle.std.proofs.lemmas.Result.{err_from_is_err_and}
 use Rattle.threader_cli.proofs.AcceptedLemmas.{accepted, unallowed, StopsTokens-unread}
-use Rattle.threader_cli.specs.Seen.{program_of}
+use Rattle.threader_cli.specs.inside.Seen.{program_of}
 use Rattle.threader_cli.proofs.reader.accepted_program.Goals as goal
 
 pub returns-in_err-program-clause-stops : goal.returns-in_err-program-clause-stops

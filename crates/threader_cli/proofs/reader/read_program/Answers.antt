@@ -5,7 +5,7 @@ use Rattle.c_lex.specs.Tokens.{views}
 use Rattle.c_lex.specs.declared.token.Token.{Token}
 use Rattle.threader_cli.proofs.ReaderLemmas.{main_there, StopsBytes-tokens}
 use Rattle.threader_cli.specs.ProgramText.{IsText, IsAccepted, no_thread}
-use Rattle.threader_cli.specs.Seen.{program_of, creation_of}
+use Rattle.threader_cli.specs.inside.Seen.{program_of, creation_of}
 use Rattle.threader_cli.specs.Tree.{Program}
 use Rattle.threader_cli.proofs.reader.read_program.Goals as goal
 

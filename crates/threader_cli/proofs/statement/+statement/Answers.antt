@@ -6,8 +6,8 @@ use Rattle.threader_cli.proofs.BodyLemmas.{goes_on, body_at-read, body_at-none, 
 use Rattle.threader_cli.proofs.ManyLemmas.{all_in_front, each-step, each-stop, each-none}
 use Rattle.threader_cli.proofs.ReadingShrinks.{statement_shrinks}
 use Rattle.threader_cli.proofs.SeenLemmas.{statement_of-Block}
-use Rattle.threader_cli.specs.Reading as specs
-use Rattle.threader_cli.specs.Seen.{statement_of, statements_of}
+use Rattle.threader_cli.specs.inside.Reading as specs
+use Rattle.threader_cli.specs.inside.Seen.{statement_of, statements_of}
 use Rattle.threader_cli.specs.Tree as tree
 use Rattle.threader_cli.proofs.statement.+statement.Goals as goal
 

@@ -1,7 +1,7 @@
 use Rattle.std.proofs.Common.{◌≡◌, ◌+◌, ◌*◌, map, length, codes, not}
 use Rattle.threader_cli.proofs.ManyLemmas.{all_in_front}
-use Rattle.threader_cli.specs.Reading.{begins, each, statement_at}
-use Rattle.threader_cli.specs.Seen.{statement_of}
+use Rattle.threader_cli.specs.inside.Reading.{begins, each, statement_at}
+use Rattle.threader_cli.specs.inside.Seen.{statement_of}
 use Rattle.threader_cli.proofs.statement.+statement.Given as goal
 
 -- a statement stands below the functions that read its parts at the same level

@@ -1,8 +1,8 @@
 use Rattle.std.proofs.Common.{◌≡◌, drop}
 use Rattle.std.specs.List.{list_all}
-use Rattle.threader_cli.specs.Checks.{allows}
-use Rattle.threader_cli.specs.Scope.{columns_of}
-use Rattle.threader_cli.specs.Seen.{statements_of}
+use Rattle.threader_cli.specs.inside.Checks.{allows}
+use Rattle.threader_cli.specs.inside.Scope.{columns_of}
+use Rattle.threader_cli.specs.inside.Seen.{statements_of}
 use Rattle.threader_cli.specs.Uses.{uses_each}
 use Rattle.threader_cli.proofs.uses.+allowed.Given as goal
 

@@ -1,6 +1,6 @@
 use Rattle.std.proofs.Common.{◌≡◌, ◌++◌, map, drop}
 use Rattle.std.specs.List.{list_all}
-use Rattle.threader_cli.specs.Seen.{signed_of}
+use Rattle.threader_cli.specs.inside.Seen.{signed_of}
 use Rattle.threader_cli.specs.Uses.{reads_only}
 use Rattle.threader_cli.proofs.uses.all_read_known.Given as goal
 

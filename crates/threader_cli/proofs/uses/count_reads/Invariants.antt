@@ -1,5 +1,5 @@
 use Rattle.std.proofs.Common.{◌≡◌, ◌≤◌, ◌+◌, map, drop, count_by}
-use Rattle.threader_cli.specs.Seen.{signed_of}
+use Rattle.threader_cli.specs.inside.Seen.{signed_of}
 use Rattle.threader_cli.specs.Uses.{reads_among}
 use Rattle.threader_cli.proofs.uses.count_reads.Given as goal
 

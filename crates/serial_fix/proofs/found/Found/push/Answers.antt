@@ -1,5 +1,5 @@
 use Rattle.std.proofs.Common.{◌≡◌, ◌+◌, ◌-◌, ◌∷◌, [], ◌++◌, ◌<◌, ◌≤◌, ◌^◌, length, ap, ◌∙◌, arith}
-use Rattle.serial_fix.specs.Found.{FoundFacts, held_at}
+use Rattle.serial_fix.specs.inside.Found.{FoundFacts, held_at}
 use Rattle.serial_fix.proofs.Index.{index-push, index-same, popped, words-at, kept-on-err, made-on-ok}
 use Rattle.serial_fix.proofs.found.Found.push.Goals as goal
 

@@ -1,5 +1,5 @@
 use Rattle.std.proofs.Common.{ap, ◌∙◌, arith, length, ◌≤◌}
-use Rattle.serial_fix.specs.Found.{held_at, FoundFacts}
+use Rattle.serial_fix.specs.inside.Found.{held_at, FoundFacts}
 use Rattle.serial_fix.proofs.Index.{words-at}
 use Rattle.serial_fix.proofs.found.Found.words.Goals as goal
 

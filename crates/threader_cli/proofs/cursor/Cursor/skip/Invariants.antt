@@ -1,5 +1,5 @@
 use Rattle.std.proofs.Common.{◌≡◌, map, drop}
-use Rattle.threader_cli.specs.Reading as specs
+use Rattle.threader_cli.specs.inside.Reading as specs
 use Rattle.threader_cli.proofs.cursor.Cursor.skip.Given as goal
 
 -- the texts so far came

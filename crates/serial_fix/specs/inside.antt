@@ -1,0 +1,4 @@
+pub mod Cases
+pub mod Jobs
+pub mod Found
+pub mod Run
