@@ -1,4 +1,4 @@
-ghost use Rattle.std.specs.Prelude.{◌≡◌, List, IfNone, IfSome};
+ghost use Rattle.std.specs.Prelude.{◌≡◌, ℕ, List, IfNone, IfSome};
 ghost use Rattle.horn_rules.specs.Home.{Home as HomeMeant};
 ghost use Rattle.horn_rules.specs.Stored.{home_of};
 ghost use Rattle.annotation_form.specs.inside.Reading.{AreWordsOf, IsHead, IsSmall, is_env};
