@@ -3,9 +3,8 @@ use Rattle.std.proofs.Common.{◌≡◌, ℕ, Bool, true, false, cond, ◌||◌,
 use Rattle.std.specs.List.{list_any}
 use Rattle.thr_base.specs.declared.stops.Stop.{Stop}
 use Rattle.thr_base.specs.declared.stops.Stop.TheVariants.{Refused, Memory}
-use Rattle.thr_base.specs.Refusals.{Gives}
+use Rattle.thr_base.specs.Refusals.{MatchStop}
 use Rattle.c_lex.specs.Tokens.{Lexeme, lexed}
-use Rattle.c_tree.specs.declared.item.Tree.{Tree}
 use Rattle.c_tree.specs.Item.{tree_of, parsed}
 use Rattle.threader_cli.specs.ProgramText.{IsText, IsAccepted, Refuses, not_in_profile, not_narrow}
 use Rattle.threader_cli.specs.inside.Readers.{StopsTokens, StopsBytes}
@@ -16,13 +15,15 @@ use Rattle.threader_cli.specs.Word.{pieces}
 -- ---- why there is no program
 
 -- what stops the tokens stops the tree
-pub StopsBytes-lexed : (stop : Stop) (text : List ℕ) → IsUtf8 text → Gives {X = List Lexeme} (λ tokens. tokens) (Err stop) (lexed text) → StopsBytes text stop
-StopsBytes-lexed Memory text utf8 h = tt
-StopsBytes-lexed (Refused refusal) text utf8 h = not_in_profile refusal utf8 (ap (tree_of (length text)) h)
+pub StopsBytes-lexed : {X : Type 0} (IsRead : X → Type 0) (stop : Stop) (text : List ℕ) → IsUtf8 text
+    → MatchStop {X = X} (Err stop) IsRead (λ refusal. lexed text ≡ Err refusal) → StopsBytes text stop
+StopsBytes-lexed IsRead Memory text utf8 h = tt
+StopsBytes-lexed IsRead (Refused refusal) text utf8 h = not_in_profile refusal utf8 (ap (tree_of (length text)) h)
 
-pub StopsBytes-parsed : (stop : Stop) (text : List ℕ) → IsUtf8 text → Gives {X = Tree} (λ tree. tree) (Err stop) (parsed text) → StopsBytes text stop
-StopsBytes-parsed Memory text utf8 h = tt
-StopsBytes-parsed (Refused refusal) text utf8 h = not_in_profile refusal utf8 h
+pub StopsBytes-parsed : {X : Type 0} (IsRead : X → Type 0) (stop : Stop) (text : List ℕ) → IsUtf8 text
+    → MatchStop {X = X} (Err stop) IsRead (λ refusal. parsed text ≡ Err refusal) → StopsBytes text stop
+StopsBytes-parsed IsRead Memory text utf8 h = tt
+StopsBytes-parsed IsRead (Refused refusal) text utf8 h = not_in_profile refusal utf8 h
 
 pub StopsBytes-tokens : (stop : Stop) (bytes : List ℕ) (tokens : List Lexeme) → IsText bytes tokens → StopsTokens tokens stop → StopsBytes bytes stop
 StopsBytes-tokens Memory bytes tokens is h = tt
