@@ -9,5 +9,3 @@ pub use posting::post;
 
 #[cfg(test)]
 mod tests;
-#[cfg(test)]
-mod worked;

@@ -6,7 +6,6 @@ ghost use Rattle.abstract_post.specs.inside.Worked.{AreAtomsOver, IsAtomSetOver}
 
 use super::*;
 use crate::deciding::Found;
-use crate::worked::worked;
 use farkas_cert::LeaveKind;
 use horn_rules::{Job, PostAnswer, Premise};
 use predicate_sets::{HomeSet, Sets};
@@ -14,7 +13,7 @@ use std::alloc::{AllocError, Global};
 use std::sync::Arc;
 use std::test::Fail;
 use thr_base::{EdgeNo, Epoch, Fact, FactId, HomeNo, Instance, ThreadNo};
-use transition_formula::{Program, read_atom};
+use transition_formula::{Program, read_atom, two_threads};
 
 /// Adds the predicate that is written, if it is one.
 fn add(
@@ -189,7 +188,7 @@ fn env(
 #[test]
 fn a_start_holds_what_follows_from_the_starts_of_columns(rt: HostRuntime) -> Result<(), Fail> {
     let alloc = rt.alloc();
-    let program = worked(alloc)?;
+    let program = two_threads(alloc)?;
     let found = start(alloc, &program, b"x <= 0", b"x <= -1")?;
     assert_eq!(rt; found, Found::Held(1));
     let found = start(alloc, &program, b"t1.l <= 0", b"-x <= 0")?;
@@ -200,7 +199,7 @@ fn a_start_holds_what_follows_from_the_starts_of_columns(rt: HostRuntime) -> Res
 #[test]
 fn a_step_holds_what_follows_after_it(rt: HostRuntime) -> Result<(), Fail> {
     let alloc = rt.alloc();
-    let program = worked(alloc)?;
+    let program = two_threads(alloc)?;
     let found = own(alloc, &program, b"x <= 3", b"x <= 3", b"x <= 4")?;
     assert_eq!(rt; found, Found::Held(2));
     let found = own(alloc, &program, b"t2.$pc <= 0", b"x <= 3", b"x <= 4")?;
@@ -211,7 +210,7 @@ fn a_step_holds_what_follows_after_it(rt: HostRuntime) -> Result<(), Fail> {
 #[test]
 fn a_step_tells_what_follows_before_and_after_it(rt: HostRuntime) -> Result<(), Fail> {
     let alloc = rt.alloc();
-    let program = worked(alloc)?;
+    let program = two_threads(alloc)?;
     let found = guar(alloc, &program, b"x <= 3", b"x <= 3", b"x' <= 3")?;
     assert_eq!(rt; found, Found::Held(1));
     let found = guar(alloc, &program, b"", b"-x + x' <= 0", b"-x + x' <= 1")?;
@@ -222,7 +221,7 @@ fn a_step_tells_what_follows_before_and_after_it(rt: HostRuntime) -> Result<(), 
 #[test]
 fn a_thread_that_stays_holds_what_follows_from_what_is_told(rt: HostRuntime) -> Result<(), Fail> {
     let alloc = rt.alloc();
-    let program = worked(alloc)?;
+    let program = two_threads(alloc)?;
     let found = env(alloc, &program, b"x <= 3", b"-x + x' <= 1", b"x <= 4")?;
     assert_eq!(rt; found, Found::Held(2));
     let found = env(alloc, &program, b"x <= 3", b"-x + x' <= 0", b"x <= 4")?;
@@ -233,7 +232,7 @@ fn a_thread_that_stays_holds_what_follows_from_what_is_told(rt: HostRuntime) -> 
 #[test]
 fn a_predicate_with_great_numbers_is_left_undecided(rt: HostRuntime) -> Result<(), Fail> {
     let alloc = rt.alloc();
-    let program = worked(alloc)?;
+    let program = two_threads(alloc)?;
     let said = b"85070591730234615865843651857942052864*x + t1.l <= 0";
     let asked = b"85070591730234615865843651857942052865*x + t1.l <= 0";
     let found = own(alloc, &program, said, b"x <= 4", asked)?;

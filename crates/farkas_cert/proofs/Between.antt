@@ -4,8 +4,8 @@ use Rattle.std.specs.Prelude.{ℤ, pos, ◌<ℤ◌, ⊤, int_lt, flat_map}
 use Rattle.std.specs.List.{AllByRecursion}
 use Rattle.std.proofs.lemmas.Int.{ints}
 use Rattle.farkas_cert.specs.Line.{Line, coefficient_at, is_nonzero}
-use Rattle.farkas_cert.specs.BackSubstitution.{RationalPoint, Fraction, Bounds, bound_on, bounds_from, chosen}
-use Rattle.farkas_cert.specs.Elimination.{paired, positives, negatives, with_column, pairs_at}
+use Rattle.farkas_cert.specs.BackSubstitution.{RationalPoint, Fraction, Bounds, bound_on, bounds_from, chosen_value}
+use Rattle.farkas_cert.specs.Elimination.{paired_line, positives, negatives, with_column, pairs_at}
 use Rattle.farkas_cert.proofs.Fractions.{IsAtMost, chosen_upper, chosen_lower, chosen_positive}
 use Rattle.farkas_cert.proofs.Lists.{all_filter, filter_all, all_both, all_from, all_there, all_unmap, all_unflat, all_unfilter}
 use Rattle.farkas_cert.proofs.Certificates.{all_kept}
@@ -29,7 +29,7 @@ is_negative_test a h = sym (omega (arith, ints))
 
 -- the pair of two lines was made, and holds
 abbrev HasPair : ℕ → ℕ → RationalPoint → Line → Line → Type 0
-HasPair n c point positive negative = (next : Line) × (paired c positive negative ≡ Some next) × MeetsLine n point next
+HasPair n c point positive negative = (next : Line) × (paired_line c positive negative ≡ Some next) × MeetsLine n point next
 
 -- a line's pairs with all lines that are negative at c hold
 abbrev HasPairs : ℕ → ℕ → RationalPoint → List Line → Line → Type 0
@@ -40,10 +40,10 @@ have_pairs : (n c : ℕ) (point : RationalPoint) (lines pairs : List Line) → p
 unfolding pairs_at
 have_pairs n c point lines pairs e h =
     let Made : Option Line → Type 0 = λ o. (next : Line) × (o ≡ Some next) × MeetsLine n point next in
-    all_from (λ positive. AllByRecursion Made (map (paired c positive) (negatives c lines))) (HasPairs n c point lines) (positives c lines)
-    (λ positive k. all_unmap Made (paired c positive) (negatives c lines) k)
-    (all_unflat Made (λ positive. map (paired c positive) (negatives c lines)) (positives c lines)
-    (all_there (MeetsLine n point) (flat_map (λ positive. map (paired c positive) (negatives c lines)) (positives c lines)) pairs e h))
+    all_from (λ positive. AllByRecursion Made (map (paired_line c positive) (negatives c lines))) (HasPairs n c point lines) (positives c lines)
+    (λ positive k. all_unmap Made (paired_line c positive) (negatives c lines) k)
+    (all_unflat Made (λ positive. map (paired_line c positive) (negatives c lines)) (positives c lines)
+    (all_there (MeetsLine n point) (flat_map (λ positive. map (paired_line c positive) (negatives c lines)) (positives c lines)) pairs e h))
 
 -- a negative line's bound is at most a positive line's
 lower_has : (n c : ℕ) (point : RationalPoint) (positive : Line) (g : Fraction) → c < n → pos 0 <ℤ point.denominator → HasColumn c positive
@@ -78,7 +78,7 @@ lowest_upper n c point lines bounds l d e line g z t k h =
     (λ negative p. lower_has n c point line g l d z t k negative p.1 p.0) known)
     (none_there (λ m. IsAtMost m g) (λ u. ⊤)) e).lower
 
-kept_meets : (n c : ℕ) (point next : RationalPoint) (lines : List Line) (bounds : Bounds) → Moved c point (chosen bounds.lower bounds.upper) next
+kept_meets : (n c : ℕ) (point next : RationalPoint) (lines : List Line) (bounds : Bounds) → Moved c point (chosen_value bounds.lower bounds.upper) next
     → c < n → length point.numerators ≡ n → pos 0 <ℤ point.denominator
     → bounds_from n c point no_bounds (with_column c lines) ≡ Some bounds → (line : Line) → IsKept n c point bounds lines line → MeetsLine n next line
 kept_meets n c point next lines bounds m l h d e line k = at (side_of c line) refl (k.bounded.2) where
@@ -90,20 +90,20 @@ kept_meets n c point next lines bounds m l h d e line k = at (side_of c line) re
 
   at : (b : Bool) → side_of c line ≡ b → IsBounded bounds b f → MeetsLine n next line
   at true s u =
-      upper_meets n c point (chosen bounds.lower bounds.upper) next line f m l h d k.inequality (positive_side_is c line s) (bound_is n c point line f k.column d is)
+      upper_meets n c point (chosen_value bounds.lower bounds.upper) next line f m l h d k.inequality (positive_side_is c line s) (bound_is n c point line f k.column d is)
       (chosen_upper bounds.lower bounds.upper u.0 f u.1 u.2 (lowest_upper n c point lines bounds l d e line f k.column s is (k.pairs s)))
   at false s w =
-      lower_meets n c point (chosen bounds.lower bounds.upper) next line f m l h d k.inequality (nonzero_negative (coefficient_at c line) k.column s) (bound_is n c point line f k.column d is)
+      lower_meets n c point (chosen_value bounds.lower bounds.upper) next line f m l h d k.inequality (nonzero_negative (coefficient_at c line) k.column s) (bound_is n c point line f k.column d is)
       (chosen_lower bounds.lower bounds.upper w.0 f w.1 w.2)
 
 pub chosen_has_positive : (n c : ℕ) (point : RationalPoint) (lines : List Line) (bounds : Bounds) → pos 0 <ℤ point.denominator
-    → bounds_from n c point no_bounds (with_column c lines) ≡ Some bounds → pos 0 <ℤ (chosen bounds.lower bounds.upper).denominator
+    → bounds_from n c point no_bounds (with_column c lines) ≡ Some bounds → pos 0 <ℤ (chosen_value bounds.lower bounds.upper).denominator
 chosen_has_positive n c point lines bounds d e =
     let over = bounds_over n c point no_bounds bounds (with_column c lines) d (filter_all (λ line. is_nonzero (coefficient_at c line)) lines) (none_there HasPositive HasPositive) e in
     chosen_positive bounds.lower bounds.upper over.positive.lower over.positive.upper
 
 pub all_kept_meet : (n c : ℕ) (point next : RationalPoint) (lines pairs : List Line) (bounds : Bounds)
-    → Moved c point (chosen bounds.lower bounds.upper) next → c < n → length point.numerators ≡ n → pos 0 <ℤ point.denominator
+    → Moved c point (chosen_value bounds.lower bounds.upper) next → c < n → length point.numerators ≡ n → pos 0 <ℤ point.denominator
     → AllByRecursion (λ line. line.equal ≡ false) lines → pairs_at c lines ≡ Some pairs → AllByRecursion (MeetsLine n point) pairs
     → bounds_from n c point no_bounds (with_column c lines) ≡ Some bounds → AllByRecursion (MeetsLine n next) (with_column c lines)
 all_kept_meet n c point next lines pairs bounds m l h d q p k e =

@@ -6,7 +6,7 @@ use Rattle.std.specs.List.{AllByRecursion}
 use Rattle.std.proofs.lemmas.Int.{ints}
 use Rattle.thr_base.specs.Number.{fits}
 use Rattle.farkas_cert.specs.Line.{Line, coefficient_at, is_nonzero}
-use Rattle.farkas_cert.specs.BackSubstitution.{RationalPoint, Fraction, Bounds, bound_on, is_below, greater_of, lesser_of, narrowed, bounds_from}
+use Rattle.farkas_cert.specs.BackSubstitution.{RationalPoint, Fraction, Bounds, bound_on, is_below, greater_of, lesser_of, narrowed_bounds, bounds_from}
 use Rattle.farkas_cert.proofs.Fractions.{IsAtMost, at_most_self, at_most_trans, IsPositive}
 use Rattle.farkas_cert.proofs.Slack.{and_then_is, map_is}
 use Rattle.farkas_cert.proofs.Sides.{bound_is}
@@ -134,7 +134,7 @@ pub record Narrows (old new : Bounds) (side : Bool) (f : Fraction) : Type 0 wher
   pub narrower : IsNarrower old new
   pub bounded : IsBounded new side f
 
-narrows : (old new : Bounds) (side : Bool) (f : Fraction) → OfBounds HasPositive HasPositive old → HasPositive f → narrowed side old f ≡ Some new
+narrows : (old new : Bounds) (side : Bool) (f : Fraction) → OfBounds HasPositive HasPositive old → HasPositive f → narrowed_bounds side old f ≡ Some new
     → Narrows old new side f
 narrows old new true f h k e =
     let at = map_is (λ u. record old { upper = Some u }) (lesser_of old.upper f) new e in
@@ -158,7 +158,7 @@ narrows old new false f h k e =
     })
 
 keeps : (L U : Fraction → Type 0) (old new : Bounds) (side : Bool) (f : Fraction) → OfBounds HasPositive HasPositive old → HasPositive f
-    → OfBounds L U old → OnSide L U side f → narrowed side old f ≡ Some new → OfBounds L U new
+    → OfBounds L U old → OnSide L U side f → narrowed_bounds side old f ≡ Some new → OfBounds L U new
 keeps L U old new true f h k o p e =
     let at = map_is (λ u. record old { upper = Some u }) (lesser_of old.upper f) new e in
     let lesser = lesser_is old.upper f at.0 h.upper k at.1 in
@@ -203,8 +203,8 @@ bounds_over n c point old new [] d z o e =
     let same : old ≡ new = cc in
     subst (λ (b : Bounds). BoundsOver n c point old b []) same (record { narrower = narrower_self old o; bounded = tt; positive = o })
 bounds_over n c point old new (line ∷ lines) d z o e =
-    let outer = and_then_is (λ next. bounds_from n c point next lines) (option_and_then (narrowed (side_of c line) old) (bound_on n c point line)) new e in
-    let inner = and_then_is (narrowed (side_of c line) old) (bound_on n c point line) outer.0 outer.1 in
+    let outer = and_then_is (λ next. bounds_from n c point next lines) (option_and_then (narrowed_bounds (side_of c line) old) (bound_on n c point line)) new e in
+    let inner = and_then_is (narrowed_bounds (side_of c line) old) (bound_on n c point line) outer.0 outer.1 in
     let positive = (bound_is n c point line inner.0 z.0 d inner.1).positive in
     let step = narrows old outer.0 (side_of c line) inner.0 o positive inner.2 in
     let kept = keeps HasPositive HasPositive old outer.0 (side_of c line) inner.0 o positive o (positive_side (side_of c line) inner.0 positive) inner.2 in
@@ -225,8 +225,8 @@ pub keeps_over : (L U : Fraction → Type 0) (n c : ℕ) (point : RationalPoint)
 unfolding bounds_from
 keeps_over L U n c point old new [] d z o h k e = let same : old ≡ new = cc in subst (λ (b : Bounds). OfBounds L U b) same k
 keeps_over L U n c point old new (line ∷ lines) d z o h k e =
-    let outer = and_then_is (λ next. bounds_from n c point next lines) (option_and_then (narrowed (side_of c line) old) (bound_on n c point line)) new e in
-    let inner = and_then_is (narrowed (side_of c line) old) (bound_on n c point line) outer.0 outer.1 in
+    let outer = and_then_is (λ next. bounds_from n c point next lines) (option_and_then (narrowed_bounds (side_of c line) old) (bound_on n c point line)) new e in
+    let inner = and_then_is (narrowed_bounds (side_of c line) old) (bound_on n c point line) outer.0 outer.1 in
     let positive = (bound_is n c point line inner.0 z.0 d inner.1).positive in
     let kept = keeps HasPositive HasPositive old outer.0 (side_of c line) inner.0 o positive o (positive_side (side_of c line) inner.0 positive) inner.2 in
     let step = keeps L U old outer.0 (side_of c line) inner.0 o positive k (h.0 inner.0 inner.1) inner.2 in

@@ -11,10 +11,10 @@ use Rattle.farkas_cert.specs.Cert.{Pairs}
 use Rattle.farkas_cert.specs.Reduced.{IsReduced}
 use Rattle.lin_rows.specs.Gcd.{gcd}
 use Rattle.farkas_cert.specs.Divided.{over}
-use Rattle.farkas_cert.specs.Line.{Line, coefficient_at, given_lines, is_false, has_variable, refuting, listed, is_nonzero, made_line, lowest_column, lowest_of}
+use Rattle.farkas_cert.specs.Line.{Line, coefficient_at, given_lines, is_false, has_variable, refuting, nonzero_pairs, is_nonzero, made_line, lowest_column, lowest_of}
 use Rattle.farkas_cert.specs.Proof.{Proves, overflow_of}
 use Rattle.farkas_cert.specs.BackSubstitution.{RationalPoint, Kept, Solved, Bounded, set_column}
-use Rattle.farkas_cert.specs.Elimination.{Outcome, Refuted, Point, Leaves, Work, Next, Goes, Ends, every, refuted, tested, tested_by, follows, without_equality, substituted, equality_stage, paired, positives, negatives, with_column, without_column, pairs_at, are_too_many, pair_stage, taken_out, taken_out_by, stage, then_tested, point_from, or_leaves, or_ends, goes_on, stages, begun, outcome_of, outcome_within}
+use Rattle.farkas_cert.specs.Elimination.{Outcome, Refuted, Point, Leaves, Work, Next, Goes, Ends, every, refutation_outcome, constant_test, constant_test_by, follows, without_equality, substituted_line, equality_stage, paired_line, positives, negatives, with_column, without_column, pairs_at, are_too_many, pair_stage, take_column_out, take_column_out_by, stage, then_constant_test, point_from, or_leaves, or_ends, goes_on, stages, beginning, outcome_of, outcome_within}
 use Rattle.farkas_cert.specs.declared.answers.LeaveKind.TheVariants.{Overflow, Rows}
 use Rattle.farkas_cert.proofs.Integers.{linear}
 use Rattle.farkas_cert.proofs.Derived.{IsDerived, derived_by_equality, derived_by_pair}
@@ -36,16 +36,16 @@ IsSoundNext system (Ends outcome) = IsSound system outcome
 
 -- ---- the constant test
 
-sound_refuted : (system : System) (number : ℕ) (ms : List ℤ) → IsProvedBy system ms → IsSound system (refuted system number ms)
-sound_refuted system number ms h = by_fit (overflow_of system.rows (listed 1 ms)) refl where
-  by_fit : (o : Option (ℕ × ℕ)) → overflow_of system.rows (listed 1 ms) ≡ o → IsSound system (cond (is_none o) (Refuted (listed 1 ms)) (Leaves number Overflow))
+sound_refuted : (system : System) (number : ℕ) (ms : List ℤ) → IsProvedBy system ms → IsSound system (refutation_outcome system number ms)
+sound_refuted system number ms h = by_fit (overflow_of system.rows (nonzero_pairs 1 ms)) refl where
+  by_fit : (o : Option (ℕ × ℕ)) → overflow_of system.rows (nonzero_pairs 1 ms) ≡ o → IsSound system (cond (is_none o) (Refuted (nonzero_pairs 1 ms)) (Leaves number Overflow))
   by_fit None e = (record { refutes = h.0; fits = e }, h.1)
   by_fit (Some place) e = tt
 
-tested_sound : (system : System) (number : ℕ) (work : Work) → AllDerived system work.lines → IsSoundNext system (tested system number work)
-unfolding tested
+tested_sound : (system : System) (number : ℕ) (work : Work) → AllDerived system work.lines → IsSoundNext system (constant_test system number work)
+unfolding constant_test
 tested_sound system number work h = by_found (find (is_false system.columns) work.lines) refl where
-  by_found : (o : Option Line) → find (is_false system.columns) work.lines ≡ o → IsSoundNext system (tested_by system number work o)
+  by_found : (o : Option Line) → find (is_false system.columns) work.lines ≡ o → IsSoundNext system (constant_test_by system number work o)
   by_found None e = all_filter (IsDerived system) (has_variable system.columns) work.lines h
   by_found (Some line) e =
       let at = found (IsDerived system) (is_false system.columns) work.lines line h e in
@@ -66,8 +66,8 @@ without_equality_derived system (line ∷ lines) h = at (without_equality_derive
   at rest false = (h.0, rest)
 
 substituted_derived : (system : System) (c : ℕ) (equality line next : Line) → equality.equal ≡ true → IsDerived system equality
-    → IsDerived system line → substituted c equality line ≡ Some next → IsDerived system next
-unfolding substituted
+    → IsDerived system line → substituted_line c equality line ≡ Some next → IsDerived system next
+unfolding substituted_line
 substituted_derived system c equality line next t h k e = at (is_nonzero (coefficient_at c line)) e where
   p : ℤ
   p = coefficient_at c equality
@@ -95,9 +95,9 @@ unfolding equality_stage
 equality_stage_sound system work equality t e h =
     let c = lowest_column system.columns equality in
     let rest = without_equality work.lines in
-    follows_sound system work (Solved c equality) work.made (every (map (substituted c equality) rest))
-    (λ lines m. all_every (IsDerived system) (map (substituted c equality) rest) lines
-    (all_map (IsDerived system) (λ o. (line : Line) → o ≡ Some line → IsDerived system line) (substituted c equality) rest
+    follows_sound system work (Solved c equality) work.made (every (map (substituted_line c equality) rest))
+    (λ lines m. all_every (IsDerived system) (map (substituted_line c equality) rest) lines
+    (all_map (IsDerived system) (λ o. (line : Line) → o ≡ Some line → IsDerived system line) (substituted_line c equality) rest
     (λ line d next s. substituted_derived system c equality line next t e d s)
     (without_equality_derived system work.lines h)) m)
 
@@ -113,8 +113,8 @@ pub all_kept : {X : Type 0} (P : X → Type 0) (p : X → Bool) (xs : List X) �
 all_kept P p xs h = all_both P (λ x. p x ≡ true) (filter p xs) (all_filter P p xs h) (filter_all p xs)
 
 paired_derived : (system : System) (c : ℕ) (positive negative next : Line) → IsPositive system c positive → IsNegative system c negative
-    → paired c positive negative ≡ Some next → IsDerived system next
-unfolding paired
+    → paired_line c positive negative ≡ Some next → IsDerived system next
+unfolding paired_line
 paired_derived system c positive negative next h k e =
     let p = coefficient_at c positive in
     let q = neg_ℤ (coefficient_at c negative) in
@@ -128,9 +128,9 @@ pairs_derived : (system : System) (c : ℕ) (lines pairs : List Line) → AllDer
 unfolding pairs_at
 pairs_derived system c lines pairs h e =
     let IsMade : Option Line → Type 0 = λ o. (line : Line) → o ≡ Some line → IsDerived system line in
-    all_every (IsDerived system) (flat_map (λ positive. map (paired c positive) (negatives c lines)) (positives c lines)) pairs
-    (all_flat_map (IsPositive system c) IsMade (λ positive. map (paired c positive) (negatives c lines)) (positives c lines)
-    (λ positive p. all_map (IsNegative system c) IsMade (paired c positive) (negatives c lines)
+    all_every (IsDerived system) (flat_map (λ positive. map (paired_line c positive) (negatives c lines)) (positives c lines)) pairs
+    (all_flat_map (IsPositive system c) IsMade (λ positive. map (paired_line c positive) (negatives c lines)) (positives c lines)
+    (λ positive p. all_map (IsNegative system c) IsMade (paired_line c positive) (negatives c lines)
     (λ negative n next s. paired_derived system c positive negative next p n s)
     (all_kept (IsDerived system) (λ line. int_lt (coefficient_at c line) (pos 0)) lines h))
     (all_kept (IsDerived system) (λ line. int_lt (pos 0) (coefficient_at c line)) lines h))
@@ -159,22 +159,22 @@ pair_stage_sound system work h = by_limit (are_too_many system made) where
       (all_filter (IsDerived system) (λ line. not (is_nonzero (coefficient_at c line))) work.lines h)
       (pairs_derived system c work.lines split.0 h split.1)))
 
-taken_out_sound : (system : System) (work : Work) → AllDerived system work.lines → IsSoundNext system (taken_out system work)
-unfolding taken_out
+taken_out_sound : (system : System) (work : Work) → AllDerived system work.lines → IsSoundNext system (take_column_out system work)
+unfolding take_column_out
 taken_out_sound system work h = by_found (find (λ line. line.equal) work.lines) refl where
-  by_found : (o : Option Line) → find (λ line. line.equal) work.lines ≡ o → IsSoundNext system (taken_out_by system work o)
+  by_found : (o : Option Line) → find (λ line. line.equal) work.lines ≡ o → IsSoundNext system (take_column_out_by system work o)
   by_found None e = pair_stage_sound system work h
   by_found (Some equality) e =
       let at = found (IsDerived system) (λ line. line.equal) work.lines equality h e in
       equality_stage_sound system work equality at.1 at.0 h
 
-then_tested_sound : (system : System) (next : Next) → IsSoundNext system next → IsSoundNext system (then_tested system next)
+then_tested_sound : (system : System) (next : Next) → IsSoundNext system next → IsSoundNext system (then_constant_test system next)
 then_tested_sound system (Goes work) h = tested_sound system (length work.kept) work h
 then_tested_sound system (Ends outcome) h = h
 
 stage_sound : (system : System) (work : Work) → AllDerived system work.lines → IsSoundNext system (stage system work)
 unfolding stage
-stage_sound system work h = then_tested_sound system (taken_out system work) (taken_out_sound system work h)
+stage_sound system work h = then_tested_sound system (take_column_out system work) (taken_out_sound system work h)
 
 -- ---- the whole
 
@@ -204,9 +204,9 @@ stages_sound zero system work h = point_sound system system.columns work.kept (r
 stages_sound (suc fuel) system work h = goes_on_sound system work (stages fuel system) work.lines (stages_sound fuel system) h
 
 pub outcome_sound : (fuel : ℕ) (system : System) → HasWidths system → IsSound system (outcome_within fuel system)
-unfolding outcome_within begun
+unfolding outcome_within beginning
 outcome_sound fuel system w =
-    or_ends_sound system (stages fuel system) (begun system) (stages_sound fuel system)
+    or_ends_sound system (stages fuel system) (beginning system) (stages_sound fuel system)
     (tested_sound system 0 (record { lines = given_lines (length system.rows) 0 system.rows; kept = []; made = 0 }) (all_given_derived system 0 system.rows refl w))
 
 pub certificate_is_sound : (system : System) (pairs : Pairs) → HasWidths system → outcome_of system ≡ Refuted pairs

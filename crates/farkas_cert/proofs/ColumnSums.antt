@@ -8,7 +8,7 @@ use Rattle.lin_rows.proofs.Numbers.{fits-true}
 use Rattle.lin_rows.proofs.Booleans.{both_true, given_where_true}
 use Rattle.farkas_cert.specs.Cert.{Pairs, InOrder, AllowsAt, row_numbered}
 use Rattle.farkas_cert.specs.Proof.{products, numbers_of}
-use Rattle.farkas_cert.specs.inside.Columns.{added, column_from, number_at}
+use Rattle.farkas_cert.specs.inside.Columns.{sum_with, column_from, number_at}
 
 pub get_or-scaled : (m : ℤ) (xs : List ℤ) (n : ℕ) → get_or (scaled m xs) n (pos 0) ≡ m *ℤ get_or xs n (pos 0)
 get_or-scaled m [] n = sym (mul-zero_ℤ m)
@@ -26,20 +26,20 @@ IsSome-InOrder rows last ((k, m) ∷ pairs) zero d h below = IsSome-AllowsAt (ro
 IsSome-InOrder rows last ((k, m) ∷ pairs) (suc n) d h below = IsSome-InOrder rows k pairs n d h.2 (omega arith)
 
 -- ---- one more pair
-column_from-step : (rows : List Row) (sum : ℤ) (column : ℕ) (p : ℕ × ℤ) (pairs : Pairs) (sum' : Option ℤ) → sum' ≡ added sum (p.1 *ℤ number_at (row_numbered rows p.0) column)
+column_from-step : (rows : List Row) (sum : ℤ) (column : ℕ) (p : ℕ × ℤ) (pairs : Pairs) (sum' : Option ℤ) → sum' ≡ sum_with sum (p.1 *ℤ number_at (row_numbered rows p.0) column)
     → column_from sum column (products rows (p ∷ pairs)) ≡ option_map_or (λ more. column_from more column (products rows pairs)) sum' (Err p.0)
 column_from-step rows sum column (k, m) pairs sum' e =
     ap (λ v. option_map_or (λ more. column_from more column (products rows pairs)) v (Err k))
-    (ap (added sum) (get_or-scaled m (numbers_of (row_numbered rows k)) column) ∙ sym e)
+    (ap (sum_with sum) (get_or-scaled m (numbers_of (row_numbered rows k)) column) ∙ sym e)
 
 pub column_from-at : (rows : List Row) (sum : ℤ) (column : ℕ) (pairs : Pairs) (n : ℕ) (d : ℕ × ℤ) (sum' : Option ℤ) → n < length pairs
-    → sum' ≡ added sum ((get_or pairs n d).1 *ℤ number_at (row_numbered rows (get_or pairs n d).0) column)
+    → sum' ≡ sum_with sum ((get_or pairs n d).1 *ℤ number_at (row_numbered rows (get_or pairs n d).0) column)
     → column_from sum column (products rows (drop n pairs)) ≡ option_map_or (λ more. column_from more column (products rows (drop (n + 1) pairs))) sum' (Err (get_or pairs n d).0)
 column_from-at rows sum column pairs n d sum' below e =
     ap (λ (ps : Pairs). column_from sum column (products rows ps)) (drop-cons pairs n d below) ∙ column_from-step rows sum column (get_or pairs n d) (drop (suc n) pairs) sum' e
     ∙ ap (λ i. option_map_or (λ more. column_from more column (products rows (drop i pairs))) sum' (Err (get_or pairs n d).0)) (sym (add-one n))
 
-pub Fits-added : (sum product more : ℤ) → added sum product ≡ Some more → Fits more
-Fits-added sum product more e =
+pub Fits-sum_with : (sum product more : ℤ) → sum_with sum product ≡ Some more → Fits more
+Fits-sum_with sum product more e =
     let parts = given_where_true (fits product && fits (product +ℤ sum)) (product +ℤ sum) more e in
     subst Fits parts.1 (fits-true (product +ℤ sum) (both_true (fits product) (fits (product +ℤ sum)) parts.0).1)

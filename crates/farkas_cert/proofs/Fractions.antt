@@ -7,7 +7,7 @@ use Rattle.std.proofs.Math.Nat.{div-mul-le_self, lt-div-mul-add}
 use Rattle.lin_rows.specs.Gcd.{gcd}
 use Rattle.lin_rows.proofs.Divisors.{IsGcd-gcd}
 use Rattle.farkas_cert.specs.Divided.{over}
-use Rattle.farkas_cert.specs.BackSubstitution.{Fraction, whole, reduced_fraction, fraction, floor_of, ceiling_of, chosen}
+use Rattle.farkas_cert.specs.BackSubstitution.{Fraction, whole, reduced_fraction, fraction, floor_of, ceiling_of, chosen_value}
 use Rattle.farkas_cert.proofs.Divisors.{over-exact}
 use Rattle.farkas_cert.proofs.Eliminates.{gcd_positive}
 use Rattle.lin_rows.proofs.Integers.{mul_comm_ℤ, mul-neg_ℤ, neg-mul_ℤ, zero-mul_ℤ}
@@ -68,7 +68,7 @@ at_most_itself k = omega (arith, linear)
 -- ---- the chosen value
 
 pub chosen_upper : (low high : Option Fraction) (u g : Fraction) → high ≡ Some u → IsAtMost u g → ((l : Fraction) → low ≡ Some l → IsAtMost l g)
-    → IsAtMost (chosen low high) g
+    → IsAtMost (chosen_value low high) g
 chosen_upper low None u g e h k = absurd cc
 chosen_upper None (Some v) u g e h k =
     let same : v ≡ u = cc in
@@ -85,7 +85,7 @@ chosen_upper (Some l) (Some v) u g e h k = by_test (int_le (ceiling_of l) (floor
   by_test true t = at_most_trans (whole (ceiling_of l)) v g (below_floor (ceiling_of l) v top.left (omega (arith, ints))) top
   by_test false t = k l refl
 
-pub chosen_lower : (low high : Option Fraction) (l f : Fraction) → low ≡ Some l → IsAtMost f l → IsAtMost f (chosen low high)
+pub chosen_lower : (low high : Option Fraction) (l f : Fraction) → low ≡ Some l → IsAtMost f l → IsAtMost f (chosen_value low high)
 chosen_lower None high l f e h = absurd cc
 chosen_lower (Some m) None l f e h =
     let same : m ≡ l = cc in
@@ -106,7 +106,7 @@ chosen_lower (Some m) (Some v) l f e h = by_test (int_le (ceiling_of m) (floor_o
 abbrev pub IsPositive : Option Fraction → Type 0
 IsPositive o = (f : Fraction) → o ≡ Some f → pos 0 <ℤ f.denominator
 
-pub chosen_positive : (low high : Option Fraction) → IsPositive low → IsPositive high → pos 0 <ℤ (chosen low high).denominator
+pub chosen_positive : (low high : Option Fraction) → IsPositive low → IsPositive high → pos 0 <ℤ (chosen_value low high).denominator
 chosen_positive None None h k = omega (arith, linear)
 chosen_positive None (Some v) h k = omega (arith, linear)
 chosen_positive (Some l) None h k = omega (arith, linear)

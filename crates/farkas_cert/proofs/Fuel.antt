@@ -3,31 +3,31 @@ use Rattle.std.proofs.Common.{◌≡◌, ℕ, zero, suc, ◌≤◌, refl, sym, a
 use Rattle.std.specs.Prelude.{⊤, find}
 use Rattle.lin_rows.specs.System.{System}
 use Rattle.farkas_cert.specs.Line.{Line, given_lines, is_false, has_variable, lowest_column, lowest_of}
-use Rattle.farkas_cert.specs.Elimination.{Outcome, Work, Next, Goes, Ends, tested, tested_by, taken_out, taken_out_by, stage, then_tested, or_ends, goes_on, stages, begun, outcome_of, outcome_within}
+use Rattle.farkas_cert.specs.Elimination.{Outcome, Work, Next, Goes, Ends, constant_test, constant_test_by, take_column_out, take_column_out_by, stage, then_constant_test, or_ends, goes_on, stages, beginning, outcome_of, outcome_within}
 use Rattle.farkas_cert.proofs.OpenColumns.{count_open, close, close_falls, IsWithin, AllWithin, AllVary, IsOpen, lowest_open, lowest_of_open, Closes, ClosesTested, equality_stage_closes, pair_stage_closes}
 use Rattle.farkas_cert.proofs.Lists.{all_filter, filter_all, all_both, found}
 
 tested_closes : (system : System) (f : ℕ → Bool) (number : ℕ) (work : Work) → Closes system.columns f (Goes work)
-    → ClosesTested system.columns f (tested system number work)
-unfolding tested
+    → ClosesTested system.columns f (constant_test system number work)
+unfolding constant_test
 tested_closes system f number work h = by_found (find (is_false system.columns) work.lines) where
-  by_found : (o : Option Line) → ClosesTested system.columns f (tested_by system number work o)
+  by_found : (o : Option Line) → ClosesTested system.columns f (constant_test_by system number work o)
   by_found None = (h.0, h.1, all_filter (IsWithin system.columns (close h.0 f)) (has_variable system.columns) work.lines h.2, filter_all (has_variable system.columns) work.lines)
   by_found (Some line) = tt
 
 then_tested_closes : (system : System) (f : ℕ → Bool) (next : Next) → Closes system.columns f next
-    → ClosesTested system.columns f (then_tested system next)
+    → ClosesTested system.columns f (then_constant_test system next)
 then_tested_closes system f (Goes work) h = tested_closes system f (length work.kept) work h
 then_tested_closes system f (Ends outcome) h = tt
 
 taken_out_closes : (system : System) (f : ℕ → Bool) (work : Work) (line : Line) (lines : List Line) → work.lines ≡ line ∷ lines
-    → AllWithin system.columns f work.lines → AllVary system.columns work.lines → Closes system.columns f (taken_out system work)
-unfolding taken_out
+    → AllWithin system.columns f work.lines → AllVary system.columns work.lines → Closes system.columns f (take_column_out system work)
+unfolding take_column_out
 taken_out_closes system f work line lines s h v = by_found (find (λ line. line.equal) work.lines) refl where
   n : ℕ
   n = system.columns
 
-  by_found : (o : Option Line) → find (λ line. line.equal) work.lines ≡ o → Closes system.columns f (taken_out_by system work o)
+  by_found : (o : Option Line) → find (λ line. line.equal) work.lines ≡ o → Closes system.columns f (take_column_out_by system work o)
   by_found None e = pair_stage_closes system f work
       (subst (λ (all : List Line). IsOpen n f (lowest_of n all)) (sym s)
       (lowest_of_open n f line lines (subst (λ (all : List Line). AllWithin n f all) s h) (subst (λ (all : List Line). AllVary n all) s v))) h
@@ -38,7 +38,7 @@ taken_out_closes system f work line lines s h v = by_found (find (λ line. line.
 pub stage_closes : (system : System) (f : ℕ → Bool) (work : Work) (line : Line) (lines : List Line) → work.lines ≡ line ∷ lines
     → AllWithin system.columns f work.lines → AllVary system.columns work.lines → ClosesTested system.columns f (stage system work)
 unfolding stage
-stage_closes system f work line lines s h v = then_tested_closes system f (taken_out system work) (taken_out_closes system f work line lines s h v)
+stage_closes system f work line lines s h v = then_tested_closes system f (take_column_out system work) (taken_out_closes system f work line lines s h v)
 
 -- No line is left where no column is open.
 pub none_left : (n : ℕ) (f : ℕ → Bool) (lines : List Line) → AllWithin n f lines → AllVary n lines → count_open n f ≤ 0 → lines ≡ []
@@ -88,11 +88,11 @@ abbrev pub Varies : System → Next → Type 0
 Varies system (Goes work) = AllVary system.columns work.lines
 Varies system (Ends outcome) = ⊤
 
-pub begun_varies : (system : System) → Varies system (begun system)
-unfolding begun tested
+pub begun_varies : (system : System) → Varies system (beginning system)
+unfolding beginning constant_test
 begun_varies system = by_found (find (is_false system.columns) (given_lines (length system.rows) 0 system.rows)) where
   by_found : (o : Option Line)
-      → Varies system (tested_by system 0 (record { lines = given_lines (length system.rows) 0 system.rows; kept = []; made = 0 }) o)
+      → Varies system (constant_test_by system 0 (record { lines = given_lines (length system.rows) 0 system.rows; kept = []; made = 0 }) o)
   by_found None = filter_all (has_variable system.columns) (given_lines (length system.rows) 0 system.rows)
   by_found (Some line) = tt
 
@@ -105,4 +105,4 @@ same_begun fuel system (Ends outcome) l v = refl
 
 pub same_outcome : (fuel : ℕ) (system : System) → system.columns ≤ fuel → outcome_within fuel system ≡ outcome_of system
 unfolding outcome_within
-same_outcome fuel system l = same_begun fuel system (begun system) l (begun_varies system)
+same_outcome fuel system l = same_begun fuel system (beginning system) l (begun_varies system)

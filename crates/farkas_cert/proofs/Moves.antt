@@ -8,7 +8,7 @@ use Rattle.lin_rows.specs.Gcd.{gcd}
 use Rattle.lin_rows.proofs.Divisors.{IsGcd-gcd}
 use Rattle.farkas_cert.specs.Divided.{over}
 use Rattle.farkas_cert.specs.Line.{Line, coefficient_at, bound_of, all_fit}
-use Rattle.farkas_cert.specs.BackSubstitution.{RationalPoint, Fraction, assigned}
+use Rattle.farkas_cert.specs.BackSubstitution.{RationalPoint, Fraction, assigned_point}
 use Rattle.farkas_cert.proofs.Divisors.{over-exact}
 use Rattle.farkas_cert.proofs.Eliminates.{gcd_positive, positive_abs}
 use Rattle.farkas_cert.proofs.Fractions.{positive_over, not_negative}
@@ -34,8 +34,8 @@ some_point true x y e = cc
 some_point false x y e = absurd cc
 
 pub assigned_moved : (c : ℕ) (point : RationalPoint) (f : Fraction) (next : RationalPoint) → pos 0 <ℤ point.denominator → pos 0 <ℤ f.denominator
-    → assigned c point f ≡ Some next → Moved c point f next
-unfolding assigned
+    → assigned_point c point f ≡ Some next → Moved c point f next
+unfolding assigned_point
 assigned_moved c point f next h k e =
     let g = gcd (unsigned_abs point.denominator) (unsigned_abs f.denominator) in
     let d = IsGcd-gcd (unsigned_abs point.denominator) (unsigned_abs f.denominator) in

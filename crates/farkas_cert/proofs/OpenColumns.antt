@@ -13,7 +13,7 @@ use Rattle.lin_rows.proofs.Lists.{AllByRecursion-append}
 use Rattle.farkas_cert.specs.Divided.{over}
 use Rattle.farkas_cert.specs.Line.{Line, coefficient_at, has_variable, is_nonzero, combination, made_line, lowest_column, lowest_of}
 use Rattle.farkas_cert.specs.BackSubstitution.{Kept, Solved, Bounded}
-use Rattle.farkas_cert.specs.Elimination.{Leaves, Work, Next, Goes, Ends, every, follows, without_equality, substituted, equality_stage, paired, positives, negatives, with_column, without_column, pairs_at, are_too_many, pair_stage}
+use Rattle.farkas_cert.specs.Elimination.{Leaves, Work, Next, Goes, Ends, every, follows, without_equality, substituted_line, equality_stage, paired_line, positives, negatives, with_column, without_column, pairs_at, are_too_many, pair_stage}
 use Rattle.farkas_cert.specs.declared.answers.LeaveKind.TheVariants.{Rows}
 use Rattle.farkas_cert.proofs.Linear.{get-linear, of_combination, divided_vanishes}
 use Rattle.farkas_cert.proofs.Derived.{made_is, made_vanishes}
@@ -183,8 +183,8 @@ made_loses c equal a left b right line h e =
     (of_combination (λ xs. get_or xs c (pos 0)) (get-linear c) a left.numbers b right.numbers ∙ h))
 
 pub substituted_closes : (n c : ℕ) (f : ℕ → Bool) (equality line next : Line) → IsWithin n f equality → IsWithin n f line
-    → substituted c equality line ≡ Some next → IsWithin n (close c f) next
-unfolding substituted
+    → substituted_line c equality line ≡ Some next → IsWithin n (close c f) next
+unfolding substituted_line
 substituted_closes n c f equality line next h k e = at (is_nonzero q) refl e where
   p : ℤ
   p = coefficient_at c equality
@@ -205,8 +205,8 @@ substituted_closes n c f equality line next h k e = at (is_nonzero q) refl e whe
   at false t e = let same : line ≡ next = cc in subst (λ (l : Line). IsWithin n (close c f) l) same (within_closed n c f line k (zero_by_test q t))
 
 pub paired_closes : (n c : ℕ) (f : ℕ → Bool) (positive negative next : Line) → IsWithin n f positive → IsWithin n f negative
-    → int_lt (pos 0) (coefficient_at c positive) ≡ true → paired c positive negative ≡ Some next → IsWithin n (close c f) next
-unfolding paired
+    → int_lt (pos 0) (coefficient_at c positive) ≡ true → paired_line c positive negative ≡ Some next → IsWithin n (close c f) next
+unfolding paired_line
 paired_closes n c f positive negative next h k t e =
     let p = coefficient_at c positive in
     let q = neg_ℤ (coefficient_at c negative) in
@@ -231,9 +231,9 @@ equality_stage_closes system f work equality e v h =
     let n = system.columns in
     let c = lowest_column n equality in
     let rest = without_equality work.lines in
-    closes_follows n f work (Solved c equality) work.made c (every (map (substituted c equality) rest)) (lowest_open n f equality e v)
-    (λ lines m. all_every (IsWithin n (close c f)) (map (substituted c equality) rest) lines
-    (all_map (IsWithin n f) (λ o. (line : Line) → o ≡ Some line → IsWithin n (close c f) line) (substituted c equality) rest
+    closes_follows n f work (Solved c equality) work.made c (every (map (substituted_line c equality) rest)) (lowest_open n f equality e v)
+    (λ lines m. all_every (IsWithin n (close c f)) (map (substituted_line c equality) rest) lines
+    (all_map (IsWithin n f) (λ o. (line : Line) → o ≡ Some line → IsWithin n (close c f) line) (substituted_line c equality) rest
     (λ line d next s. substituted_closes n c f equality line next e d s)
     (without_equality_within n f work.lines h)) m)
 
@@ -241,9 +241,9 @@ pairs_close : (n c : ℕ) (f : ℕ → Bool) (lines pairs : List Line) → AllWi
 unfolding pairs_at
 pairs_close n c f lines pairs h e =
     let IsMade : Option Line → Type 0 = λ o. (line : Line) → o ≡ Some line → IsWithin n (close c f) line in
-    all_every (IsWithin n (close c f)) (flat_map (λ positive. map (paired c positive) (negatives c lines)) (positives c lines)) pairs
-    (all_flat_map (λ line. IsWithin n f line × (int_lt (pos 0) (coefficient_at c line) ≡ true)) IsMade (λ positive. map (paired c positive) (negatives c lines)) (positives c lines)
-    (λ positive p. all_map (IsWithin n f) IsMade (paired c positive) (negatives c lines)
+    all_every (IsWithin n (close c f)) (flat_map (λ positive. map (paired_line c positive) (negatives c lines)) (positives c lines)) pairs
+    (all_flat_map (λ line. IsWithin n f line × (int_lt (pos 0) (coefficient_at c line) ≡ true)) IsMade (λ positive. map (paired_line c positive) (negatives c lines)) (positives c lines)
+    (λ positive p. all_map (IsWithin n f) IsMade (paired_line c positive) (negatives c lines)
     (λ negative k next s. paired_closes n c f positive negative next p.0 k p.1 s)
     (all_filter (IsWithin n f) (λ line. int_lt (coefficient_at c line) (pos 0)) lines h))
     (all_kept (IsWithin n f) (λ line. int_lt (pos 0) (coefficient_at c line)) lines h))

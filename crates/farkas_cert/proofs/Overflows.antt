@@ -6,7 +6,7 @@ use Rattle.std.specs.List.{AllByRecursion}
 use Rattle.thr_base.specs.Number.{fits}
 use Rattle.lin_rows.specs.Row.{sum_of}
 use Rattle.farkas_cert.specs.Proof.{unfit_place, first_unfit}
-use Rattle.farkas_cert.specs.inside.Columns.{added, column_from, earlier}
+use Rattle.farkas_cert.specs.inside.Columns.{sum_with, column_from, earlier}
 
 abbrev Terms : Type 0
 Terms = List (ℕ × List ℤ)
@@ -91,7 +91,7 @@ above_map_or last k c rest (Some m) h all = all m
 column_from-above : (last c : ℕ) (sum : ℤ) (terms : Terms) → Rising last terms → AboveResult last (column_from sum c terms)
 column_from-above last c sum [] h = tt
 column_from-above last c sum ((k, ps) ∷ rest) h =
-    above_map_or last k c rest (added sum (get_or ps c (pos 0))) h.0 (λ m. AboveResult-below last k _ h.0 (column_from-above k c m rest h.1))
+    above_map_or last k c rest (sum_with sum (get_or ps c (pos 0))) h.0 (λ m. AboveResult-below last k _ h.0 (column_from-above k c m rest h.1))
 
 -- ---- one more column
 -- the first c places of each pair

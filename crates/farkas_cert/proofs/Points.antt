@@ -7,10 +7,10 @@ use Rattle.std.proofs.lemmas.Int.{ints}
 use Rattle.std.proofs.lemmas.List.{length-replicate}
 use Rattle.lin_rows.specs.Row.{Row, product_of, MeetsOver}
 use Rattle.lin_rows.specs.System.{System, HasWidths, IsRationalPoint}
-use Rattle.farkas_cert.specs.Line.{Line, given_line, given_lines, coefficient_at, bound_of, is_nonzero, is_false, fails, has_variable, lowest_column, lowest_of, refuting, listed}
+use Rattle.farkas_cert.specs.Line.{Line, given_line, given_lines, coefficient_at, bound_of, is_nonzero, is_false, fails, has_variable, lowest_column, lowest_of, refuting, nonzero_pairs}
 use Rattle.farkas_cert.specs.Proof.{overflow_of}
-use Rattle.farkas_cert.specs.BackSubstitution.{RationalPoint, Fraction, Kept, Solved, Bounded, bound_on, bounds_from, chosen, assigned, set_column}
-use Rattle.farkas_cert.specs.Elimination.{Outcome, Refuted, Point, Leaves, Work, Next, Goes, Ends, every, refuted, tested, tested_by, follows, without_equality, substituted, equality_stage, with_column, without_column, positives, negatives, pairs_at, are_too_many, pair_stage, taken_out, taken_out_by, stage, then_tested, or_leaves, point_from, point_of, or_ends, goes_on, stages, begun, outcome_of, outcome_within}
+use Rattle.farkas_cert.specs.BackSubstitution.{RationalPoint, Fraction, Kept, Solved, Bounded, bound_on, bounds_from, chosen_value, assigned_point, set_column}
+use Rattle.farkas_cert.specs.Elimination.{Outcome, Refuted, Point, Leaves, Work, Next, Goes, Ends, every, refutation_outcome, constant_test, constant_test_by, follows, without_equality, substituted_line, equality_stage, with_column, without_column, positives, negatives, pairs_at, are_too_many, pair_stage, take_column_out, take_column_out_by, stage, then_constant_test, or_leaves, point_from, point_of, or_ends, goes_on, stages, beginning, outcome_of, outcome_within}
 use Rattle.farkas_cert.specs.declared.answers.LeaveKind.TheVariants.{Overflow, Rows}
 use Rattle.lin_rows.proofs.Integers.{zero-mul_ℤ}
 use Rattle.farkas_cert.proofs.Integers.{linear, mul_right_le_ℤ}
@@ -83,16 +83,16 @@ abbrev pub NextLeads : System → Next → Type 0
 NextLeads system (Goes work) = Leads system work.lines work.kept
 NextLeads system (Ends outcome) = NoPoint outcome
 
-no_point_refuted : (system : System) (number : ℕ) (ms : List ℤ) → NoPoint (refuted system number ms)
-no_point_refuted system number ms x d = at (is_none (overflow_of system.rows (listed 1 ms))) where
-  at : (b : Bool) → ¬ (cond b (Refuted (listed 1 ms)) (Leaves number Overflow) ≡ Point x d)
+no_point_refuted : (system : System) (number : ℕ) (ms : List ℤ) → NoPoint (refutation_outcome system number ms)
+no_point_refuted system number ms x d = at (is_none (overflow_of system.rows (nonzero_pairs 1 ms))) where
+  at : (b : Bool) → ¬ (cond b (Refuted (nonzero_pairs 1 ms)) (Leaves number Overflow) ≡ Point x d)
   at true e = cc
   at false e = cc
 
-tested_leads : (system : System) (number : ℕ) (work : Work) → Leads system work.lines work.kept → NextLeads system (tested system number work)
-unfolding tested
+tested_leads : (system : System) (number : ℕ) (work : Work) → Leads system work.lines work.kept → NextLeads system (constant_test system number work)
+unfolding constant_test
 tested_leads system number work h = at (find (is_false system.columns) work.lines) refl where
-  at : (o : Option Line) → find (is_false system.columns) work.lines ≡ o → NextLeads system (tested_by system number work o)
+  at : (o : Option Line) → find (is_false system.columns) work.lines ≡ o → NextLeads system (constant_test_by system number work o)
   at None e = λ point x d over meets. h point x d over (all_tested system.columns point work.lines over.positive e meets)
   at (Some line) e = no_point_refuted system number (refuting system.columns line)
 
@@ -125,7 +125,7 @@ lost_column n c line l h = h c l (closed_here c all_open)
 
 equality_leads : (system : System) (work : Work) (equality : Line) (lines : List Line) → find (λ line. line.equal) work.lines ≡ Some equality
     → equality.equal ≡ true → has_variable system.columns equality ≡ true
-    → every (map (substituted (lowest_column system.columns equality) equality) (without_equality work.lines)) ≡ Some lines
+    → every (map (substituted_line (lowest_column system.columns equality) equality) (without_equality work.lines)) ≡ Some lines
     → Leads system work.lines work.kept → Leads system lines (Solved (lowest_column system.columns equality) equality ∷ work.kept)
 unfolding point_from set_column
 equality_leads system work equality lines found_it t v made h point x d over meets e =
@@ -134,13 +134,13 @@ equality_leads system work equality lines found_it t v made h point x d over mee
     let low = lowest_is n equality v in
     let step = step_is (suc (length work.kept)) (point_from n work.kept) (set_column n point (Solved c equality)) x d e in
     let next = step.0 in
-    let set = and_then_is (assigned c point) (bound_on n c point equality) next step.1 in
+    let set = and_then_is (assigned_point c point) (bound_on n c point equality) next step.1 in
     let bound = bound_is n c point equality set.0 low.1 over.positive set.1 in
     let moved = assigned_moved c point set.0 next over.positive bound.positive set.2 in
     let solved = solved_meets n c point set.0 next equality moved low.0 over.whole over.positive low.1 t set.1 in
     h next x d (moved_over n c point set.0 next moved over)
     (with_equality (MeetsLine n next) work.lines equality found_it solved
-    (all_back (MeetsLine n next) (MeetsLine n point) (substituted c equality) (without_equality work.lines) lines
+    (all_back (MeetsLine n next) (MeetsLine n point) (substituted_line c equality) (without_equality work.lines) lines
     (λ line other s m. substituted_back n c next equality line other low.1 t solved s
     (still_meets n c point set.0 next other moved low.0 over.whole
     (lost_column n c other low.0 (substituted_closes n c all_open equality line other (λ j l e. absurd cc) (λ j l e. absurd cc) s)) m))
@@ -157,9 +157,9 @@ pair_leads system work c pairs l q made h point x d over meets e =
     let n = system.columns in
     let step = step_is (suc (length work.kept)) (point_from n work.kept) (set_column n point (Bounded c (with_column c work.lines))) x d e in
     let next = step.0 in
-    let set = and_then_is (λ b. assigned c point (chosen b.lower b.upper)) (bounds_from n c point no_bounds (with_column c work.lines)) next step.1 in
+    let set = and_then_is (λ b. assigned_point c point (chosen_value b.lower b.upper)) (bounds_from n c point no_bounds (with_column c work.lines)) next step.1 in
     let bounds = set.0 in
-    let w = chosen bounds.lower bounds.upper in
+    let w = chosen_value bounds.lower bounds.upper in
     let moved = assigned_moved c point w next over.positive (chosen_has_positive n c point work.lines bounds over.positive set.1) set.2 in
     let kept = all_kept_meet n c point next work.lines pairs bounds moved l over.whole over.positive q made (all_right (MeetsLine n point) (without_column c work.lines) pairs meets) set.1 in
     let others = all_from (λ line. MeetsLine n point line × (not (is_nonzero (coefficient_at c line)) ≡ true)) (MeetsLine n next) (without_column c work.lines)
@@ -182,7 +182,7 @@ equality_stage_leads : (system : System) (work : Work) (equality : Line) → fin
 unfolding equality_stage
 equality_stage_leads system work equality e t v h =
     let c = lowest_column system.columns equality in
-    follows_leads system work (Solved c equality) work.made (every (map (substituted c equality) (without_equality work.lines)))
+    follows_leads system work (Solved c equality) work.made (every (map (substituted_line c equality) (without_equality work.lines)))
     (λ lines m. equality_leads system work equality lines e t v m h)
 
 pair_stage_leads : (system : System) (work : Work) → lowest_of system.columns work.lines < system.columns
@@ -203,13 +203,13 @@ pair_stage_leads system work l q h = by_limit (are_too_many system made) where
       subst (λ (all : List Line). Leads system all (Bounded c (with_column c work.lines) ∷ work.kept)) split.2 (pair_leads system work c split.0 l q split.1 h))
 
 taken_out_leads : (system : System) (work : Work) (line : Line) (lines : List Line) → work.lines ≡ line ∷ lines → AllVary system.columns work.lines
-    → Leads system work.lines work.kept → NextLeads system (taken_out system work)
-unfolding taken_out
+    → Leads system work.lines work.kept → NextLeads system (take_column_out system work)
+unfolding take_column_out
 taken_out_leads system work line lines s v h = at (find (λ line. line.equal) work.lines) refl where
   n : ℕ
   n = system.columns
 
-  at : (o : Option Line) → find (λ line. line.equal) work.lines ≡ o → NextLeads system (taken_out_by system work o)
+  at : (o : Option Line) → find (λ line. line.equal) work.lines ≡ o → NextLeads system (take_column_out_by system work o)
   at None e = pair_stage_leads system work
       (subst (λ (all : List Line). IsOpen n all_open (lowest_of n all)) (sym s)
       (lowest_of_open n all_open line lines (all_within n (line ∷ lines)) (subst (λ (all : List Line). AllVary n all) s v))).0
@@ -218,14 +218,14 @@ taken_out_leads system work line lines s v h = at (find (λ line. line.equal) wo
       let k = found (λ l. has_variable n l ≡ true) (λ line. line.equal) work.lines equality v e in
       equality_stage_leads system work equality e k.1 k.0 h
 
-then_tested_leads : (system : System) (next : Next) → NextLeads system next → NextLeads system (then_tested system next)
+then_tested_leads : (system : System) (next : Next) → NextLeads system next → NextLeads system (then_constant_test system next)
 then_tested_leads system (Goes work) h = tested_leads system (length work.kept) work h
 then_tested_leads system (Ends outcome) h = h
 
 stage_leads : (system : System) (work : Work) (line : Line) (lines : List Line) → work.lines ≡ line ∷ lines → AllVary system.columns work.lines
     → Leads system work.lines work.kept → NextLeads system (stage system work)
 unfolding stage
-stage_leads system work line lines s v h = then_tested_leads system (taken_out system work) (taken_out_leads system work line lines s v h)
+stage_leads system work line lines s v h = then_tested_leads system (take_column_out system work) (taken_out_leads system work line lines s v h)
 
 -- ---- the whole
 
@@ -292,7 +292,7 @@ outcome_by system (Goes work) x d v h e = stages_lead system.columns system all_
 outcome_by system (Ends outcome) x d v h e = absurd (h x d e)
 
 pub point_is_sound : (system : System) (x : List ℤ) (d : ℤ) → HasWidths system → outcome_of system ≡ Point x d → IsRationalPoint system x d
-unfolding outcome_within begun
+unfolding outcome_within beginning
 point_is_sound system x d w e =
-    outcome_by system (begun system) x d (begun_varies system)
+    outcome_by system (beginning system) x d (begun_varies system)
     (tested_leads system 0 (record { lines = given_lines (length system.rows) 0 system.rows; kept = []; made = 0 }) (given_leads system w)) e

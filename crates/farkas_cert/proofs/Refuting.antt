@@ -10,7 +10,7 @@ use Rattle.lin_rows.specs.System.{System}
 use Rattle.lin_rows.proofs.Booleans.{both_true}
 use Rattle.farkas_cert.specs.Cert.{Refutes, weighted_sum}
 use Rattle.farkas_cert.specs.Reduced.{IsReduced}
-use Rattle.farkas_cert.specs.Line.{Line, given_line, given_lines, bound_of, multipliers_of, is_nonzero, has_variable, fails, is_false, refuting, listed}
+use Rattle.farkas_cert.specs.Line.{Line, given_line, given_lines, bound_of, multipliers_of, is_nonzero, has_variable, fails, is_false, refuting, nonzero_pairs}
 use Rattle.lin_rows.proofs.Divisors.{DividesAll, AllZero}
 use Rattle.lin_rows.proofs.Integers.{zero-mul_ℤ, one-mul_ℤ, neg-mul_ℤ}
 use Rattle.farkas_cert.proofs.Integers.{linear}
@@ -139,11 +139,11 @@ product_neg (m ∷ ms) [] = refl
 product_neg (m ∷ ms) (z ∷ zs) = omega (arith, linear, neg-mul_ℤ m z, product_neg ms zs)
 
 refutes_by : (system : System) (equal : Bool) (ms : List ℤ) → Signs equal system.rows ms
-    → ((y : List ℤ) → product_of ms (values_at y system.rows) ≡ pos 0) → product_of ms (bounds_of system.rows) <ℤ pos 0 → Refutes system (listed 1 ms)
+    → ((y : List ℤ) → product_of ms (values_at y system.rows) ≡ pos 0) → product_of ms (bounds_of system.rows) <ℤ pos 0 → Refutes system (nonzero_pairs 1 ms)
 refutes_by system equal ms s c b = record {
   in_order = listed_in_order system.rows system.rows 0 0 equal ms (omega arith) refl s;
   contradicts = record {
-    cancels = zeros_from_products (weighted_sum system.rows (listed 1 ms)).coefficients (λ y. weighted_coefficients system.rows system.rows 0 equal ms y refl s ∙ c y);
+    cancels = zeros_from_products (weighted_sum system.rows (nonzero_pairs 1 ms)).coefficients (λ y. weighted_coefficients system.rows system.rows 0 equal ms y refl s ∙ c y);
     negative = rw (weighted_bound system.rows system.rows 0 equal ms refl s) b;
   };
 }
@@ -178,7 +178,7 @@ nonzero_negative (negsuc n) f p = omega (arith, ints)
 
 -- what has to be shown of the multipliers of a false line
 abbrev pub IsProvedBy : System → List ℤ → Type 0
-IsProvedBy system ms = Refutes system (listed 1 ms) × IsReduced (listed 1 ms)
+IsProvedBy system ms = Refutes system (nonzero_pairs 1 ms) × IsReduced (nonzero_pairs 1 ms)
 
 by_negative : (system : System) (line : Line) → IsDerived system line → AllZero (take system.columns line.numbers)
     → bound_of system.columns line <ℤ pos 0 → IsProvedBy system (multipliers_of system.columns line)

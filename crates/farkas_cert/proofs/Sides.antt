@@ -8,7 +8,7 @@ use Rattle.lin_rows.proofs.Divisors.{IsGcd-gcd}
 use Rattle.farkas_cert.specs.Divided.{over, divided}
 use Rattle.farkas_cert.specs.Line.{Line, coefficient_at, is_nonzero, combination, made_line}
 use Rattle.farkas_cert.specs.BackSubstitution.{RationalPoint, Fraction, bound_on}
-use Rattle.farkas_cert.specs.Elimination.{paired, substituted}
+use Rattle.farkas_cert.specs.Elimination.{paired_line, substituted_line}
 use Rattle.farkas_cert.proofs.Divisors.{over-exact}
 use Rattle.farkas_cert.proofs.Eliminates.{gcd_positive_left, positive_abs, nonzero_abs}
 use Rattle.farkas_cert.proofs.Fractions.{IsAtMost, IsFractionOf, fraction_is, positive_over, not_negative}
@@ -133,8 +133,8 @@ unreduced n point equal a left b right next e h =
     subst (λ t. Holds equal t) (of_combination (slack n point) (slack_linear n point) a left.numbers b right.numbers) (holds_unreduced equal (slack n point) (slack_linear n point) xs here)
 
 pub substituted_back : (n c : ℕ) (point : RationalPoint) (equality line next : Line) → is_nonzero (coefficient_at c equality) ≡ true
-    → equality.equal ≡ true → MeetsLine n point equality → substituted c equality line ≡ Some next → MeetsLine n point next → MeetsLine n point line
-unfolding substituted
+    → equality.equal ≡ true → MeetsLine n point equality → substituted_line c equality line ≡ Some next → MeetsLine n point next → MeetsLine n point line
+unfolding substituted_line
 substituted_back n c point equality line next z t m e h = at (is_nonzero q) refl e where
   p : ℤ
   p = coefficient_at c equality
@@ -183,8 +183,8 @@ pub paired_bounds : (n c : ℕ) (point : RationalPoint) (positive negative next 
     → pos 0 <ℤ coefficient_at c positive → coefficient_at c negative <ℤ pos 0
     → IsFractionOf (rest_of n c point positive) (coefficient_at c positive *ℤ point.denominator) f
     → IsFractionOf (rest_of n c point negative) (coefficient_at c negative *ℤ point.denominator) g
-    → paired c positive negative ≡ Some next → MeetsLine n point next → IsAtMost g f
-unfolding paired
+    → paired_line c positive negative ≡ Some next → MeetsLine n point next → IsAtMost g f
+unfolding paired_line
 paired_bounds n c point positive negative next f g l d hp hn i k e h = record {
   left = k.positive;
   right = i.positive;

@@ -5,7 +5,7 @@ use Rattle.std.proofs.Math.Nat.{zero-div}
 use Rattle.lin_rows.specs.Row.{Row, scaled, sum_of}
 use Rattle.farkas_cert.specs.Cert.{InOrder, AllowsAt, Allows, row_numbered}
 use Rattle.farkas_cert.specs.Divided.{over}
-use Rattle.farkas_cert.specs.Line.{listed}
+use Rattle.farkas_cert.specs.Line.{nonzero_pairs}
 use Rattle.lin_rows.proofs.Integers.{mul-zero_ℤ}
 use Rattle.farkas_cert.proofs.Integers.{linear, mul-not_negative_ℤ}
 
@@ -112,8 +112,8 @@ allowed_at : (all rows : List Row) (k : ℕ) (row : Row) (equal : Bool) (m : ℤ
 allowed_at all rows k row equal m e h = subst (λ (o : Option Row). AllowsAt o m) (sym (split_at all rows k row e).0) (row_allows row equal m h)
 
 pub listed_in_order : (all rows : List Row) (last k : ℕ) (equal : Bool) (ms : List ℤ) → last ≤ k → drop k all ≡ rows → Signs equal rows ms
-    → InOrder all last (listed (suc k) ms)
-unfolding listed
+    → InOrder all last (nonzero_pairs (suc k) ms)
+unfolding nonzero_pairs
 listed_in_order all rows last k equal [] l e h = tt
 listed_in_order all [] last k equal (m ∷ ms) l e h = absurd h
 listed_in_order all (row ∷ rows) last k equal (pos zero ∷ ms) l e h =

@@ -11,8 +11,8 @@ use Rattle.lin_rows.specs.System.{System, HasWidths}
 use Rattle.lin_rows.proofs.Booleans.{both_true}
 use Rattle.farkas_cert.specs.Cert.{Pairs, InOrder, AllowsAt, IsContradiction, row_numbered, add_weighted, weighted_sum}
 use Rattle.farkas_cert.specs.Proof.{products, numbers_of, first_unfit, overflow_of}
-use Rattle.farkas_cert.specs.inside.Columns.{added, column_from, earlier}
-use Rattle.farkas_cert.specs.inside.Weighing.{weighed_with, weighed_to, is_below_zero, answer_of, answered}
+use Rattle.farkas_cert.specs.inside.Columns.{sum_with, column_from, earlier}
+use Rattle.farkas_cert.specs.inside.Weighing.{weighed_with, weighed_to, is_below_zero, answer_of, answer_of_weights}
 use Rattle.farkas_cert.specs.Answer.{IsCertAnswer}
 use Rattle.farkas_cert.specs.declared.columns.Weighed.{Weighed}
 use Rattle.farkas_cert.proofs.ColumnSums.{get_or-scaled}
@@ -26,24 +26,24 @@ abbrev pub total : ℕ → Terms → ℤ
 total c [] = pos 0
 total c ((k, ps) ∷ rest) = get_or ps c (pos 0) +ℤ total c rest
 
-added-some : (sum p more : ℤ) → added sum p ≡ Some more → more ≡ p +ℤ sum
-added-some sum p more e = only (fits p && fits (p +ℤ sum)) e
+sum_with-some : (sum p more : ℤ) → sum_with sum p ≡ Some more → more ≡ p +ℤ sum
+sum_with-some sum p more e = only (fits p && fits (p +ℤ sum)) e
   where
     only : (b : Bool) → cond b (Some (p +ℤ sum)) None ≡ Some more → more ≡ p +ℤ sum
     only true e = cc
     only false e = cc
 
-total-some : (c : ℕ) (sum p t rest : ℤ) (k : ℕ) (after : ℤ → Result ℤ ℕ) → ((more : ℤ) → after more ≡ Ok t → t ≡ more +ℤ rest) → (o : Option ℤ) → added sum p ≡ o → option_map_or after o (Err k) ≡ Ok t → t ≡ sum +ℤ (p +ℤ rest)
+total-some : (c : ℕ) (sum p t rest : ℤ) (k : ℕ) (after : ℤ → Result ℤ ℕ) → ((more : ℤ) → after more ≡ Ok t → t ≡ more +ℤ rest) → (o : Option ℤ) → sum_with sum p ≡ o → option_map_or after o (Err k) ≡ Ok t → t ≡ sum +ℤ (p +ℤ rest)
 total-some c sum p t rest k after later None is e = cc
 total-some c sum p t rest k after later (Some more) is e =
     let rest_is = later more e in
-    let more_is = added-some sum p more is in
+    let more_is = sum_with-some sum p more is in
     omega (arith, ints)
 
 column_from-total : (c : ℕ) (sum t : ℤ) (terms : Terms) → column_from sum c terms ≡ Ok t → t ≡ sum +ℤ total c terms
 column_from-total c sum t [] e = let same : t ≡ sum = cc in omega (arith, ints)
 column_from-total c sum t ((k, ps) ∷ rest) e =
-    total-some c sum (get_or ps c (pos 0)) t (total c rest) k (λ m. column_from m c rest) (λ more h. column_from-total c more t rest h) (added sum (get_or ps c (pos 0))) refl e
+    total-some c sum (get_or ps c (pos 0)) t (total c rest) k (λ m. column_from m c rest) (λ more h. column_from-total c more t rest h) (sum_with sum (get_or ps c (pos 0))) refl e
 
 -- ---- the shape of the products
 pub Rising-products : (rows : List Row) (last : ℕ) (pairs : Pairs) → InOrder rows last pairs → Rising last (products rows pairs)
@@ -262,9 +262,9 @@ contradicts-by_columns system pairs widths in_order none =
           (negative.1 (subst (λ v. v <ℤ pos 0) (sym (total-bound n rows 0 pairs widths in_order)) contradiction.negative)),
     )
 
-pub IsCertAnswer-answered : (system : System) (pairs : Pairs) → HasWidths system → InOrder system.rows 0 pairs
-    → IsCertAnswer system pairs (answered (weighed_to system.columns (products system.rows pairs)) system.columns (column_from (pos 0) system.columns (products system.rows pairs)))
-IsCertAnswer-answered system pairs widths in_order =
+pub IsCertAnswer-answer_of_weights : (system : System) (pairs : Pairs) → HasWidths system → InOrder system.rows 0 pairs
+    → IsCertAnswer system pairs (answer_of_weights (weighed_to system.columns (products system.rows pairs)) system.columns (column_from (pos 0) system.columns (products system.rows pairs)))
+IsCertAnswer-answer_of_weights system pairs widths in_order =
     let n = system.columns in
     let terms = products system.rows pairs in
     let r = column_from (pos 0) n terms in
@@ -274,6 +274,6 @@ IsCertAnswer-answered system pairs widths in_order =
     let is = ap (first_unfit []) (sym (fronts_all (suc n) terms wide)) ∙ sym (overflow-weighed_to (suc n) (suc n) 0 terms rising wide (le_refl (suc n))) in
     answer_is system pairs (weighed_with seen n r).overflow (seen.cancels && is_below_zero r) in_order is (contradicts-by_columns system pairs widths in_order)
 
-pub answered-same : (terms : Terms) (seen seen' : Weighed) (n n' : ℕ) (r : Result ℤ ℕ) → seen ≡ seen' → n ≡ n' → r ≡ column_from (pos 0) n terms → answered seen n r ≡ answered seen' n' (column_from (pos 0) n' terms)
-answered-same terms seen seen' n n' r p q e =
-    ap (answered seen n) e ∙ ap (λ m. answered seen m (column_from (pos 0) m terms)) q ∙ ap (λ s. answered s n' (column_from (pos 0) n' terms)) p
+pub answer_of_weights-same : (terms : Terms) (seen seen' : Weighed) (n n' : ℕ) (r : Result ℤ ℕ) → seen ≡ seen' → n ≡ n' → r ≡ column_from (pos 0) n terms → answer_of_weights seen n r ≡ answer_of_weights seen' n' (column_from (pos 0) n' terms)
+answer_of_weights-same terms seen seen' n n' r p q e =
+    ap (answer_of_weights seen n) e ∙ ap (λ m. answer_of_weights seen m (column_from (pos 0) m terms)) q ∙ ap (λ s. answer_of_weights s n' (column_from (pos 0) n' terms)) p

@@ -10,7 +10,7 @@ use Rattle.lin_rows.specs.Row.{Row, product_of, scaled}
 use Rattle.lin_rows.proofs.Points.{product_of-nil}
 use Rattle.farkas_cert.specs.Cert.{add_weighted, row_numbered, weighted_sum}
 use Rattle.farkas_cert.specs.Divided.{over}
-use Rattle.farkas_cert.specs.Line.{listed}
+use Rattle.farkas_cert.specs.Line.{nonzero_pairs}
 use Rattle.lin_rows.proofs.Divisors.{DividesAll}
 use Rattle.farkas_cert.proofs.Divisors.{over-exact}
 use Rattle.lin_rows.proofs.Integers.{mul-add_ℤ, mul_assoc_ℤ, zero-mul_ℤ, mul-zero_ℤ}
@@ -26,10 +26,10 @@ values_at y rows = map (λ row. product_of row.coefficients y) rows
 abbrev pub bounds_of : List Row → List ℤ
 bounds_of rows = map (λ row. row.bound) rows
 
-added : (o : Option Row) (row : Row) (m : ℤ) (total : Row) (y : List ℤ) → o ≡ Some row
+sum_with : (o : Option Row) (row : Row) (m : ℤ) (total : Row) (y : List ℤ) → o ≡ Some row
     → product_of (add_weighted o m total).coefficients y ≡ m *ℤ product_of row.coefficients y +ℤ product_of total.coefficients y
-added None row m total y e = absurd cc
-added (Some other) row m total y e =
+sum_with None row m total y e = absurd cc
+sum_with (Some other) row m total y e =
     let same : other ≡ row = cc in
     product-sum (scaled m other.coefficients) total.coefficients y
     ∙ ap (λ t. t +ℤ product_of total.coefficients y) (product-scaled m other.coefficients y)
@@ -40,35 +40,35 @@ added_bound None row m total e = absurd cc
 added_bound (Some other) row m total e = let same : other ≡ row = cc in ap (λ (r : Row). m *ℤ r.bound +ℤ total.bound) same
 
 pub weighted_coefficients : (all rows : List Row) (k : ℕ) (equal : Bool) (ms y : List ℤ) → drop k all ≡ rows → Signs equal rows ms
-    → product_of (weighted_sum all (listed (suc k) ms)).coefficients y ≡ product_of ms (values_at y rows)
-unfolding listed
+    → product_of (weighted_sum all (nonzero_pairs (suc k) ms)).coefficients y ≡ product_of ms (values_at y rows)
+unfolding nonzero_pairs
 weighted_coefficients all rows k equal [] y e h = refl
 weighted_coefficients all [] k equal (m ∷ ms) y e h = absurd h
 weighted_coefficients all (row ∷ rows) k equal (pos zero ∷ ms) y e h =
     omega (arith, linear, weighted_coefficients all rows (suc k) equal ms y (split_at all rows k row e).1 h.1, zero-mul_ℤ (product_of row.coefficients y))
 weighted_coefficients all (row ∷ rows) k equal (pos (suc m) ∷ ms) y e h =
     let at = split_at all rows k row e in
-    added (row_numbered all (suc k)) row (pos (suc m)) (weighted_sum all (listed (suc (suc k)) ms)) y at.0
+    sum_with (row_numbered all (suc k)) row (pos (suc m)) (weighted_sum all (nonzero_pairs (suc (suc k)) ms)) y at.0
     ∙ ap (λ t. pos (suc m) *ℤ product_of row.coefficients y +ℤ t) (weighted_coefficients all rows (suc k) equal ms y at.1 h.1)
 weighted_coefficients all (row ∷ rows) k equal (negsuc m ∷ ms) y e h =
     let at = split_at all rows k row e in
-    added (row_numbered all (suc k)) row (negsuc m) (weighted_sum all (listed (suc (suc k)) ms)) y at.0
+    sum_with (row_numbered all (suc k)) row (negsuc m) (weighted_sum all (nonzero_pairs (suc (suc k)) ms)) y at.0
     ∙ ap (λ t. negsuc m *ℤ product_of row.coefficients y +ℤ t) (weighted_coefficients all rows (suc k) equal ms y at.1 h.1)
 
 pub weighted_bound : (all rows : List Row) (k : ℕ) (equal : Bool) (ms : List ℤ) → drop k all ≡ rows → Signs equal rows ms
-    → (weighted_sum all (listed (suc k) ms)).bound ≡ product_of ms (bounds_of rows)
-unfolding listed
+    → (weighted_sum all (nonzero_pairs (suc k) ms)).bound ≡ product_of ms (bounds_of rows)
+unfolding nonzero_pairs
 weighted_bound all rows k equal [] e h = refl
 weighted_bound all [] k equal (m ∷ ms) e h = absurd h
 weighted_bound all (row ∷ rows) k equal (pos zero ∷ ms) e h =
     omega (arith, linear, weighted_bound all rows (suc k) equal ms (split_at all rows k row e).1 h.1, zero-mul_ℤ row.bound)
 weighted_bound all (row ∷ rows) k equal (pos (suc m) ∷ ms) e h =
     let at = split_at all rows k row e in
-    added_bound (row_numbered all (suc k)) row (pos (suc m)) (weighted_sum all (listed (suc (suc k)) ms)) at.0
+    added_bound (row_numbered all (suc k)) row (pos (suc m)) (weighted_sum all (nonzero_pairs (suc (suc k)) ms)) at.0
     ∙ ap (λ t. pos (suc m) *ℤ row.bound +ℤ t) (weighted_bound all rows (suc k) equal ms at.1 h.1)
 weighted_bound all (row ∷ rows) k equal (negsuc m ∷ ms) e h =
     let at = split_at all rows k row e in
-    added_bound (row_numbered all (suc k)) row (negsuc m) (weighted_sum all (listed (suc (suc k)) ms)) at.0
+    added_bound (row_numbered all (suc k)) row (negsuc m) (weighted_sum all (nonzero_pairs (suc (suc k)) ms)) at.0
     ∙ ap (λ t. negsuc m *ℤ row.bound +ℤ t) (weighted_bound all rows (suc k) equal ms at.1 h.1)
 
 -- A list whose products all vanish is zeros.
@@ -103,8 +103,8 @@ multiple_product g (m ∷ ms) (y ∷ ys) h =
     )
 
 -- What divides the listed multipliers divides them all.
-pub divides_listed : (g k : ℕ) (ms : List ℤ) → AllByRecursion (λ pair. g ∣ unsigned_abs pair.1) (listed k ms) → DividesAll g ms
-unfolding listed
+pub divides_listed : (g k : ℕ) (ms : List ℤ) → AllByRecursion (λ pair. g ∣ unsigned_abs pair.1) (nonzero_pairs k ms) → DividesAll g ms
+unfolding nonzero_pairs
 divides_listed g k [] h = tt
 divides_listed g k (pos zero ∷ ms) h = (dvd-zero g, divides_listed g (suc k) ms h)
 divides_listed g k (pos (suc m) ∷ ms) h = (h.0, divides_listed g (suc k) ms h.1)

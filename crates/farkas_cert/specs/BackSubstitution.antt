@@ -75,37 +75,37 @@ lesser_of None f = Some f
 lesser_of (Some best) f = option_map (λ less. cond less f best) (is_below f best)
 
 -- An inequality with a positive coefficient gives an upper bound, one with a negative a lower bound.
-abbrev pub narrowed : Bool → Bounds → Fraction → Option Bounds
-narrowed true bounds f = option_map (λ u. record bounds { upper = Some u }) (lesser_of bounds.upper f)
-narrowed false bounds f = option_map (λ l. record bounds { lower = Some l }) (greater_of bounds.lower f)
+abbrev pub narrowed_bounds : Bool → Bounds → Fraction → Option Bounds
+narrowed_bounds true bounds f = option_map (λ u. record bounds { upper = Some u }) (lesser_of bounds.upper f)
+narrowed_bounds false bounds f = option_map (λ l. record bounds { lower = Some l }) (greater_of bounds.lower f)
 
 -- the bounds that lines put on column c, in order
 unfoldable pub bounds_from : ℕ → ℕ → RationalPoint → Bounds → List Line → Option Bounds
 bounds_from n c point bounds [] = Some bounds
 bounds_from n c point bounds (line ∷ lines) =
     option_and_then (λ next. bounds_from n c point next lines)
-    (option_and_then (narrowed (int_lt (pos 0) (coefficient_at c line)) bounds) (bound_on n c point line))
+    (option_and_then (narrowed_bounds (int_lt (pos 0) (coefficient_at c line)) bounds) (bound_on n c point line))
 
 -- the least whole number not below the lower bound, where it is not above the upper one, and else the lower bound;
 -- without a lower bound the greatest whole number not above the upper one
-abbrev pub chosen : Option Fraction → Option Fraction → Fraction
-chosen (Some low) (Some high) = cond (int_le (ceiling_of low) (floor_of high)) (whole (ceiling_of low)) low
-chosen (Some low) None = whole (ceiling_of low)
-chosen None (Some high) = whole (floor_of high)
-chosen None None = whole (pos 0)
+abbrev pub chosen_value : Option Fraction → Option Fraction → Fraction
+chosen_value (Some low) (Some high) = cond (int_le (ceiling_of low) (floor_of high)) (whole (ceiling_of low)) low
+chosen_value (Some low) None = whole (ceiling_of low)
+chosen_value None (Some high) = whole (floor_of high)
+chosen_value None None = whole (pos 0)
 
 -- Column c gets v times the share, and the others and the denominator are multiplied by the scale; nothing where a product does not fit.
-abbrev pub assigned_by : ℕ → RationalPoint → ℤ → ℤ → ℤ → Option RationalPoint
-assigned_by c point v share scale =
+abbrev pub assigned_point_by : ℕ → RationalPoint → ℤ → ℤ → ℤ → Option RationalPoint
+assigned_point_by c point v share scale =
     let numerators = slice_set (scaled scale point.numerators) c (v *ℤ share) in
     let denominator = point.denominator *ℤ scale in
     cond (all_fit numerators && fits denominator) (Some (record { numerators = numerators; denominator = denominator })) None
 
 -- Column c gets the value f, over the least denominator that it has in common with the point.
-unfoldable pub assigned : ℕ → RationalPoint → Fraction → Option RationalPoint
-assigned c point f =
+unfoldable pub assigned_point : ℕ → RationalPoint → Fraction → Option RationalPoint
+assigned_point c point f =
     let g = gcd (unsigned_abs point.denominator) (unsigned_abs f.denominator) in
-    assigned_by c point f.numerator (over g point.denominator) (over g f.denominator)
+    assigned_point_by c point f.numerator (over g point.denominator) (over g f.denominator)
 
 -- what a stage kept: an equality for its lowest column, or inequalities for the lowest column of all
 pub data Kept : Type 0 where
@@ -114,7 +114,7 @@ pub data Kept : Type 0 where
 
 -- The column of a stage is set: to an equality's bound, or between the bounds of inequalities.
 unfoldable pub set_column : ℕ → RationalPoint → Kept → Option RationalPoint
-set_column n point (Solved c line) = option_and_then (assigned c point) (bound_on n c point line)
+set_column n point (Solved c line) = option_and_then (assigned_point c point) (bound_on n c point line)
 set_column n point (Bounded c lines) =
     let none : Bounds = record { lower = None; upper = None } in
-    option_and_then (λ b. assigned c point (chosen b.lower b.upper)) (bounds_from n c point none lines)
+    option_and_then (λ b. assigned_point c point (chosen_value b.lower b.upper)) (bounds_from n c point none lines)

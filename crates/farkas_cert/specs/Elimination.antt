@@ -8,7 +8,7 @@ use Rattle.lin_rows.specs.System.{System}
 use Rattle.farkas_cert.specs.Cert.{Pairs}
 use Rattle.lin_rows.specs.Gcd.{gcd}
 use Rattle.farkas_cert.specs.Divided.{over}
-use Rattle.farkas_cert.specs.Line.{Line, given_lines, coefficient_at, lowest_column, lowest_of, has_variable, is_false, refuting, listed, is_nonzero, made_line}
+use Rattle.farkas_cert.specs.Line.{Line, given_lines, coefficient_at, lowest_column, lowest_of, has_variable, is_false, refuting, nonzero_pairs, is_nonzero, made_line}
 use Rattle.farkas_cert.specs.Proof.{overflow_of}
 use Rattle.farkas_cert.specs.declared.answers.LeaveKind.{LeaveKind}
 use Rattle.farkas_cert.specs.declared.answers.LeaveKind.TheVariants.{Overflow, Rows}
@@ -44,18 +44,18 @@ every (Some x ∷ xs) = option_map (λ ys. x ∷ ys) (every xs)
 -- ---- the constant test
 
 -- Multipliers refute, where each product and partial sum of the check fits.
-abbrev pub refuted : System → ℕ → List ℤ → Outcome
-refuted system number ms =
-    let pairs = listed 1 ms in
+abbrev pub refutation_outcome : System → ℕ → List ℤ → Outcome
+refutation_outcome system number ms =
+    let pairs = nonzero_pairs 1 ms in
     if is_none (overflow_of system.rows pairs) then Refuted pairs else Leaves number Overflow
 
 -- The first false line without a variable ends the work as refuted; the other lines without a variable are removed.
-abbrev pub tested_by : System → ℕ → Work → Option Line → Next
-tested_by system number work (Some line) = Ends (refuted system number (refuting system.columns line))
-tested_by system number work None = Goes (record work { lines = filter (has_variable system.columns) work.lines })
+abbrev pub constant_test_by : System → ℕ → Work → Option Line → Next
+constant_test_by system number work (Some line) = Ends (refutation_outcome system number (refuting system.columns line))
+constant_test_by system number work None = Goes (record work { lines = filter (has_variable system.columns) work.lines })
 
-unfoldable pub tested : System → ℕ → Work → Next
-tested system number work = tested_by system number work (find (is_false system.columns) work.lines)
+unfoldable pub constant_test : System → ℕ → Work → Next
+constant_test system number work = constant_test_by system number work (find (is_false system.columns) work.lines)
 
 -- ---- a stage
 
@@ -77,8 +77,8 @@ without_equality (line ∷ lines) = cond line.equal lines (line ∷ without_equa
 
 -- The equality with p at c takes the column out of a line with q there: |p| / g times the line less sign(p) q / g times the
 -- equality, where g is the greatest common divisor of |p| and |q|. A line without the column stays.
-unfoldable pub substituted : ℕ → Line → Line → Option Line
-substituted c equality line =
+unfoldable pub substituted_line : ℕ → Line → Line → Option Line
+substituted_line c equality line =
     let p = coefficient_at c equality in
     let q = coefficient_at c line in
     let g = gcd (unsigned_abs p) (unsigned_abs q) in
@@ -90,14 +90,14 @@ substituted c equality line =
 unfoldable pub equality_stage : System → Work → Line → Next
 equality_stage system work equality =
     let c = lowest_column system.columns equality in
-    follows work (Solved c equality) work.made (every (map (substituted c equality) (without_equality work.lines)))
+    follows work (Solved c equality) work.made (every (map (substituted_line c equality) (without_equality work.lines)))
 
 -- ---- a stage without one
 
 -- The inequalities with p and -q at c, added so that the column falls out: q / g times the one and p / g times the other, where g
 -- is the greatest common divisor of p and q.
-unfoldable pub paired : ℕ → Line → Line → Option Line
-paired c positive negative =
+unfoldable pub paired_line : ℕ → Line → Line → Option Line
+paired_line c positive negative =
     let p = coefficient_at c positive in
     let q = neg_ℤ (coefficient_at c negative) in
     let g = gcd (unsigned_abs p) (unsigned_abs q) in
@@ -118,7 +118,7 @@ without_column c lines = filter (λ line. not (is_nonzero (coefficient_at c line
 
 -- each positive line with each negative one, both in order
 unfoldable pub pairs_at : ℕ → List Line → Option (List Line)
-pairs_at c lines = every (flat_map (λ positive. map (paired c positive) (negatives c lines)) (positives c lines))
+pairs_at c lines = every (flat_map (λ positive. map (paired_line c positive) (negatives c lines)) (positives c lines))
 
 -- The given rows, and those that pairs made so far and in this stage, are too many.
 abbrev pub are_too_many : System → ℕ → Bool
@@ -136,20 +136,20 @@ pair_stage system work =
 -- ---- the whole
 
 -- A stage takes a column out, by the first equality where there is one,
-abbrev pub taken_out_by : System → Work → Option Line → Next
-taken_out_by system work (Some equality) = equality_stage system work equality
-taken_out_by system work None = pair_stage system work
+abbrev pub take_column_out_by : System → Work → Option Line → Next
+take_column_out_by system work (Some equality) = equality_stage system work equality
+take_column_out_by system work None = pair_stage system work
 
-unfoldable pub taken_out : System → Work → Next
-taken_out system work = taken_out_by system work (find (λ line. line.equal) work.lines)
+unfoldable pub take_column_out : System → Work → Next
+take_column_out system work = take_column_out_by system work (find (λ line. line.equal) work.lines)
 
 -- and ends with the constant test.
-abbrev pub then_tested : System → Next → Next
-then_tested system (Goes work) = tested system (length work.kept) work
-then_tested system (Ends outcome) = Ends outcome
+abbrev pub then_constant_test : System → Next → Next
+then_constant_test system (Goes work) = constant_test system (length work.kept) work
+then_constant_test system (Ends outcome) = Ends outcome
 
 unfoldable pub stage : System → Work → Next
-stage system work = then_tested system (taken_out system work)
+stage system work = then_constant_test system (take_column_out system work)
 
 -- The columns that stages took are set, the latest first. A number that does not fit is one of the column's stage.
 abbrev pub or_leaves : ℕ → (RationalPoint → Outcome) → Option RationalPoint → Outcome
@@ -178,12 +178,12 @@ stages zero system work = point_of system.columns work.kept
 stages (suc fuel) system work = goes_on system work (stages fuel system) work.lines
 
 -- what the given rows come to, after the constant test
-unfoldable pub begun : System → Next
-begun system = tested system 0 (record { lines = given_lines (length system.rows) 0 system.rows; kept = []; made = 0 })
+unfoldable pub beginning : System → Next
+beginning system = constant_test system 0 (record { lines = given_lines (length system.rows) 0 system.rows; kept = []; made = 0 })
 
 -- what the elimination of a system comes to, where so many stages may follow one another
 unfoldable pub outcome_within : ℕ → System → Outcome
-outcome_within fuel system = or_ends (stages fuel system) (begun system)
+outcome_within fuel system = or_ends (stages fuel system) (beginning system)
 
 abbrev pub outcome_of : System → Outcome
 outcome_of system = outcome_within system.columns system

@@ -63,9 +63,9 @@ unfoldable pub refuting : ℕ → Line → List ℤ
 refuting n line = cond (line.equal && int_lt (pos 0) (bound_of n line)) (map neg_ℤ (multipliers_of n line)) (multipliers_of n line)
 
 -- the multipliers that are not 0, with the numbers of their rows, from k on
-unfoldable pub listed : ℕ → List ℤ → Pairs
-listed k [] = []
-listed k (m ∷ ms) = cond (is_nonzero m) ((k, m) ∷ listed (suc k) ms) (listed (suc k) ms)
+unfoldable pub nonzero_pairs : ℕ → List ℤ → Pairs
+nonzero_pairs k [] = []
+nonzero_pairs k (m ∷ ms) = cond (is_nonzero m) ((k, m) ∷ nonzero_pairs (suc k) ms) (nonzero_pairs (suc k) ms)
 
 abbrev pub all_fit : List ℤ → Bool
 all_fit xs = list_all fits xs

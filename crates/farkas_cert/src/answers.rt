@@ -1,5 +1,5 @@
 use crate::cert::Cert;
-use crate::point::Coordinates;
+use lin_rows::NumberList;
 
 /// What a check says of a certificate. `row` and `column` are those of the first product or partial sum that
 /// does not fit; rows count from 1, columns from 0, and the bound is the last column.
@@ -30,6 +30,6 @@ pub enum LeaveKind {
 #[derive(Debug, Drop)]
 pub enum Decided {
     Refuted(Cert),
-    Point(Coordinates, i128),
+    Point(NumberList, i128),
     Leaves { stage: u32, kind: LeaveKind },
 }

@@ -1,8 +1,8 @@
 ghost use Rattle.std.specs.Prelude.{◌≡◌, pos, ◌*ℤ◌, ◌≤◌, Some, IsSome};
 ghost use Rattle.farkas_cert.specs.Cert.{InOrder, row_numbered};
 ghost use Rattle.farkas_cert.specs.Proof.{products};
-ghost use Rattle.farkas_cert.specs.inside.Columns.{added, column_from, earlier, number_at};
-ghost use Rattle.farkas_cert.specs.inside.Weighing.{weighed_with, weighed_to, answered};
+ghost use Rattle.farkas_cert.specs.inside.Columns.{sum_with, column_from, earlier, number_at};
+ghost use Rattle.farkas_cert.specs.inside.Weighing.{weighed_with, weighed_to, answer_of_weights};
 ghost use Rattle.farkas_cert.specs.Answer.{IsCertAnswer};
 
 use crate::answers::CertAnswer;
@@ -13,7 +13,7 @@ use lin_rows::{product_if_fits, sum_if_fits};
 fn add_product(rows: &NamedRows<'_>, pair: (u32, i128), column: u32, sum: i128) -> Option<i128>
     requires there { IsSome (row_numbered rows.now.rows pair.0) }
     requires within { column ≤ rows.now.columns }
-    ensures { result ≡ added sum (pair.1 *ℤ number_at (row_numbered rows.now.rows pair.0) column) }
+    ensures { result ≡ sum_with sum (pair.1 *ℤ number_at (row_numbered rows.now.rows pair.0) column) }
 {
     let (row, multiplier) = pair;
     let product = product_if_fits(multiplier, rows.number_at(row, column))?;
@@ -86,7 +86,7 @@ fn coefficients_weighed(rows: &NamedRows<'_>, cert: &[(u32, i128)]) -> Weighed
 
 /// The answer, from what is known of the coefficients and the sum of the bounds.
 fn answer_by(seen: Weighed, columns: u32, bound: Result<i128, u32>) -> CertAnswer
-    ensures { result ≡ answered seen columns bound }
+    ensures { result ≡ answer_of_weights seen columns bound }
 {
     match (with_column(seen, columns, bound).overflow, bound) {
         (Some((row, column)), _) => CertAnswer::Overflow { row, column },

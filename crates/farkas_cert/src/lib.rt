@@ -16,7 +16,7 @@ pub use cert::{Cert, check_cert, check_entails, check_named};
 pub use elimination_laws::{certificate_proves, more_stages_change_nothing, point_is_a_point};
 pub use laws::{points_meet_entailed, points_meet_weighted_sums, refuted_has_no_point};
 pub use named_rows::NamedRows;
-pub use point::{Coordinates, check_point};
+pub use point::check_point;
 
 #[cfg(test)]
 mod tests;

@@ -6,41 +6,6 @@ ghost use Rattle.farkas_cert.specs.inside.RowAnswer.{IsRowAnswer};
 
 use crate::answers::PointAnswer;
 use lin_rows::{RowView, RowsView, product_if_fits, sum_of_products};
-use std::marker::Model;
-
-/// The numerators of a point, which contracts see as their list.
-#[derive(Debug, Drop)]
-pub struct Coordinates {
-    numbers: Vec<i128>,
-}
-
-impl Model for Coordinates {
-    ghost use Rattle.std.specs.Prelude.{ℤ, List};
-
-    ghost Value = { List ℤ };
-
-    ghost view = { λ inside. inside.numbers.items };
-}
-
-impl Coordinates {
-    pub fn of(numbers: Vec<i128>) -> Coordinates
-        ensures { result ≡ numbers.items }
-    {
-        Coordinates { numbers }
-    }
-
-    pub fn as_slice(&self) -> &[i128]
-        ensures { result.now ≡ self.now }
-    {
-        self.numbers.as_slice()
-    }
-
-    pub fn into_vec(self) -> Vec<i128>
-        ensures { result.items ≡ self }
-    {
-        self.numbers
-    }
-}
 
 /// What is found of one row.
 #[derive(Clone, Copy)]

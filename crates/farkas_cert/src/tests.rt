@@ -3,7 +3,7 @@ ghost use Rattle.std.specs.List.{AllByRecursion};
 ghost use Rattle.thr_base.specs.Number.{Fits};
 
 use super::*;
-use lin_rows::{NormalForm, RowView, Rows, normal};
+use lin_rows::{NormalForm, NumberList, RowView, Rows, normal};
 use std::alloc::{AllocError, Global};
 use std::test::Fail;
 
@@ -160,7 +160,7 @@ fn points(rt: HostRuntime) -> Result<(), Fail> {
 fn evidence_is_read_as_it_was_made(rt: HostRuntime) -> Result<(), Fail> {
     let cert = Cert::of(vec![in rt.alloc(); (1u32, 2i128)]?);
     assert_eq!(rt; cert.pairs(), [(1, 2)].as_slice());
-    let point = Coordinates::of(vec![in rt.alloc(); 3i128]?);
+    let point = NumberList::of(vec![in rt.alloc(); 3i128]?);
     assert_eq!(rt; point.as_slice(), [3].as_slice());
     assert_eq!(rt; point.into_vec().as_slice(), [3].as_slice());
     Ok(())

@@ -1,9 +1,10 @@
 -- The text of a set of facts.
-use Rattle.std.specs.Prelude.{◌≡◌, ◌↔◌, ℕ, List, ◌++◌, decimal, codes, flat_map, Contains, AllPairs}
+use Rattle.std.specs.Prelude.{◌≡◌, ◌↔◌, ℕ, pos, List, ◌++◌, codes, flat_map, Contains, AllPairs}
 use Rattle.std.specs.Ordering.{nat_cmp, ordering_then}
 use Rattle.std.specs.Cmp.Lexicographic.{slice_cmp}
 use Rattle.std.specs.declared.cmp.Ordering.{Ordering}
 use Rattle.std.specs.declared.cmp.Ordering.TheVariants.{Less, Greater}
+use Rattle.thr_base.specs.Number.{number_text}
 use Rattle.thr_base.specs.declared.names.RuleName.{RuleName}
 use Rattle.transition_formula.specs.Program.{Program}
 use Rattle.horn_rules.specs.Home.{Home, State, Env}
@@ -28,7 +29,7 @@ Precedes a b = fact_order a b ≡ Less
 
 -- the positions, each behind a blank
 abbrev pub positions_text : List ℕ → List ℕ
-positions_text held = flat_map (λ k. codes " " ++ decimal k) held
+positions_text held = flat_map (λ k. codes " " ++ number_text (pos k)) held
 
 -- the line of a fact
 abbrev pub fact_line : Fact → List ℕ

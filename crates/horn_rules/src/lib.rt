@@ -11,6 +11,7 @@ mod lines;
 mod placing;
 mod posted;
 mod premise;
+mod scope;
 
 pub use home_text::push_home;
 pub use homes::{has_home, home_count, named, number};
@@ -26,6 +27,7 @@ pub use laws::{
 pub use lines::{push_fact, table};
 pub use placing::{in_front, placed};
 pub use posted::{PostAnswer, Posted};
+pub use scope::is_in_scope;
 
 #[cfg(test)]
 mod tests;

@@ -1,4 +1,4 @@
-ghost use Rattle.std.specs.Prelude.{◌≡◌, ◌↔◌, ◌++◌, map, decimal, codes, AllPairs, Contains, IfOk, OnOk, OnErr};
+ghost use Rattle.std.specs.Prelude.{◌≡◌, ◌↔◌, ◌++◌, map, codes, AllPairs, Contains, IfOk, OnOk, OnErr};
 ghost use Rattle.std.specs.List.{AllByRecursion, flat_map};
 ghost use Rattle.thr_base.specs.declared.names.RuleName.{RuleName};
 ghost use Rattle.horn_rules.specs.Fact as rules;
@@ -9,9 +9,8 @@ ghost use Rattle.horn_rules.specs.inside.Lines.{fact_of_line};
 
 use crate::home_text::push_parts;
 use crate::homes::named;
-use itoa::Buffer;
 use std::alloc::{AllocError, Global};
-use thr_base::{Fact, Home, positions_of};
+use thr_base::{Fact, Home, positions_of, push_number};
 use transition_formula::Program;
 
 /// A fact as its line shows it.
@@ -103,7 +102,7 @@ fn push_positions(text: &mut Vec<u8>, held: &[u32]) -> Result<(), AllocError>
 {
     for position in held {
         text.extend_from_slice(b" ")?;
-        text.extend_from_slice(Buffer::new().format(*position).as_bytes())?;
+        push_number(text, i128::from(*position))?;
     }
     Ok(())
 }

@@ -1,6 +1,7 @@
 pub mod Booleans
 pub mod Integers
 pub mod Divisors
+pub mod Multiples
 pub mod Numbers
 pub mod Lists
 pub mod StoredRows

@@ -1,8 +1,11 @@
-ghost use Rattle.std.specs.Prelude.{◌≡◌, pos, ◌<ℤ◌};
+ghost use Rattle.std.specs.Prelude.{◌≡◌, pos, ◌<ℤ◌, unsigned_abs};
 ghost use Rattle.std.specs.Int.{int_div_euclid};
 ghost use Rattle.std.specs.List.{AllByRecursion};
 ghost use Rattle.thr_base.specs.Number.{Fits};
-ghost use Rattle.lin_rows.specs.Gcd.{gcd, gcd_of};
+ghost use Rattle.lin_rows.specs.Exact.{fitting};
+ghost use Rattle.lin_rows.specs.Gcd.{gcd, gcd_of, lcm};
+
+use crate::exact::product_if_fits;
 
 /// Euclid's algorithm.
 fn common_divisor(a: u128, b: u128) -> u128
@@ -46,4 +49,14 @@ pub fn floor_of(number: i128, divisor: i128) -> i128
     ensures { result ≡ int_div_euclid number divisor }
 {
     number.div_euclid(divisor)
+}
+
+/// The least common multiple of two positive numbers, where it fits.
+pub fn multiple_if_fits(a: i128, b: i128) -> Option<i128>
+    requires first { pos 0 <ℤ a }
+    requires second { pos 0 <ℤ b }
+    ensures { result ≡ fitting (pos (lcm (unsigned_abs a) (unsigned_abs b))) }
+{
+    let divisor = divisor_of(&[b, a]);
+    product_if_fits(floor_of(a, divisor), b)
 }

@@ -1,5 +1,5 @@
 ghost use Rattle.std.specs.Prelude.{◌≡◌, ◌↔◌, ◌≤◌, ◌+◌, ℕ, ℤ, List, None, length};
-ghost use Rattle.lin_rows.specs.Gcd.{DivisorsAreGreatest};
+ghost use Rattle.lin_rows.specs.Gcd.{DivisorsAreGreatest, MultiplesAreLeast};
 ghost use Rattle.lin_rows.specs.System.{System, part_of};
 ghost use Rattle.lin_rows.specs.Sum.{sum_overflow, sum_in_order};
 
@@ -17,4 +17,9 @@ pub fn sums_are_given_where_they_fit()
 /// The greatest common divisors by Euclid's steps are that: a law, and no code.
 pub fn divisors_are_greatest()
     ensures { DivisorsAreGreatest }
+{}
+
+/// The least common multiples of positive numbers are that: a law, and no code.
+pub fn multiples_are_least()
+    ensures { MultiplesAreLeast }
 {}

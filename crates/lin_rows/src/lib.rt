@@ -8,6 +8,7 @@ mod divisor;
 mod exact;
 mod laws;
 mod normal_form;
+mod number_list;
 mod row;
 mod rows;
 mod rows_view;
@@ -15,10 +16,13 @@ mod stored;
 mod sum;
 
 pub use atom::{Atom, negate, opposite, opposites_of, push_opposites};
-pub use divisor::{divisor_of, floor_of};
+pub use divisor::{divisor_of, floor_of, multiple_if_fits};
 pub use exact::{product_if_fits, sum_if_fits};
-pub use laws::{divisors_are_greatest, parts_of_systems, sums_are_given_where_they_fit};
+pub use laws::{
+    divisors_are_greatest, multiples_are_least, parts_of_systems, sums_are_given_where_they_fit,
+};
 pub use normal_form::{NormalForm, NormalStop, normal};
+pub use number_list::NumberList;
 pub use row::RowView;
 pub use rows::Rows;
 pub use rows_view::RowsView;

@@ -17,7 +17,7 @@ use Rattle.lin_rows.specs.Gcd.{gcd_of}
 use Rattle.farkas_cert.specs.Line.{all_fit, combination, combination_fits, made_line}
 use Rattle.farkas_cert.proofs.Linear.{sum-none}
 use Rattle.farkas_cert.proofs.Divisors.{divided-same}
-use Rattle.plain_elim.specs.inside.Combined.{combined_number, combined, in_front}
+use Rattle.plain_elim.specs.inside.Combined.{combined_number, combined_numbers, in_front}
 
 -- ---- what is done, and what is left
 
@@ -30,51 +30,51 @@ drop_nil : (p : ℕ) → drop {A = ℤ} p [] ≡ []
 drop_nil zero = refl
 drop_nil (suc p) = refl
 
-pub combined-step : (a : ℤ) (xs : List ℤ) (b : ℤ) (ys : List ℤ) (p : ℕ) → p < max (length xs) (length ys)
-    → combined a (drop p xs) b (drop p ys) ≡ in_front (combined_number a (get_or xs p (pos 0)) b (get_or ys p (pos 0))) (combined a (drop (suc p) xs) b (drop (suc p) ys))
-unfolding combined
-combined-step a [] b [] p h = absurd (omega arith)
-combined-step a [] b (y ∷ ys) zero h = refl
-combined-step a (x ∷ xs) b [] zero h = refl
-combined-step a (x ∷ xs) b (y ∷ ys) zero h = refl
-combined-step a [] b (y ∷ ys) (suc p) h = let r = combined-step a [] b ys p (omega arith) in rw drop_nil at r
-combined-step a (x ∷ xs) b [] (suc p) h = let r = combined-step a xs b [] p (omega arith) in rw drop_nil at r
-combined-step a (x ∷ xs) b (y ∷ ys) (suc p) h = combined-step a xs b ys p (omega arith)
+pub combined_numbers-step : (a : ℤ) (xs : List ℤ) (b : ℤ) (ys : List ℤ) (p : ℕ) → p < max (length xs) (length ys)
+    → combined_numbers a (drop p xs) b (drop p ys) ≡ in_front (combined_number a (get_or xs p (pos 0)) b (get_or ys p (pos 0))) (combined_numbers a (drop (suc p) xs) b (drop (suc p) ys))
+unfolding combined_numbers
+combined_numbers-step a [] b [] p h = absurd (omega arith)
+combined_numbers-step a [] b (y ∷ ys) zero h = refl
+combined_numbers-step a (x ∷ xs) b [] zero h = refl
+combined_numbers-step a (x ∷ xs) b (y ∷ ys) zero h = refl
+combined_numbers-step a [] b (y ∷ ys) (suc p) h = let r = combined_numbers-step a [] b ys p (omega arith) in rw drop_nil at r
+combined_numbers-step a (x ∷ xs) b [] (suc p) h = let r = combined_numbers-step a xs b [] p (omega arith) in rw drop_nil at r
+combined_numbers-step a (x ∷ xs) b (y ∷ ys) (suc p) h = combined_numbers-step a xs b ys p (omega arith)
 
-pub combined-end : (a : ℤ) (xs : List ℤ) (b : ℤ) (ys : List ℤ) (p : ℕ) → max (length xs) (length ys) ≡ p
-    → combined a (drop p xs) b (drop p ys) ≡ Some []
-unfolding combined
-combined-end a [] b [] zero h = refl
-combined-end a [] b [] (suc p) h = refl
-combined-end a [] b (y ∷ ys) zero h = absurd (omega arith)
-combined-end a (x ∷ xs) b [] zero h = absurd (omega arith)
-combined-end a (x ∷ xs) b (y ∷ ys) zero h = absurd (omega arith)
-combined-end a [] b (y ∷ ys) (suc p) h = let r = combined-end a [] b ys p (omega arith) in rw drop_nil at r
-combined-end a (x ∷ xs) b [] (suc p) h = let r = combined-end a xs b [] p (omega arith) in rw drop_nil at r
-combined-end a (x ∷ xs) b (y ∷ ys) (suc p) h = combined-end a xs b ys p (omega arith)
+pub combined_numbers-end : (a : ℤ) (xs : List ℤ) (b : ℤ) (ys : List ℤ) (p : ℕ) → max (length xs) (length ys) ≡ p
+    → combined_numbers a (drop p xs) b (drop p ys) ≡ Some []
+unfolding combined_numbers
+combined_numbers-end a [] b [] zero h = refl
+combined_numbers-end a [] b [] (suc p) h = refl
+combined_numbers-end a [] b (y ∷ ys) zero h = absurd (omega arith)
+combined_numbers-end a (x ∷ xs) b [] zero h = absurd (omega arith)
+combined_numbers-end a (x ∷ xs) b (y ∷ ys) zero h = absurd (omega arith)
+combined_numbers-end a [] b (y ∷ ys) (suc p) h = let r = combined_numbers-end a [] b ys p (omega arith) in rw drop_nil at r
+combined_numbers-end a (x ∷ xs) b [] (suc p) h = let r = combined_numbers-end a xs b [] p (omega arith) in rw drop_nil at r
+combined_numbers-end a (x ∷ xs) b (y ∷ ys) (suc p) h = combined_numbers-end a xs b ys p (omega arith)
 
 -- the loop goes on, stops, or ends
-pub combined-more : (a : ℤ) (xs : List ℤ) (b : ℤ) (ys : List ℤ) (p : ℕ) (front next : List ℤ) (z : ℤ) (whole : Option (List ℤ))
+pub combined_numbers-more : (a : ℤ) (xs : List ℤ) (b : ℤ) (ys : List ℤ) (p : ℕ) (front next : List ℤ) (z : ℤ) (whole : Option (List ℤ))
     → p < max (length xs) (length ys) → Some z ≡ combined_number a (get_or xs p (pos 0)) b (get_or ys p (pos 0)) → next ≡ front ++ z ∷ []
-    → option_map (λ rest. front ++ rest) (combined a (drop p xs) b (drop p ys)) ≡ whole
-    → option_map (λ rest. next ++ rest) (combined a (drop (p + 1) xs) b (drop (p + 1) ys)) ≡ whole
-combined-more a xs b ys p front next z whole h e n k =
-    let rest = combined a (drop (suc p) xs) b (drop (suc p) ys) in
-    let step = combined-step a xs b ys p h in
+    → option_map (λ rest. front ++ rest) (combined_numbers a (drop p xs) b (drop p ys)) ≡ whole
+    → option_map (λ rest. next ++ rest) (combined_numbers a (drop (p + 1) xs) b (drop (p + 1) ys)) ≡ whole
+combined_numbers-more a xs b ys p front next z whole h e n k =
+    let rest = combined_numbers a (drop (suc p) xs) b (drop (suc p) ys) in
+    let step = combined_numbers-step a xs b ys p h in
     let more = front_more front z rest ∙ ap (λ o. option_map (λ rest. front ++ rest) (in_front o rest)) e ∙ ap (λ o. option_map (λ rest. front ++ rest) o) (sym step) ∙ k in
     rw (n, add-one) more
 
-pub combined-stops : (a : ℤ) (xs : List ℤ) (b : ℤ) (ys : List ℤ) (p : ℕ) (front : List ℤ) (whole : Option (List ℤ))
+pub combined_numbers-stops : (a : ℤ) (xs : List ℤ) (b : ℤ) (ys : List ℤ) (p : ℕ) (front : List ℤ) (whole : Option (List ℤ))
     → p < max (length xs) (length ys) → None ≡ combined_number a (get_or xs p (pos 0)) b (get_or ys p (pos 0))
-    → option_map (λ rest. front ++ rest) (combined a (drop p xs) b (drop p ys)) ≡ whole → None ≡ whole
-combined-stops a xs b ys p front whole h e k =
-    let rest = combined a (drop (suc p) xs) b (drop (suc p) ys) in
-    ap (λ o. option_map (λ rest. front ++ rest) (in_front o rest)) e ∙ ap (λ o. option_map (λ rest. front ++ rest) o) (sym (combined-step a xs b ys p h)) ∙ k
+    → option_map (λ rest. front ++ rest) (combined_numbers a (drop p xs) b (drop p ys)) ≡ whole → None ≡ whole
+combined_numbers-stops a xs b ys p front whole h e k =
+    let rest = combined_numbers a (drop (suc p) xs) b (drop (suc p) ys) in
+    ap (λ o. option_map (λ rest. front ++ rest) (in_front o rest)) e ∙ ap (λ o. option_map (λ rest. front ++ rest) o) (sym (combined_numbers-step a xs b ys p h)) ∙ k
 
-pub combined-ends : (a : ℤ) (xs : List ℤ) (b : ℤ) (ys : List ℤ) (p : ℕ) (front : List ℤ) (whole : Option (List ℤ))
-    → max (length xs) (length ys) ≡ p → option_map (λ rest. front ++ rest) (combined a (drop p xs) b (drop p ys)) ≡ whole → Some front ≡ whole
-combined-ends a xs b ys p front whole h k =
-    ap Some (sym (append-nil front)) ∙ ap (λ o. option_map (λ rest. front ++ rest) o) (sym (combined-end a xs b ys p h)) ∙ k
+pub combined_numbers-ends : (a : ℤ) (xs : List ℤ) (b : ℤ) (ys : List ℤ) (p : ℕ) (front : List ℤ) (whole : Option (List ℤ))
+    → max (length xs) (length ys) ≡ p → option_map (λ rest. front ++ rest) (combined_numbers a (drop p xs) b (drop p ys)) ≡ whole → Some front ≡ whole
+combined_numbers-ends a xs b ys p front whole h k =
+    ap Some (sym (append-nil front)) ∙ ap (λ o. option_map (λ rest. front ++ rest) o) (sym (combined_numbers-end a xs b ys p h)) ∙ k
 
 -- ---- all numbers, where all fit
 
@@ -126,16 +126,16 @@ both_numbers a x b y = at (fits (a *ℤ x)) (fits (b *ℤ y)) where
   at true false = refl
   at false t = refl
 
-pub combined-all : (a : ℤ) (xs : List ℤ) (b : ℤ) (ys : List ℤ)
-    → combined a xs b ys ≡ cond (combination_fits a xs b ys) (Some (combination a xs b ys)) None
-unfolding combined
-combined-all a [] b [] = refl
-combined-all a [] b (y ∷ ys) =
-    rw (zero_left, combined-all a [] b ys) (right_alone (fits (b *ℤ y)) (all_fit (scaled b ys)) (all_fit (scaled b ys)) (b *ℤ y) (scaled b ys))
-combined-all a (x ∷ xs) b [] =
-    rw (zero_right, combined-all a xs b [], ← sum-none (scaled a xs)) (right_alone (fits (a *ℤ x)) (all_fit (scaled a xs)) (all_fit (scaled a xs)) (a *ℤ x) (scaled a xs))
-combined-all a (x ∷ xs) b (y ∷ ys) =
-    rw (both_numbers, combined-all a xs b ys)
+pub combined_numbers-all : (a : ℤ) (xs : List ℤ) (b : ℤ) (ys : List ℤ)
+    → combined_numbers a xs b ys ≡ cond (combination_fits a xs b ys) (Some (combination a xs b ys)) None
+unfolding combined_numbers
+combined_numbers-all a [] b [] = refl
+combined_numbers-all a [] b (y ∷ ys) =
+    rw (zero_left, combined_numbers-all a [] b ys) (right_alone (fits (b *ℤ y)) (all_fit (scaled b ys)) (all_fit (scaled b ys)) (b *ℤ y) (scaled b ys))
+combined_numbers-all a (x ∷ xs) b [] =
+    rw (zero_right, combined_numbers-all a xs b [], ← sum-none (scaled a xs)) (right_alone (fits (a *ℤ x)) (all_fit (scaled a xs)) (all_fit (scaled a xs)) (a *ℤ x) (scaled a xs))
+combined_numbers-all a (x ∷ xs) b (y ∷ ys) =
+    rw (both_numbers, combined_numbers-all a xs b ys)
     (both_there (fits (a *ℤ x)) (fits (b *ℤ y)) (fits (a *ℤ x +ℤ b *ℤ y)) (all_fit (scaled a xs)) (all_fit (scaled b ys)) (all_fit (combination a xs b ys))
     (a *ℤ x +ℤ b *ℤ y) (combination a xs b ys))
 
@@ -168,23 +168,23 @@ fits_by false s t w z e h = absurd cc
 pub number_fits : (a x b y z : ℤ) → Some z ≡ combined_number a x b y → Fits z
 number_fits a x b y z e = fits_by (fits (a *ℤ x)) (fits (b *ℤ y)) (fits (a *ℤ x +ℤ b *ℤ y)) (a *ℤ x +ℤ b *ℤ y) z refl (e ∙ both_numbers a x b y)
 
-pub combined_fit : (a : ℤ) (xs : List ℤ) (b : ℤ) (ys made : List ℤ) → Some made ≡ combined a xs b ys → AllByRecursion Fits made
+pub combined_fit : (a : ℤ) (xs : List ℤ) (b : ℤ) (ys made : List ℤ) → Some made ≡ combined_numbers a xs b ys → AllByRecursion Fits made
 combined_fit a xs b ys made e =
-    let is = some_by (combination_fits a xs b ys) (combination a xs b ys) made (e ∙ combined-all a xs b ys) in
+    let is = some_by (combination_fits a xs b ys) (combination a xs b ys) made (e ∙ combined_numbers-all a xs b ys) in
     subst (λ zs. AllByRecursion Fits zs) (sym is.1)
     (all_fit-true (combination a xs b ys) (third_true (all_fit (scaled a xs)) (all_fit (scaled b ys)) (all_fit (combination a xs b ys)) is.0))
 
-pub made_some : (equal : Bool) (a : ℤ) (xs : List ℤ) (b : ℤ) (ys made : List ℤ) → Some made ≡ combined a xs b ys
+pub made_some : (equal : Bool) (a : ℤ) (xs : List ℤ) (b : ℤ) (ys made : List ℤ) → Some made ≡ combined_numbers a xs b ys
     → Some (record { equal = equal; numbers = divided made }) ≡ made_line equal a xs b ys
 unfolding made_line
 made_some equal a xs b ys made e =
-    let is = some_by (combination_fits a xs b ys) (combination a xs b ys) made (e ∙ combined-all a xs b ys) in
+    let is = some_by (combination_fits a xs b ys) (combination a xs b ys) made (e ∙ combined_numbers-all a xs b ys) in
     rw (is.0, is.1) refl
 
-pub made_none : (equal : Bool) (a : ℤ) (xs : List ℤ) (b : ℤ) (ys : List ℤ) → None ≡ combined a xs b ys → None ≡ made_line equal a xs b ys
+pub made_none : (equal : Bool) (a : ℤ) (xs : List ℤ) (b : ℤ) (ys : List ℤ) → None ≡ combined_numbers a xs b ys → None ≡ made_line equal a xs b ys
 unfolding made_line
 made_none equal a xs b ys e =
-    let is = none_by (combination_fits a xs b ys) (combination a xs b ys) (e ∙ combined-all a xs b ys) in
+    let is = none_by (combination_fits a xs b ys) (combination a xs b ys) (e ∙ combined_numbers-all a xs b ys) in
     rw is refl
 
 -- ---- division in place

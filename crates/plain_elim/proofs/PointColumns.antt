@@ -13,7 +13,7 @@ use Rattle.farkas_cert.proofs.Integers.{mul-positive_ℤ}
 use Rattle.plain_elim.proofs.PointFractions.{fitting_is}
 use Rattle.farkas_cert.specs.Line.{all_fit}
 use Rattle.plain_elim.specs.inside.PointParts.{IsPoint}
-use Rattle.farkas_cert.specs.BackSubstitution.{RationalPoint, assigned_by}
+use Rattle.farkas_cert.specs.BackSubstitution.{RationalPoint, assigned_point_by}
 
 -- ---- a list of which the first i numbers are multiplied by k
 abbrev pub scaled_to : ℤ → ℕ → List ℤ → List ℤ
@@ -81,21 +81,21 @@ by_parts c xs scale w d true false false t = refl
 by_parts c xs scale w d false b e t = refl
 
 -- One after another: the number, the denominator, and the numerators.
-pub assigned_by-steps : (c : ℕ) (point : RationalPoint) (v share scale : ℤ) → c < length point.numerators
-    → assigned_by c point v share scale
+pub assigned_point_by-steps : (c : ℕ) (point : RationalPoint) (v share scale : ℤ) → c < length point.numerators
+    → assigned_point_by c point v share scale
     ≡ option_and_then (λ w. option_and_then (set_point c point.numerators scale w) (fitting (point.denominator *ℤ scale))) (fitting (v *ℤ share))
-assigned_by-steps c point v share scale h =
+assigned_point_by-steps c point v share scale h =
     let fit = fit_set scale point.numerators c (v *ℤ share) h in
     rw fit
     (by_parts c point.numerators scale (v *ℤ share) (point.denominator *ℤ scale) (fits (v *ℤ share)) (all_fit (scaled scale (slice_set point.numerators c (pos 0)))) (fits (point.denominator *ℤ scale)) fit)
 
 -- what the steps make
-pub assigned_by-made : (c : ℕ) (point : RationalPoint) (v share scale w d : ℤ) (xs : List ℤ) → c < length point.numerators
+pub assigned_point_by-made : (c : ℕ) (point : RationalPoint) (v share scale w d : ℤ) (xs : List ℤ) → c < length point.numerators
     → Some w ≡ fitting (v *ℤ share) → Some d ≡ fitting (point.denominator *ℤ scale)
     → all_fit (slice_set (scaled scale point.numerators) c w) ≡ true → xs ≡ slice_set (scaled scale point.numerators) c w
-    → Some (record { numerators = xs; denominator = d }) ≡ assigned_by c point v share scale
-assigned_by-made c point v share scale w d xs h number denominator fit made =
-    sym (assigned_by-steps c point v share scale h ∙ rw (← number, ← denominator) (rw (fit, made) refl))
+    → Some (record { numerators = xs; denominator = d }) ≡ assigned_point_by c point v share scale
+assigned_point_by-made c point v share scale w d xs h number denominator fit made =
+    sym (assigned_point_by-steps c point v share scale h ∙ rw (← number, ← denominator) (rw (fit, made) refl))
 
 -- what was set is a point
 pub IsPoint-set : (xs ys : List ℤ) (d e scale : ℤ) → ys ≡ xs → all_fit xs ≡ true → pos 0 <ℤ e → pos 0 <ℤ scale → Some d ≡ fitting (e *ℤ scale) → IsPoint ys d

@@ -13,7 +13,7 @@ use Rattle.lin_rows.specs.System.{System}
 use Rattle.farkas_cert.specs.Divided.{divided, over}
 use Rattle.farkas_cert.specs.Line.{Line, given_line, given_lines, coefficient_at, has_variable, is_false, is_nonzero, lowest_column, lowest_of, combination, made_line}
 use Rattle.farkas_cert.specs.BackSubstitution.{Kept, Solved, Bounded}
-use Rattle.farkas_cert.specs.Elimination.{Leaves, Work, Ends, stage_number, every, tested, tested_by, follows, without_equality, substituted, equality_stage, paired, positives, negatives, with_column, without_column, pairs_at, are_too_many, pair_stage, taken_out, taken_out_by}
+use Rattle.farkas_cert.specs.Elimination.{Leaves, Work, Ends, stage_number, every, constant_test, constant_test_by, follows, without_equality, substituted_line, equality_stage, paired_line, positives, negatives, with_column, without_column, pairs_at, are_too_many, pair_stage, take_column_out, take_column_out_by}
 use Rattle.farkas_cert.proofs.Certificates.{appended}
 use Rattle.farkas_cert.proofs.Derived.{made_is}
 use Rattle.farkas_cert.proofs.Fuel.{all_open, all_within}
@@ -76,8 +76,8 @@ without_equality_wide system (line ∷ lines) h = at (without_equality_wide syst
   at rest false = (h.0, rest)
 
 substituted_wide : (system : System) (c : ℕ) (equality line next : Line) → IsWide system equality → IsWide system line
-    → substituted c equality line ≡ Some next → IsWide system next
-unfolding substituted
+    → substituted_line c equality line ≡ Some next → IsWide system next
+unfolding substituted_line
 substituted_wide system c equality line next h k e = at (is_nonzero (coefficient_at c line)) e where
   p : ℤ
   p = coefficient_at c equality
@@ -107,17 +107,17 @@ equality_stage_wide system work equality h o =
     let rest = without_equality work.lines in
     let long : system.columns < length equality.numbers = omega (arith, o.width) in
     let wide : IsWide system equality = record { width = o.width } in
-    follows_wide system work (Solved c equality) work.made (every (map (substituted c equality) rest)) (record { within = lowest.0; has_bound = long; there = lowest.1 }) h.kept
-    (λ lines m. all_every (IsWide system) (map (substituted c equality) rest) lines
-    (all_map (IsWide system) (λ o. (line : Line) → o ≡ Some line → IsWide system line) (substituted c equality) rest
+    follows_wide system work (Solved c equality) work.made (every (map (substituted_line c equality) rest)) (record { within = lowest.0; has_bound = long; there = lowest.1 }) h.kept
+    (λ lines m. all_every (IsWide system) (map (substituted_line c equality) rest) lines
+    (all_map (IsWide system) (λ o. (line : Line) → o ≡ Some line → IsWide system line) (substituted_line c equality) rest
     (λ line w next s. substituted_wide system c equality line next wide w s)
     (without_equality_wide system work.lines (open_wide system work.lines h.lines))) m)
 
 -- ---- the pair stage
 
 paired_wide : (system : System) (c : ℕ) (positive negative next : Line) → IsWide system positive → IsWide system negative
-    → paired c positive negative ≡ Some next → IsWide system next
-unfolding paired
+    → paired_line c positive negative ≡ Some next → IsWide system next
+unfolding paired_line
 paired_wide system c positive negative next h k e =
     let p = coefficient_at c positive in
     let q = neg_ℤ (coefficient_at c negative) in
@@ -129,9 +129,9 @@ pairs_wide : (system : System) (c : ℕ) (lines pairs : List Line) → AllByRecu
 unfolding pairs_at
 pairs_wide system c lines pairs h e =
     let IsMade : Option Line → Type 0 = λ o. (line : Line) → o ≡ Some line → IsWide system line in
-    all_every (IsWide system) (flat_map (λ positive. map (paired c positive) (negatives c lines)) (positives c lines)) pairs
-    (all_flat_map (IsWide system) IsMade (λ positive. map (paired c positive) (negatives c lines)) (positives c lines)
-    (λ positive p. all_map (IsWide system) IsMade (paired c positive) (negatives c lines)
+    all_every (IsWide system) (flat_map (λ positive. map (paired_line c positive) (negatives c lines)) (positives c lines)) pairs
+    (all_flat_map (IsWide system) IsMade (λ positive. map (paired_line c positive) (negatives c lines)) (positives c lines)
+    (λ positive p. all_map (IsWide system) IsMade (paired_line c positive) (negatives c lines)
     (λ negative n next s. paired_wide system c positive negative next p n s)
     (all_filter (IsWide system) (λ line. int_lt (coefficient_at c line) (pos 0)) lines h))
     (all_filter (IsWide system) (λ line. int_lt (pos 0) (coefficient_at c line)) lines h))
@@ -180,24 +180,24 @@ pair_stage_wide system work h s = by_limit (are_too_many system made) where
       (pairs_wide system c work.lines m.0 wide m.1)))
 
 taken_out_by_wide : (system : System) (work : Work) (o : Option Line) → find (λ line. line.equal) work.lines ≡ o → IsReady system work → 0 < length work.lines
-    → IsWideNext system (taken_out_by system work o)
+    → IsWideNext system (take_column_out_by system work o)
 taken_out_by_wide system work None e h s = pair_stage_wide system work h s
 taken_out_by_wide system work (Some equality) e h s =
     equality_stage_wide system work equality h (found (IsOpen system) (λ line. line.equal) work.lines equality h.lines e).0
 
-pub taken_out_wide : (system : System) (work : Work) → IsReady system work → 0 < length work.lines → IsWideNext system (taken_out system work)
-unfolding taken_out
+pub taken_out_wide : (system : System) (work : Work) → IsReady system work → 0 < length work.lines → IsWideNext system (take_column_out system work)
+unfolding take_column_out
 taken_out_wide system work h s = taken_out_by_wide system work (find (λ line. line.equal) work.lines) refl h s
 
 -- ---- the constant test
 
-pub tested_ready : (system : System) (number : ℕ) (work : Work) → IsWideWork system work → IsReadyNext system (tested system number work)
-unfolding tested
+pub tested_ready : (system : System) (number : ℕ) (work : Work) → IsWideWork system work → IsReadyNext system (constant_test system number work)
+unfolding constant_test
 tested_ready system number work h = by_found (find (is_false system.columns) work.lines) where
   p : Line → Bool
   p = has_variable system.columns
 
-  by_found : (o : Option Line) → IsReadyNext system (tested_by system number work o)
+  by_found : (o : Option Line) → IsReadyNext system (constant_test_by system number work o)
   by_found None = record {
     lines = all_from (λ line. IsWide system line × (p line ≡ true)) (IsOpen system) (filter p work.lines) (λ line w. record { width = w.0.width; variable = w.1 })
         (all_both (IsWide system) (λ line. p line ≡ true) (filter p work.lines) (all_filter (IsWide system) p work.lines h.lines) (filter_all p work.lines));
@@ -216,7 +216,7 @@ by_limit_keeps : (work : Work) (b : Bool) (kept : Kept) (made : ℕ) (o : Option
 by_limit_keeps work true kept made o = tt
 by_limit_keeps work false kept made o = follows_keeps work kept made o
 
-taken_out_by_keeps : (system : System) (work : Work) (o : Option Line) → KeepsOneMore (length work.kept) (taken_out_by system work o)
+taken_out_by_keeps : (system : System) (work : Work) (o : Option Line) → KeepsOneMore (length work.kept) (take_column_out_by system work o)
 unfolding equality_stage pair_stage
 taken_out_by_keeps system work None =
     let c = lowest_of system.columns work.lines in
@@ -224,8 +224,8 @@ taken_out_by_keeps system work None =
     by_limit_keeps work (are_too_many system made) (Bounded c (with_column c work.lines)) made (option_map (λ pairs. without_column c work.lines ++ pairs) (pairs_at c work.lines))
 taken_out_by_keeps system work (Some equality) =
     let c = lowest_column system.columns equality in
-    follows_keeps work (Solved c equality) work.made (every (map (substituted c equality) (without_equality work.lines)))
+    follows_keeps work (Solved c equality) work.made (every (map (substituted_line c equality) (without_equality work.lines)))
 
-pub taken_out_keeps : (system : System) (work : Work) → KeepsOneMore (length work.kept) (taken_out system work)
-unfolding taken_out
+pub taken_out_keeps : (system : System) (work : Work) → KeepsOneMore (length work.kept) (take_column_out system work)
+unfolding take_column_out
 taken_out_keeps system work = taken_out_by_keeps system work (find (λ line. line.equal) work.lines)

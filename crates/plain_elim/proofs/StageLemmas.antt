@@ -12,7 +12,7 @@ use Rattle.lin_rows.specs.System.{System}
 use Rattle.farkas_cert.specs.Divided.{over}
 use Rattle.farkas_cert.specs.Line.{Line, coefficient_at, is_nonzero, lowest_column, lowest_of, made_line, given_lines}
 use Rattle.farkas_cert.specs.BackSubstitution.{Kept, Solved, Bounded}
-use Rattle.farkas_cert.specs.Elimination.{Leaves, Work, Goes, Ends, stage_number, every, follows, substituted, equality_stage, paired, positives, negatives, with_column, without_column, pairs_at, are_too_many, pair_stage, taken_out, taken_out_by, tested, then_tested, stage, begun, Outcome}
+use Rattle.farkas_cert.specs.Elimination.{Leaves, Work, Goes, Ends, stage_number, every, follows, substituted_line, equality_stage, paired_line, positives, negatives, with_column, without_column, pairs_at, are_too_many, pair_stage, take_column_out, take_column_out_by, constant_test, then_constant_test, stage, beginning, Outcome}
 use Rattle.farkas_cert.specs.declared.answers.LeaveKind.TheVariants.{Rows, Overflow}
 use Rattle.plain_elim.specs.declared.kept.Kept.{Kept as HeldKept}
 use Rattle.plain_elim.specs.inside.Held.{kept_of}
@@ -28,8 +28,8 @@ if_ok P Q (Err e) f h = h
 
 -- ---- one line
 
-pub substituted_stays : (c : ℕ) (equality line : Line) (q : ℤ) → q ≡ coefficient_at c line → is_nonzero q ≡ false → Some line ≡ substituted c equality line
-unfolding substituted
+pub substituted_stays : (c : ℕ) (equality line : Line) (q : ℤ) → q ≡ coefficient_at c line → is_nonzero q ≡ false → Some line ≡ substituted_line c equality line
+unfolding substituted_line
 substituted_stays c equality line q e t =
     let same : is_nonzero (coefficient_at c line) ≡ false = ap is_nonzero (sym e) ∙ t in
     sym (ap (λ b. cond b (made_line line.equal (over (gcd (unsigned_abs (coefficient_at c equality)) (unsigned_abs (coefficient_at c line))) (pos (unsigned_abs (coefficient_at c equality)))) line.numbers (neg_ℤ (over (gcd (unsigned_abs (coefficient_at c equality)) (unsigned_abs (coefficient_at c line))) (int_signum (coefficient_at c equality) *ℤ coefficient_at c line))) equality.numbers) (Some line)) same)
@@ -37,16 +37,16 @@ substituted_stays c equality line q e t =
 pub substituted_by : (c : ℕ) (equality line : Line) (equal : Bool) (p q a b : ℤ) → p ≡ coefficient_at c equality → q ≡ coefficient_at c line
     → is_nonzero q ≡ true → equal ≡ line.equal → a ≡ over (gcd (unsigned_abs p) (unsigned_abs q)) (pos (unsigned_abs p))
     → b ≡ neg_ℤ (over (gcd (unsigned_abs p) (unsigned_abs q)) (int_signum p *ℤ q))
-    → made_line equal a line.numbers b equality.numbers ≡ substituted c equality line
-unfolding substituted
+    → made_line equal a line.numbers b equality.numbers ≡ substituted_line c equality line
+unfolding substituted_line
 substituted_by c equality line equal p q a b e f t s g h =
     let same : is_nonzero (coefficient_at c line) ≡ true = ap is_nonzero (sym f) ∙ t in
     rw (same, g, h, e, f, s) refl
 
 pub paired_by : (c : ℕ) (positive negative : Line) (p q a b : ℤ) → p ≡ coefficient_at c positive → q ≡ neg_ℤ (coefficient_at c negative)
     → a ≡ over (gcd (unsigned_abs p) (unsigned_abs q)) q → b ≡ over (gcd (unsigned_abs p) (unsigned_abs q)) p
-    → made_line false a positive.numbers b negative.numbers ≡ paired c positive negative
-unfolding paired
+    → made_line false a positive.numbers b negative.numbers ≡ paired_line c positive negative
+unfolding paired_line
 paired_by c positive negative p q a b e f g h = rw (g, h, e, f) refl
 
 -- a number with the other sign, as it is read back
@@ -89,7 +89,7 @@ negatives_with_column c lines =
 pub pairs_with_column : (c : ℕ) (lines : List Line) → pairs_at c (with_column c lines) ≡ pairs_at c lines
 unfolding pairs_at
 pairs_with_column c lines =
-    ap₂ (λ some others. every (flat_map (λ positive. map (paired c positive) others) some)) (positives_with_column c lines) (negatives_with_column c lines)
+    ap₂ (λ some others. every (flat_map (λ positive. map (paired_line c positive) others) some)) (positives_with_column c lines) (negatives_with_column c lines)
 
 -- ---- what follows
 
@@ -99,20 +99,20 @@ follows_same work other kept made (Some lines) e = ap (λ ks. Goes (record { lin
 
 pub equality_taken : (system : System) (work before : Work) (i c : ℕ) (equality : Line) (o : Option (List Line)) → before.kept ≡ work.kept
     → position (λ line. line.equal) work.lines ≡ Some i → equality ≡ get_or work.lines i equality → c ≡ lowest_column system.columns equality
-    → o ≡ every (map (substituted c equality) (remove work.lines i))
-    → follows before (Solved c equality) work.made o ≡ taken_out system work
-unfolding taken_out equality_stage
+    → o ≡ every (map (substituted_line c equality) (remove work.lines i))
+    → follows before (Solved c equality) work.made o ≡ take_column_out system work
+unfolding take_column_out equality_stage
 equality_taken system work before i c equality o k e is l m =
     let first = first_at work.lines i equality e in
     let found = first.found ∙ ap Some (sym is) in
-    let others = ap (λ ls. every (map (substituted (lowest_column system.columns equality) equality) ls)) (sym first.others) in
-    let same = m ∙ ap (λ c. every (map (substituted c equality) (remove work.lines i))) l ∙ others in
+    let others = ap (λ ls. every (map (substituted_line (lowest_column system.columns equality) equality) ls)) (sym first.others) in
+    let same = m ∙ ap (λ c. every (map (substituted_line c equality) (remove work.lines i))) l ∙ others in
     follows_same before work (Solved c equality) work.made o k
-    ∙ ap₂ (λ c o. follows work (Solved c equality) work.made o) l same ∙ ap (taken_out_by system work) (sym found)
+    ∙ ap₂ (λ c o. follows work (Solved c equality) work.made o) l same ∙ ap (take_column_out_by system work) (sym found)
 
-pub pairs_taken : (system : System) (work : Work) → position (λ line. line.equal) work.lines ≡ None → pair_stage system work ≡ taken_out system work
-unfolding taken_out
-pairs_taken system work e = ap (taken_out_by system work) (sym (none_at work.lines e))
+pub pairs_taken : (system : System) (work : Work) → position (λ line. line.equal) work.lines ≡ None → pair_stage system work ≡ take_column_out system work
+unfolding take_column_out
+pairs_taken system work e = ap (take_column_out_by system work) (sym (none_at work.lines e))
 
 pub pairs_followed : (work before : Work) (c made : ℕ) (with without : List Line) (o : Option (List Line)) → before.kept ≡ work.kept
     → with ≡ with_column c work.lines → without ≡ without_column c work.lines → o ≡ option_map (λ pairs. without ++ pairs) (pairs_at c with)
@@ -156,16 +156,16 @@ pair_stage_leaves system work c p q e f g h =
 pub kept_count : (kept : List HeldKept) → length (reverse (map kept_of kept)) ≡ length kept
 kept_count kept = length-reverse (map kept_of kept) ∙ length-map kept kept_of
 
-pub stage_goes : (system : System) (work next : Work) (n : ℕ) → Goes next ≡ taken_out system work → n ≡ length next.kept
-    → tested system n next ≡ stage system work
+pub stage_goes : (system : System) (work next : Work) (n : ℕ) → Goes next ≡ take_column_out system work → n ≡ length next.kept
+    → constant_test system n next ≡ stage system work
 unfolding stage
-stage_goes system work next n e h = ap (λ n. tested system n next) h ∙ ap (then_tested system) e
+stage_goes system work next n e h = ap (λ n. constant_test system n next) h ∙ ap (then_constant_test system) e
 
-pub stage_ends : (system : System) (work : Work) (outcome : Outcome) → Ends outcome ≡ taken_out system work → Ends outcome ≡ stage system work
+pub stage_ends : (system : System) (work : Work) (outcome : Outcome) → Ends outcome ≡ take_column_out system work → Ends outcome ≡ stage system work
 unfolding stage
-stage_ends system work outcome e = ap (then_tested system) e
+stage_ends system work outcome e = ap (then_constant_test system) e
 
 pub begun_is : (system : System) (lines : List Line) → lines ≡ given_lines (length system.rows) 0 system.rows
-    → tested system 0 (record { lines = lines; kept = []; made = 0 }) ≡ begun system
-unfolding begun
-begun_is system lines e = ap (λ ls. tested system 0 (record { lines = ls; kept = []; made = 0 })) e
+    → constant_test system 0 (record { lines = lines; kept = []; made = 0 }) ≡ beginning system
+unfolding beginning
+begun_is system lines e = ap (λ ls. constant_test system 0 (record { lines = ls; kept = []; made = 0 })) e

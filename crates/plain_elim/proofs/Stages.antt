@@ -10,7 +10,7 @@ use Rattle.farkas_cert.specs.Cert.{Pairs}
 use Rattle.farkas_cert.specs.Proof.{Proves, overflow_of}
 use Rattle.farkas_cert.specs.Line.{Line, is_false, given_lines, lowest_of}
 use Rattle.farkas_cert.specs.BackSubstitution.{Kept, Bounded}
-use Rattle.farkas_cert.specs.Elimination.{Work, Next, Goes, Ends, Outcome, Refuted, Leaves, stage, stages, goes_on, or_ends, outcome_of, outcome_within, point_of, follows, taken_out, taken_out_by, then_tested, tested, tested_by, equality_stage, pair_stage, begun, positives, negatives, with_column, without_column, pairs_at, are_too_many}
+use Rattle.farkas_cert.specs.Elimination.{Work, Next, Goes, Ends, Outcome, Refuted, Leaves, stage, stages, goes_on, or_ends, outcome_of, outcome_within, point_of, follows, take_column_out, take_column_out_by, then_constant_test, constant_test, constant_test_by, equality_stage, pair_stage, beginning, positives, negatives, with_column, without_column, pairs_at, are_too_many}
 use Rattle.farkas_cert.specs.declared.answers.LeaveKind.TheVariants.{Overflow, Rows}
 use Rattle.farkas_cert.specs.declared.answers.Decided.{Decided}
 use Rattle.farkas_cert.specs.declared.answers.Decided.TheVariants as decided
@@ -63,14 +63,14 @@ HasKept n (Ends outcome) = ⊤
 has_kept-goes : (n : ℕ) (next : Next) (work : Work) → HasKept n next → next ≡ Goes work → length work.kept ≡ n
 has_kept-goes n next work h e = subst (HasKept n) e h
 
-tested_by-keeps : (system : System) (number n : ℕ) (work : Work) (found : Option Line) → length work.kept ≡ n → HasKept n (tested_by system number work found)
-tested_by-keeps system number n work None e = e
-tested_by-keeps system number n work (Some line) e = tt
+constant_test_by-keeps : (system : System) (number n : ℕ) (work : Work) (found : Option Line) → length work.kept ≡ n → HasKept n (constant_test_by system number work found)
+constant_test_by-keeps system number n work None e = e
+constant_test_by-keeps system number n work (Some line) e = tt
 
-then_tested-keeps : (system : System) (n : ℕ) (next : Next) → HasKept n next → HasKept n (then_tested system next)
-unfolding tested
-then_tested-keeps system n (Goes work) h = tested_by-keeps system (length work.kept) n work (find (is_false system.columns) work.lines) h
-then_tested-keeps system n (Ends outcome) h = tt
+then_constant_test-keeps : (system : System) (n : ℕ) (next : Next) → HasKept n next → HasKept n (then_constant_test system next)
+unfolding constant_test
+then_constant_test-keeps system n (Goes work) h = constant_test_by-keeps system (length work.kept) n work (find (is_false system.columns) work.lines) h
+then_constant_test-keeps system n (Ends outcome) h = tt
 
 follows-keeps : (work : Work) (kept : Kept) (made : ℕ) (lines : Option (List Line)) → HasKept (suc (length work.kept)) (follows work kept made lines)
 follows-keeps work kept made None = tt
@@ -80,10 +80,10 @@ if-keeps : (n : ℕ) (b : Bool) (x y : Next) → HasKept n x → HasKept n y →
 if-keeps n true x y p q = p
 if-keeps n false x y p q = q
 
-taken_out-keeps : (system : System) (work : Work) (found : Option Line) → HasKept (suc (length work.kept)) (taken_out_by system work found)
+take_column_out-keeps : (system : System) (work : Work) (found : Option Line) → HasKept (suc (length work.kept)) (take_column_out_by system work found)
 unfolding equality_stage pair_stage
-taken_out-keeps system work (Some equality) = follows-keeps work _ _ _
-taken_out-keeps system work None =
+take_column_out-keeps system work (Some equality) = follows-keeps work _ _ _
+take_column_out-keeps system work None =
     let c = lowest_of system.columns work.lines in
     let made = work.made + length (positives c work.lines) * length (negatives c work.lines) in
     let lines = option_map (λ pairs. without_column c work.lines ++ pairs) (pairs_at c work.lines) in
@@ -92,23 +92,23 @@ taken_out-keeps system work None =
 
 -- A stage keeps lines for one more column.
 pub stage-keeps : (system : System) (work next : Work) → stage system work ≡ Goes next → length next.kept ≡ suc (length work.kept)
-unfolding stage taken_out
+unfolding stage take_column_out
 stage-keeps system work next is =
     has_kept-goes (suc (length work.kept)) (stage system work) next
-    (then_tested-keeps system (suc (length work.kept)) (taken_out system work) (taken_out-keeps system work (find (λ line. line.equal) work.lines))) is
+    (then_constant_test-keeps system (suc (length work.kept)) (take_column_out system work) (take_column_out-keeps system work (find (λ line. line.equal) work.lines))) is
 
 -- Before the first stage nothing is kept.
-pub begun-keeps : (system : System) (work : Work) → begun system ≡ Goes work → length work.kept ≡ 0
-unfolding begun tested
-begun-keeps system work is =
+pub beginning-keeps : (system : System) (work : Work) → beginning system ≡ Goes work → length work.kept ≡ 0
+unfolding beginning constant_test
+beginning-keeps system work is =
     let first : Work = record { lines = given_lines (length system.rows) 0 system.rows; kept = []; made = 0 } in
-    has_kept-goes 0 (begun system) work (tested_by-keeps system 0 0 first (find (is_false system.columns) first.lines) refl) is
+    has_kept-goes 0 (beginning system) work (constant_test_by-keeps system 0 0 first (find (is_false system.columns) first.lines) refl) is
 
 -- ---- the outcome
 
-pub outcome-begun : (system : System) (next : Next) → next ≡ begun system → outcome_of system ≡ or_ends (stages system.columns system) next
+pub outcome-beginning : (system : System) (next : Next) → next ≡ beginning system → outcome_of system ≡ or_ends (stages system.columns system) next
 unfolding outcome_within
-outcome-begun system next is = ap (or_ends (stages system.columns system)) (sym is)
+outcome-beginning system next is = ap (or_ends (stages system.columns system)) (sym is)
 
 unproved_by : (system : System) (pairs : Pairs) (number : ℕ) (overflow : Option (ℕ × ℕ)) → HasWidths system
     → outcome_of system ≡ (if is_none overflow then Refuted pairs else Leaves number Overflow) → (¬ Proves system pairs) → Leaves number Overflow ≡ outcome_of system

@@ -114,8 +114,8 @@ fn lesser_of(best: Option<Fraction>, other: Fraction) -> Option<Fraction>
 
 impl Bounds {
     /// With one more upper or lower bound.
-    fn narrowed(self, is_upper: bool, bound: Fraction) -> Option<Bounds>
-        ensures { result ≡ specs.narrowed is_upper self bound }
+    fn narrowed_bounds(self, is_upper: bool, bound: Fraction) -> Option<Bounds>
+        ensures { result ≡ specs.narrowed_bounds is_upper self bound }
     {
         if is_upper {
             let upper = Some(lesser_of(self.upper, bound)?);
@@ -145,7 +145,7 @@ impl Bounds {
         ensures { result ≡ narrowed_by columns column point.now line.now self }
     {
         let bound = bound_on(columns, column, point, line)?;
-        self.narrowed(line.is_positive_at(column), bound)
+        self.narrowed_bounds(line.is_positive_at(column), bound)
     }
 
     /// The bounds that lines put on a column.
@@ -165,8 +165,8 @@ impl Bounds {
     }
 
     /// A value between the bounds, a whole one where there is one.
-    pub fn chosen(&self) -> Fraction
-        ensures { result ≡ specs.chosen self.now.lower self.now.upper }
+    pub fn chosen_value(&self) -> Fraction
+        ensures { result ≡ specs.chosen_value self.now.lower self.now.upper }
     {
         match (self.lower, self.upper) {
             (Some(low), Some(high)) if low.ceiling() > high.floor() => low,

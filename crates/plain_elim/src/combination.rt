@@ -6,7 +6,7 @@ ghost use Rattle.thr_base.specs.Number.{Fits};
 ghost use Rattle.lin_rows.specs.Exact.{fitting};
 ghost use Rattle.farkas_cert.specs.Divided.{divided};
 ghost use Rattle.farkas_cert.specs.Line as specs;
-ghost use Rattle.plain_elim.specs.inside.Combined.{combined_number, combined, numbers_in};
+ghost use Rattle.plain_elim.specs.inside.Combined.{combined_number, combined_numbers, numbers_in};
 
 use crate::line::{Line, number_at};
 use lin_rows::{divisor_of, floor_of, product_if_fits, sum_if_fits};
@@ -33,14 +33,14 @@ fn combined_at(a: i128, left: &[i128], b: i128, right: &[i128], place: usize) ->
 }
 
 /// `a` times the one list plus `b` times the other, where all products and sums fit. The shorter is continued by zeros.
-fn combined(
+fn combined_numbers(
     alloc: Global,
     a: i128,
     left: &[i128],
     b: i128,
     right: &[i128],
 ) -> Result<Option<Vec<i128>>, AllocError>
-    ensures { IfOk result (λ made. numbers_in made ≡ combined a left.now b right.now) }
+    ensures { IfOk result (λ made. numbers_in made ≡ combined_numbers a left.now b right.now) }
 {
     let length = left.len().max(right.len());
     let mut numbers = Vec::with_capacity(alloc, length)?;
@@ -96,7 +96,7 @@ pub fn made_line(
 ) -> Result<Option<Line>, AllocError>
     ensures { IfOk result (λ made. made ≡ specs.made_line equal a left.now.numbers b right.now.numbers) }
 {
-    let made = combined(alloc, a, left.numbers(), b, right.numbers())?;
+    let made = combined_numbers(alloc, a, left.numbers(), b, right.numbers())?;
     match made {
         Some(numbers) => Ok(Some(divided_line(equal, numbers))),
         None => Ok(None),

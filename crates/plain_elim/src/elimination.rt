@@ -6,14 +6,14 @@ ghost use Rattle.farkas_cert.specs.Decision.{outcome_in, IsEvidence};
 ghost use Rattle.plain_elim.specs.inside.Held.{work_of, refuted_by, IsReady};
 
 use crate::point::point_of;
-use crate::stage::{begun, stage};
+use crate::stage::{beginning, stage};
 use crate::work::{Next, Work};
 use farkas_cert::{Cert, CertAnswer, Decided, LeaveKind, NamedRows, check_named};
 use lin_rows::RowsView;
 use std::alloc::{AllocError, Global};
 
 /// The answer where multipliers refute the rows, by the check of their products and sums.
-fn refuted(rows: &NamedRows<'_>, cert: Cert, number: u32) -> Decided
+fn refutation_outcome(rows: &NamedRows<'_>, cert: Cert, number: u32) -> Decided
     requires widths { HasWidths rows.now }
     requires leads { specs.outcome_of rows.now ≡ refuted_by rows.now cert number }
     ensures { outcome_in result ≡ specs.outcome_of rows.now }
@@ -49,7 +49,7 @@ fn stages(
         let next = stage(alloc, rows, work)?;
         match next {
             Next::Goes(more) => work = more,
-            Next::Refutes(cert, number) => return Ok(refuted(rows, cert, number)),
+            Next::Refutes(cert, number) => return Ok(refutation_outcome(rows, cert, number)),
             Next::Leaves(number, kind) => {
                 return Ok(Decided::Leaves {
                     stage: number,
@@ -68,10 +68,10 @@ pub fn decide_named(alloc: Global, rows: &NamedRows<'_>) -> Result<Decided, Allo
     ensures evidence { IfOk result (IsEvidence rows.now) }
 {
     let columns = rows.columns();
-    let next = begun(alloc, rows)?;
+    let next = beginning(alloc, rows)?;
     match next {
         Next::Goes(work) => stages(alloc, rows, columns, work),
-        Next::Refutes(cert, number) => Ok(refuted(rows, cert, number)),
+        Next::Refutes(cert, number) => Ok(refutation_outcome(rows, cert, number)),
         Next::Leaves(stage, kind) => Ok(Decided::Leaves { stage, kind }),
     }
 }

@@ -5,6 +5,7 @@
 
 mod bounds;
 mod combination;
+mod constant_test;
 mod elimination;
 mod factors;
 mod follows;
@@ -19,7 +20,6 @@ mod rational_point;
 mod refuting;
 mod stage;
 mod substitution;
-mod tested;
 mod work;
 
 pub use elimination::{decide, decide_named};

@@ -11,14 +11,14 @@ use lin_rows::floor_of;
 use std::alloc::{AllocError, Global};
 
 /// Two lines, added so that the column falls out.
-fn paired(
+fn paired_line(
     alloc: Global,
     column: u32,
     positive: &Line,
     negative: &Line,
 ) -> Result<Option<Line>, AllocError>
     requires { int_lt (line_specs.coefficient_at column negative.now) (pos 0) ≡ true }
-    ensures { IfOk result (λ made. made ≡ specs.paired column positive.now negative.now) }
+    ensures { IfOk result (λ made. made ≡ specs.paired_line column positive.now negative.now) }
 {
     let p = positive.coefficient_at(column);
     let q = -negative.coefficient_at(column);
@@ -36,11 +36,11 @@ fn with_pairs(
     kept: &[Line],
     mut lines: Vec<Line>,
 ) -> Result<Option<Vec<Line>>, AllocError>
-    ensures { IfOk result (λ all. lines_in all ≡ option_map (λ pairs. lines.items ++ pairs) (specs.every (map (specs.paired column positive.now) (specs.negatives column kept.now)))) }
+    ensures { IfOk result (λ all. lines_in all ≡ option_map (λ pairs. lines.items ++ pairs) (specs.every (map (specs.paired_line column positive.now) (specs.negatives column kept.now)))) }
 {
     for negative in kept {
         if negative.is_negative_at(column) {
-            let made = paired(alloc, column, positive, negative)?;
+            let made = paired_line(alloc, column, positive, negative)?;
             match made {
                 Some(line) => lines.push(line)?,
                 None => return Ok(None),

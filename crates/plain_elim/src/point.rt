@@ -8,7 +8,8 @@ ghost use Rattle.plain_elim.specs.inside.Held.{kept_of, BoundsItsColumn};
 use crate::bounds::{Bounds, bound_on};
 use crate::kept::Kept;
 use crate::rational_point::RationalPoint;
-use farkas_cert::{Coordinates, Decided, LeaveKind};
+use farkas_cert::{Decided, LeaveKind};
+use lin_rows::NumberList;
 use std::alloc::{AllocError, Global};
 
 /// Sets the column of a stage, to an equality's bound or between the bounds of inequalities.
@@ -22,11 +23,11 @@ fn set_column(columns: u32, point: RationalPoint, kept: Kept) -> Option<Rational
     match kept {
         Kept::Solved(column, line) => {
             let value = bound_on(columns, column, &point, &line)?;
-            point.assigned(column, value)
+            point.assigned_point(column, value)
         }
         Kept::Bounded(column, lines) => {
             let bounds = Bounds::of(columns, column, &point, &lines)?;
-            point.assigned(column, bounds.chosen())
+            point.assigned_point(column, bounds.chosen_value())
         }
     }
 }
@@ -50,7 +51,7 @@ fn point_from(columns: u32, mut kept: Vec<Kept>, mut point: RationalPoint) -> De
         }
     }
     let denominator = point.denominator();
-    Decided::Point(Coordinates::of(point.into_numerators()), denominator)
+    Decided::Point(NumberList::of(point.into_numerators()), denominator)
 }
 
 /// The point between the bounds that the stages kept, which stand here in the order of the stages.

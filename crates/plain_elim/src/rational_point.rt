@@ -88,7 +88,7 @@ impl RationalPoint {
     }
 
     /// Sets a column to `value * share` where all other numbers are multiplied by `scale`.
-    fn assigned_by(
+    fn assigned_point_by(
         self,
         column: u32,
         value: i128,
@@ -97,7 +97,7 @@ impl RationalPoint {
     ) -> Option<RationalPoint>
         requires within { column < length self.numerators }
         requires positive { pos 0 <ℤ scale }
-        ensures point { result ≡ specs.assigned_by column self value share scale }
+        ensures point { result ≡ specs.assigned_point_by column self value share scale }
         ensures width { IfSome result (λ next. length next.numerators ≡ length self.numerators) }
     {
         let number = product_if_fits(value, share)?;
@@ -113,14 +113,14 @@ impl RationalPoint {
     }
 
     /// Sets a column to a value, over the least denominator that both have in common.
-    pub fn assigned(self, column: u32, value: Fraction) -> Option<RationalPoint>
+    pub fn assigned_point(self, column: u32, value: Fraction) -> Option<RationalPoint>
         requires { column < length self.numerators }
-        ensures point { result ≡ specs.assigned column self value }
+        ensures point { result ≡ specs.assigned_point column self value }
         ensures width { IfSome result (λ next. length next.numerators ≡ length self.numerators) }
     {
         let divisor = common_divisor(self.denominator(), value.denominator());
         let share = floor_of(self.denominator(), divisor);
         let scale = floor_of(value.denominator(), divisor);
-        self.assigned_by(column, value.numerator(), share, scale)
+        self.assigned_point_by(column, value.numerator(), share, scale)
     }
 }

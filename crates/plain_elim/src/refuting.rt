@@ -10,10 +10,10 @@ use lin_rows::opposites_of;
 use std::alloc::{AllocError, Global};
 
 /// The multipliers that are not 0, with the numbers of their rows.
-fn listed(alloc: Global, multipliers: &[i128]) -> Result<Cert, AllocError>
+fn nonzero_pairs(alloc: Global, multipliers: &[i128]) -> Result<Cert, AllocError>
     requires few { length multipliers.now < 2 ^ 32 }
     requires fit { AllByRecursion Fits multipliers.now }
-    ensures { IfOk result (λ cert. cert ≡ specs.listed 1 multipliers.now) }
+    ensures { IfOk result (λ cert. cert ≡ specs.nonzero_pairs 1 multipliers.now) }
 {
     let mut pairs = Vec::new(alloc);
     for (place, multiplier) in multipliers.iter().enumerate() {
@@ -34,15 +34,15 @@ fn is_turned(line: &Line, columns: u32) -> bool
 /// The multipliers by which a false line refutes, as a certificate.
 fn certificate(alloc: Global, rows: &NamedRows<'_>, line: &Line) -> Result<Cert, AllocError>
     requires { IsWide rows.now line.now }
-    ensures { IfOk result (λ cert. cert ≡ specs.listed 1 (specs.refuting rows.now.columns line.now)) }
+    ensures { IfOk result (λ cert. cert ≡ specs.nonzero_pairs 1 (specs.refuting rows.now.columns line.now)) }
 {
     let columns = rows.columns();
     let multipliers = line.multipliers(columns);
     if is_turned(line, columns) {
         let opposites = opposites_of(alloc, multipliers)?;
-        listed(alloc, opposites.as_slice())
+        nonzero_pairs(alloc, opposites.as_slice())
     } else {
-        listed(alloc, multipliers)
+        nonzero_pairs(alloc, multipliers)
     }
 }
 

@@ -14,13 +14,13 @@ use lin_rows::floor_of;
 use std::alloc::{AllocError, Global};
 
 /// The line from which the equality takes the column out. A line without the column stays as it is.
-fn substituted(
+fn substituted_line(
     alloc: Global,
     column: u32,
     equality: &Line,
     line: Line,
 ) -> Result<Option<Line>, AllocError>
-    ensures { IfOk result (λ made. made ≡ specs.substituted column equality.now line) }
+    ensures { IfOk result (λ made. made ≡ specs.substituted_line column equality.now line) }
 {
     let q = line.coefficient_at(column);
     if !is_nonzero(q) {
@@ -34,17 +34,17 @@ fn substituted(
 }
 
 /// All lines, each replaced in its place.
-fn all_substituted(
+fn substituted_lines(
     alloc: Global,
     column: u32,
     equality: &Line,
     lines: Vec<Line>,
 ) -> Result<Option<Vec<Line>>, AllocError>
-    ensures { IfOk result (λ made. lines_in made ≡ specs.every (map (specs.substituted column equality.now) lines.items)) }
+    ensures { IfOk result (λ made. lines_in made ≡ specs.every (map (specs.substituted_line column equality.now) lines.items)) }
 {
     let mut all = Vec::with_capacity(alloc, lines.len())?;
     for line in lines {
-        let made = substituted(alloc, column, equality, line)?;
+        let made = substituted_line(alloc, column, equality, line)?;
         match made {
             Some(made) => all.push(made)?,
             None => return Ok(None),
@@ -62,11 +62,11 @@ pub fn equality_stage(
 ) -> Result<Next, AllocError>
     requires few { length work.kept.items < rows.now.columns }
     requires first { position (λ line. line.equal) work.lines.items ≡ Some place }
-    ensures { IfOk result (λ next. next_of rows.now next ≡ specs.taken_out rows.now (work_of work)) }
+    ensures { IfOk result (λ next. next_of rows.now next ≡ specs.take_column_out rows.now (work_of work)) }
 {
     let mut lines = work.lines;
     let equality = lines.remove(place);
     let column = equality.lowest_column(rows.columns());
-    let made = all_substituted(alloc, column, &equality, lines)?;
+    let made = substituted_lines(alloc, column, &equality, lines)?;
     follows(work.kept, Kept::Solved(column, equality), work.made, made)
 }

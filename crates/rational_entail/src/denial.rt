@@ -5,8 +5,8 @@ ghost use Rattle.farkas_cert.specs.Decision.{IsEvidence};
 ghost use Rattle.rational_entail.specs.Entailment.{LeavesAlike, decided_in, Says};
 
 use crate::solver::decide_named;
-use farkas_cert::{Cert, Coordinates, Decided, LeaveKind, NamedRows};
-use lin_rows::{Atom, RowsView};
+use farkas_cert::{Cert, Decided, LeaveKind, NamedRows};
+use lin_rows::{Atom, NumberList, RowsView};
 use std::alloc::{AllocError, Global};
 
 /// Whether rows entail an atom. The evidence is of the rows with the atom's negation as one more row after the last: a certificate
@@ -14,7 +14,7 @@ use std::alloc::{AllocError, Global};
 #[derive(Debug, Drop)]
 pub enum Entailed {
     Yes(Cert),
-    No(Coordinates, i128),
+    No(NumberList, i128),
     Leaves { stage: u32, kind: LeaveKind },
 }
 

@@ -2,7 +2,7 @@ ghost use Rattle.std.specs.Prelude.{◌≡◌, IfOk};
 ghost use Rattle.transition_formula.specs.Stored.{form_of};
 
 use super::*;
-use lin_rows::Rows;
+use lin_rows::{NumberList, Rows};
 use std::alloc::{AllocError, Global};
 use std::test::Fail;
 use thr_base::{EdgeNo, ThreadNo};
@@ -69,10 +69,10 @@ fn a_schedule_is_read_as_it_was_made(rt: HostRuntime) -> Result<(), Fail> {
     steps.push(ScheduleStep {
         thread: ThreadNo(2),
         edge: EdgeNo(3),
-        inputs: Values::of(Vec::from_slice(alloc, &[7])?),
+        inputs: NumberList::of(Vec::from_slice(alloc, &[7])?),
     })?;
     let schedule = Schedule {
-        start: Values::of(Vec::from_slice(alloc, &[1, -1])?),
+        start: NumberList::of(Vec::from_slice(alloc, &[1, -1])?),
         steps: ScheduleSteps::of(steps),
     };
     assert!(rt; schedule.start.as_slice() == [1, -1].as_slice());

@@ -29,7 +29,7 @@ pub use lines::sum_at;
 pub use program::Program;
 pub use reading::read_atom;
 pub use schedule::{Schedule, ScheduleSteps};
-pub use schedule_step::{ScheduleStep, Values};
+pub use schedule_step::ScheduleStep;
 pub use worked::two_threads;
 
 #[cfg(test)]

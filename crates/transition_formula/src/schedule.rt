@@ -1,7 +1,8 @@
 ghost use Rattle.std.specs.Prelude.{◌≡◌, map};
 ghost use Rattle.transition_formula.specs.StoredStep.{step_of};
 
-use crate::schedule_step::{ScheduleStep, Values};
+use crate::schedule_step::ScheduleStep;
+use lin_rows::NumberList;
 use std::marker::Model;
 
 /// The steps of a schedule, in order, which contracts see as a run's.
@@ -43,6 +44,6 @@ impl ScheduleSteps {
 /// A run that is told: a state, and the steps from there.
 #[derive(Debug, Drop)]
 pub struct Schedule {
-    pub start: Values,
+    pub start: NumberList,
     pub steps: ScheduleSteps,
 }

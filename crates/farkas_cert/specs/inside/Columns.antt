@@ -22,14 +22,14 @@ abbrev pub number_at : Option Row → ℕ → ℤ
 number_at row column = slice_index_or (numbers_of row) column (pos 0)
 
 -- the sum with one more product, where both fit
-abbrev pub added : ℤ → ℤ → Option ℤ
-added sum product = if fits product && fits (product +ℤ sum) then Some (product +ℤ sum) else None
+abbrev pub sum_with : ℤ → ℤ → Option ℤ
+sum_with sum product = if fits product && fits (product +ℤ sum) then Some (product +ℤ sum) else None
 
 -- the sum of a column, or the first row at which a product or the sum up to it does not fit
 abbrev pub column_from : ℤ → ℕ → List (ℕ × List ℤ) → Result ℤ ℕ
 column_from sum column [] = Ok sum
 column_from sum column ((k, terms) ∷ rest) =
-    option_map_or (λ more. column_from more column rest) (added sum (slice_index_or terms column (pos 0))) (Err k)
+    option_map_or (λ more. column_from more column rest) (sum_with sum (slice_index_or terms column (pos 0))) (Err k)
 
 -- of two overflows the one at the earlier row, or the first where both are at one row
 abbrev pub earlier : Option (ℕ × ℕ) → ℕ → ℕ → Option (ℕ × ℕ)

@@ -26,5 +26,5 @@ answer_of (Some place) contradicts = Overflow place.0 place.1
 answer_of None true = Proves
 answer_of None false = Fails
 
-abbrev pub answered : Weighed → ℕ → Result ℤ ℕ → CertAnswer
-answered seen columns bound = answer_of (weighed_with seen columns bound).overflow (seen.cancels && is_below_zero bound)
+abbrev pub answer_of_weights : Weighed → ℕ → Result ℤ ℕ → CertAnswer
+answer_of_weights seen columns bound = answer_of (weighed_with seen columns bound).overflow (seen.cancels && is_below_zero bound)

@@ -13,11 +13,11 @@ abbrev pub in_front : Option ℤ → Option (List ℤ) → Option (List ℤ)
 in_front number numbers = option_and_then (λ z. option_map (λ zs. z ∷ zs) numbers) number
 
 -- a times the one list plus b times the other; the shorter is continued by zeros
-unfoldable pub combined : ℤ → List ℤ → ℤ → List ℤ → Option (List ℤ)
-combined a [] b [] = Some []
-combined a [] b (y ∷ ys) = in_front (combined_number a (pos 0) b y) (combined a [] b ys)
-combined a (x ∷ xs) b [] = in_front (combined_number a x b (pos 0)) (combined a xs b [])
-combined a (x ∷ xs) b (y ∷ ys) = in_front (combined_number a x b y) (combined a xs b ys)
+unfoldable pub combined_numbers : ℤ → List ℤ → ℤ → List ℤ → Option (List ℤ)
+combined_numbers a [] b [] = Some []
+combined_numbers a [] b (y ∷ ys) = in_front (combined_number a (pos 0) b y) (combined_numbers a [] b ys)
+combined_numbers a (x ∷ xs) b [] = in_front (combined_number a x b (pos 0)) (combined_numbers a xs b [])
+combined_numbers a (x ∷ xs) b (y ∷ ys) = in_front (combined_number a x b y) (combined_numbers a xs b ys)
 
 -- the numbers of a list that may be there
 abbrev pub numbers_in : Option (Vec ℤ) → Option (List ℤ)

@@ -4,7 +4,7 @@ use Rattle.std.specs.Option.{option_and_then}
 use Rattle.std.specs.List.{AllByRecursion}
 use Rattle.thr_base.specs.Number.{Fits, fits}
 use Rattle.farkas_cert.specs.Line.{Line, coefficient_at}
-use Rattle.farkas_cert.specs.BackSubstitution.{RationalPoint, Bounds, narrowed, bound_on}
+use Rattle.farkas_cert.specs.BackSubstitution.{RationalPoint, Bounds, narrowed_bounds, bound_on}
 
 -- The denominator is positive, and both numbers fit.
 pub record IsFraction (numerator denominator : ℤ) : Type 0 where
@@ -25,4 +25,4 @@ minus_product t a n = cond (fits (a *ℤ n) && fits (t -ℤ a *ℤ n)) (Some (t 
 -- the bounds with that of one more line
 abbrev pub narrowed_by : ℕ → ℕ → RationalPoint → Line → Bounds → Option Bounds
 narrowed_by n c point line bounds =
-    option_and_then (narrowed (int_lt (pos 0) (coefficient_at c line)) bounds) (bound_on n c point line)
+    option_and_then (narrowed_bounds (int_lt (pos 0) (coefficient_at c line)) bounds) (bound_on n c point line)

@@ -5,8 +5,8 @@ use Rattle.std.specs.Option.{option_map}
 use Rattle.std.specs.Global.{Vec}
 use Rattle.lin_rows.specs.System.{System}
 use Rattle.farkas_cert.specs.Cert.{Pairs}
-use Rattle.farkas_cert.specs.Line.{Line, is_false, refuting, listed}
-use Rattle.farkas_cert.specs.Elimination.{Work, Next, Goes, Ends, every, paired, negatives, are_too_many}
+use Rattle.farkas_cert.specs.Line.{Line, is_false, refuting, nonzero_pairs}
+use Rattle.farkas_cert.specs.Elimination.{Work, Next, Goes, Ends, every, paired_line, negatives, are_too_many}
 use Rattle.plain_elim.specs.declared.kept.Kept.{Kept as HeldKept}
 use Rattle.plain_elim.specs.inside.Held.{kept_of, BoundsItsColumn}
 
@@ -20,7 +20,7 @@ lines_in lines = option_map (λ v. v.items) lines
 
 -- the certificate of the first false line, where there is one
 abbrev pub refutation_of : System → List Line → Option Pairs
-refutation_of system lines = option_map (λ line. listed 1 (refuting system.columns line)) (find (is_false system.columns) lines)
+refutation_of system lines = option_map (λ line. nonzero_pairs 1 (refuting system.columns line)) (find (is_false system.columns) lines)
 
 -- what a stage starts from, for the definitions that look at what was kept alone
 abbrev pub after_stages : List HeldKept → Work
@@ -33,7 +33,7 @@ made_with system made positives negatives =
 
 -- the pairs of some positive lines with the negative lines of a list
 abbrev pub pairs_of : ℕ → List Line → List Line → Option (List Line)
-pairs_of c kept some = every (flat_map (λ positive. map (paired c positive) (negatives c kept)) some)
+pairs_of c kept some = every (flat_map (λ positive. map (paired_line c positive) (negatives c kept)) some)
 
 -- Each line is as wide as one of the system, and what was kept bounds its column.
 pub record IsWideWork (system : System) (work : Work) : Type 0 where

@@ -4,7 +4,7 @@ use Rattle.thr_base.specs.Number.{Fits}
 use Rattle.lin_rows.proofs.Numbers.{read_back}
 use Rattle.farkas_cert.specs.Cert.{row_numbered}
 use Rattle.farkas_cert.specs.inside.Columns.{number_at}
-use Rattle.farkas_cert.proofs.ColumnSums.{IsSome-InOrder, column_from-at, Fits-added}
+use Rattle.farkas_cert.proofs.ColumnSums.{IsSome-InOrder, column_from-at, Fits-sum_with}
 use Rattle.farkas_cert.proofs.columns.column_sum.Goals as goal
 
 pub add_product-requires-clause-there : goal.add_product-requires-clause-there
@@ -21,5 +21,5 @@ pairs-preserved c =
     let is = sym c.in-Some.is ∙ c.add_product.ensures in
     let step = column_from-at c.args.rows.now.rows _ c.args.column c.args.cert.now c.pairs.pair-index (0, pos 0) (Some c.in-Some.more) c.pairs-test.true is in
     let pair = get_or c.args.cert.now c.pairs.pair-index (0, pos 0) in
-    let fits : Fits c.in-Some.more = Fits-added (to_z w128 c.pairs.sum-bits) (pair.1 *ℤ number_at (row_numbered c.args.rows.now.rows pair.0) c.args.column) c.in-Some.more (sym is) in
+    let fits : Fits c.in-Some.more = Fits-sum_with (to_z w128 c.pairs.sum-bits) (pair.1 *ℤ number_at (row_numbered c.args.rows.now.rows pair.0) c.args.column) c.in-Some.more (sym is) in
     rw (read_back c.in-Some.more fits) (sym step ∙ c.pairs.invariant)

@@ -22,8 +22,8 @@ returns-then-is_empty c =
     ∙ ap (λ n. specs.point_of n work.kept) (sym c.requires.columns) in
     subst (λ o. IfOk c.point_of.result (λ d. outcome_in d ≡ o)) (sym is_point) c.point_of.ensures
 
-pub refuted-requires-clause-leads : goal.refuted-requires-clause-leads
-refuted-requires-clause-leads c =
+pub refutation_outcome-requires-clause-leads : goal.refutation_outcome-requires-clause-leads
+refutation_outcome-requires-clause-leads c =
     let rows = c.args.rows.now in
     let some : 0 < length c.stages.work.lines.items = let test = sym c.is_empty.ensures ∙ c.if-is_empty.false in let same = c.stages.work.lines.ok.0 in grind (arith, nat_tests) in
     let within : c.stages.taken < rows.columns = omega (arith, c.stages-test.true, c.requires.columns) in

@@ -1,20 +1,20 @@
 use Rattle.std.proofs.Common.{◌∙◌, ap, sym}
 use Rattle.std.specs.Prelude.{pos, int_lt}
 use Rattle.farkas_cert.specs.Line.{Line, coefficient_at}
-use Rattle.farkas_cert.specs.Elimination.{paired}
+use Rattle.farkas_cert.specs.Elimination.{paired_line}
 use Rattle.plain_elim.proofs.Everyone.{mapped-more, mapped-skips, mapped-stops, mapped-ends}
 use Rattle.plain_elim.proofs.pairing.with_pairs.Goals as goal
 use Rattle.plain_elim.proofs.pairing.with_pairs.Goals.{then-is_negative_at+in_ok-made+in-Some+in_ok-push-in-Some, else-is_negative_at}
 
 pub returns-in-None : goal.returns-in-None
 returns-in-None c =
-    mapped-stops (paired c.args.column c.args.positive.now) (λ (line : Line). int_lt (coefficient_at c.args.column line) (pos 0)) c.args.kept.now c.loop-negative.negative-index
+    mapped-stops (paired_line c.args.column c.args.positive.now) (λ (line : Line). int_lt (coefficient_at c.args.column line) (pos 0)) c.args.kept.now c.loop-negative.negative-index
     c.negative-item.result c.loop-negative.lines.items _ c.loop-negative-test.true c.negative-item.is (sym c.is_negative_at.ensures ∙ c.if-is_negative_at.true)
     (sym c.in-None.is ∙ c.in_ok-made.ensures) c.loop-negative.invariant
 
 pub loop-negative-preserved : goal.loop-negative-preserved
 loop-negative-preserved c =
-    let f = paired c.args.column c.args.positive.now in
+    let f = paired_line c.args.column c.args.positive.now in
     let p = λ (line : Line). int_lt (coefficient_at c.args.column line) (pos 0) in
     elim c.if-is_negative_at.branch [
       | then-is_negative_at+in_ok-made+in-Some+in_ok-push-in-Some w ↦
@@ -28,5 +28,5 @@ loop-negative-preserved c =
 
 pub returns : goal.returns
 returns c =
-    mapped-ends (paired c.args.column c.args.positive.now) (λ (line : Line). int_lt (coefficient_at c.args.column line) (pos 0)) c.args.kept.now c.loop-negative.negative-index
+    mapped-ends (paired_line c.args.column c.args.positive.now) (λ (line : Line). int_lt (coefficient_at c.args.column line) (pos 0)) c.args.kept.now c.loop-negative.negative-index
     c.loop-negative.lines.items _ c.loop-negative-test.false c.loop-negative.invariant

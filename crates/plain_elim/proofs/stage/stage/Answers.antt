@@ -11,23 +11,23 @@ use Rattle.plain_elim.proofs.StageLemmas.{if_ok, kept_count, stage_goes, stage_e
 use Rattle.plain_elim.proofs.stage.stage.Goals as goal
 
 -- what the stage goes on with
-goes : (system : System) (work : specs.Work) (held : HeldNext) (after : HeldWork) → next_of system held ≡ specs.taken_out system work → held ≡ next.Goes after
-    → specs.Goes (work_of after) ≡ specs.taken_out system work
+goes : (system : System) (work : specs.Work) (held : HeldNext) (after : HeldWork) → next_of system held ≡ specs.take_column_out system work → held ≡ next.Goes after
+    → specs.Goes (work_of after) ≡ specs.take_column_out system work
 goes system work held after e is = ap (next_of system) (sym is) ∙ e
 
-wide : (system : System) (work : specs.Work) (after : HeldWork) → IsReady system work → 0 < length work.lines → specs.Goes (work_of after) ≡ specs.taken_out system work
+wide : (system : System) (work : specs.Work) (after : HeldWork) → IsReady system work → 0 < length work.lines → specs.Goes (work_of after) ≡ specs.take_column_out system work
     → IsWideWork system (work_of after)
 wide system work after r s e = subst (λ (n : specs.Next). IsWideNext system n) (sym e) (taken_out_wide system work r s)
 
-pub tested-requires-clause-wide : goal.tested-requires-clause-wide
-tested-requires-clause-wide c =
+pub constant_test-requires-clause-wide : goal.constant_test-requires-clause-wide
+constant_test-requires-clause-wide c =
     let system = c.args.rows.now in
     let work = work_of c.args.work in
     let e = goes system work c.in_ok-next.next c.in-Goes.work c.in_ok-next.ensures c.in-Goes.is in
     (wide system work c.in-Goes.work c.requires.ready c.requires.some e).lines
 
-pub tested-requires-clause-few : goal.tested-requires-clause-few
-tested-requires-clause-few c =
+pub constant_test-requires-clause-few : goal.constant_test-requires-clause-few
+constant_test-requires-clause-few c =
     let system = c.args.rows.now in
     let work = work_of c.args.work in
     let e = goes system work c.in_ok-next.next c.in-Goes.work c.in_ok-next.ensures c.in-Goes.is in
@@ -41,7 +41,7 @@ returns-in-Goes-clause-next c =
     let after = c.in-Goes.work in
     let e = goes system work c.in_ok-next.next after c.in_ok-next.ensures c.in-Goes.is in
     let same = stage_goes system work (work_of after) (length after.kept.items) e (sym (kept_count after.kept.items)) in
-    if_ok _ (λ (n : HeldNext). next_of system n ≡ specs.stage system work) c.tested.result (λ n h. h ∙ same) c.tested.ensures
+    if_ok _ (λ (n : HeldNext). next_of system n ≡ specs.stage system work) c.constant_test.result (λ n h. h ∙ same) c.constant_test.ensures
 
 pub returns-in-Goes-clause-ready : goal.returns-in-Goes-clause-ready
 returns-in-Goes-clause-ready c =
@@ -50,7 +50,7 @@ returns-in-Goes-clause-ready c =
     let after = c.in-Goes.work in
     let e = goes system work c.in_ok-next.next after c.in_ok-next.ensures c.in-Goes.is in
     let ready = tested_ready system (length after.kept.items) (work_of after) (wide system work after c.requires.ready c.requires.some e) in
-    if_ok _ (λ (n : HeldNext). IsReadyNext system (next_of system n)) c.tested.result (λ n h. subst (λ (m : specs.Next). IsReadyNext system m) (sym h) ready) c.tested.ensures
+    if_ok _ (λ (n : HeldNext). IsReadyNext system (next_of system n)) c.constant_test.result (λ n h. subst (λ (m : specs.Next). IsReadyNext system m) (sym h) ready) c.constant_test.ensures
 
 pub returns-in-Refutes : goal.returns-in-Refutes
 returns-in-Refutes c =

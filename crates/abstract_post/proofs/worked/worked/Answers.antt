@@ -1,5 +1,0 @@
-use Rattle.transition_formula.proofs.WorkedProgram.{worked-is}
-use Rattle.abstract_post.proofs.worked.worked.Goals as goal
-
-pub new-requires : goal.new-requires
-new-requires c = rw (c.in_ok-columns.ensures, c.in_ok-threads.ensures) worked-is
