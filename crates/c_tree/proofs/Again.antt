@@ -24,9 +24,9 @@ use Rattle.c_tree.specs.declared.expr.Expr.{Expr, roll-Expr, out-Expr, roll-out-
 use denote.Enum.Bare.{true_same}
 use Rattle.c_tree.specs.contracts.term.Term.{the_type}
 use Rattle.c_tree.specs.Term.{same_term}
-use Rattle.c_tree.specs.Input.{Input, Outcome, Parser, and_then, peek, place, bytes, bytes_at, next, sees, expect, term_at}
-use Rattle.c_tree.specs.Chain.{mark_at, more_from, more_of}
-use Rattle.c_tree.specs.Expr as spec
+use Rattle.c_tree.specs.inside.Input.{Input, Outcome, Parser, and_then, peek, place, bytes, bytes_at, next, sees, expect, term_at}
+use Rattle.c_tree.specs.inside.Chain.{mark_at, more_from, more_of}
+use Rattle.c_tree.specs.inside.Expr as spec
 use Rattle.c_tree.specs.Grammar.{Is, Stands, StartsAt, AreMore, IsLevel, IsOrMark, IsAndMark, IsEqualityMark, IsRelationMark, IsSumMark, IsProductMark, IsProduct, IsSum, IsRelation, IsEquality, IsConjunction, IsExprOver, IsName, IsLayer, IsUnary, IsExpr, equality_term, relation_term, sum_term, sign_term, binds}
 use Rattle.c_tree.proofs.Shrinks.{Shrinks, product_shrinks, sum_shrinks, relation_shrinks, equality_shrinks, conjunction_shrinks, unary_shrinks}
 

@@ -7,9 +7,9 @@ use Rattle.c_tree.specs.declared.term.Term.TheVariants as terms
 use Rattle.c_tree.specs.declared.stmt.Around.TheVariants as arounds
 use Rattle.c_tree.specs.declared.stmt.Block.{Block, out-Block}
 use Rattle.c_tree.specs.Term.{same_term}
-use Rattle.c_tree.specs.Input.{Parser, ◌>>=◌, pure, peek, sees, after, term_at}
-use Rattle.c_tree.specs.Stmt as stmt_spec
-use Rattle.c_tree.specs.Item as spec
+use Rattle.c_tree.specs.inside.Input.{Parser, ◌>>=◌, pure, peek, sees, after, term_at}
+use Rattle.c_tree.specs.inside.Stmt as stmt_spec
+use Rattle.c_tree.specs.inside.Item as spec
 use Rattle.c_tree.specs.Grammar.{Is, Stands}
 use Rattle.c_tree.specs.Sequence.{◌then◌, InParens}
 use Rattle.c_tree.specs.GrammarStmt.{IsStmt}
@@ -103,7 +103,7 @@ module _ (levels : ℕ) where
   unfolding same_term
   named_again end ts behind rest (inl none) close = rw (not_seen terms.Name end ts (no_more terms.Name end ts behind rest refl none close)) (ap (λ (l : List Lexeme). Ok (tt, at l end)) none)
   named_again end ts behind rest (inr there) close =
-      rw (is_eaten terms.Name end ts behind there, name_again end (record { from = there.0; text = Rattle.c_tree.specs.Input.bytes_at ts }) ts behind (there.1, refl)) refl
+      rw (is_eaten terms.Name end ts behind there, name_again end (record { from = there.0; text = Rattle.c_tree.specs.inside.Input.bytes_at ts }) ts behind (there.1, refl)) refl
 
   pointed_again : (end : ℕ) (ts behind rest : List Lexeme) → IfAny (Stands terms.Star then IfAny (Stands terms.Name)) ts behind → Stands terms.RightParen behind rest → spec.pointer_if (sees terms.Star (at ts end)) (after terms.Star (at ts end)) ≡ Ok (tt, at behind end)
   unfolding same_term

@@ -5,8 +5,8 @@ use Rattle.c_tree.specs.declared.term.Term.{Term}
 use Rattle.c_tree.specs.declared.term.Term.TheVariants as terms
 use Rattle.c_tree.specs.declared.item.Start.{Start}
 use Rattle.c_tree.specs.Term.{same_term}
-use Rattle.c_tree.specs.Input.{sees, after, term_at}
-use Rattle.c_tree.specs.Item as spec
+use Rattle.c_tree.specs.inside.Input.{sees, after, term_at}
+use Rattle.c_tree.specs.inside.Item as spec
 use Rattle.c_tree.specs.Grammar.{Stands}
 use Rattle.c_tree.specs.Sequence.{◌then◌, Perhaps}
 use Rattle.c_tree.specs.GrammarItem.{IsSign, IsNumber, IsStart, IsGname, IsGlobals, IsStarted, IsMname, IsLocks}

@@ -16,9 +16,9 @@ use Rattle.c_tree.specs.declared.item.Body.{Body}
 use Rattle.c_tree.specs.declared.item.Body.TheVariants as bodies
 use Rattle.c_tree.specs.declared.item.Item.{Item}
 use Rattle.c_tree.specs.Term.{same_term}
-use Rattle.c_tree.specs.Input.{◌>>=◌, pure, peek, sees, term_at}
-use Rattle.c_tree.specs.Simple.{qual_mark}
-use Rattle.c_tree.specs.Item as spec
+use Rattle.c_tree.specs.inside.Input.{◌>>=◌, pure, peek, sees, term_at}
+use Rattle.c_tree.specs.inside.Simple.{qual_mark}
+use Rattle.c_tree.specs.inside.Item as spec
 use Rattle.c_tree.specs.Grammar.{Is, Stands}
 use Rattle.c_tree.specs.Sequence.{AreAll, InParens}
 use Rattle.c_tree.specs.GrammarSimple.{qual_term, IsQual, IsItype}

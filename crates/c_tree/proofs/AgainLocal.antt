@@ -10,10 +10,10 @@ use Rattle.c_tree.specs.declared.simple.QualKind.TheVariants as kinds
 use Rattle.c_tree.specs.declared.simple.Itype.{Itype}
 use Rattle.c_tree.specs.declared.simple.Itype.TheVariants as itypes
 use Rattle.c_tree.specs.Term.{same_term}
-use Rattle.c_tree.specs.Input.{Input, Parser, peek, place, sees, after, expect, term_at}
-use Rattle.c_tree.specs.Chain.{mark_at}
-use Rattle.c_tree.specs.Expr as expr_spec
-use Rattle.c_tree.specs.Simple as spec
+use Rattle.c_tree.specs.inside.Input.{Input, Parser, peek, place, sees, after, expect, term_at}
+use Rattle.c_tree.specs.inside.Chain.{mark_at}
+use Rattle.c_tree.specs.inside.Expr as expr_spec
+use Rattle.c_tree.specs.inside.Simple as spec
 use Rattle.c_tree.specs.Grammar.{Is, Stands, IsName}
 use Rattle.c_tree.specs.Sequence.{◌then◌, Perhaps, AreAll}
 use Rattle.c_tree.specs.GrammarSimple.{qual_term, IsQual, IsItype, IsRight, IsLname, IsLocal, IsHandles}
@@ -78,7 +78,7 @@ name_no_int from ts rest is = ap (λ (k : Term). same_term k terms.Int) (is_term
 
 module _ (levels : ℕ) where
   start_again : (end : ℕ) (start : Option Right) (ts rest : List Lexeme) → Perhaps (λ e. Stands terms.Assign then IsRight levels e) start ts rest → closes (term_at rest) ≡ true
-      → Rattle.c_tree.specs.Input.and_then (Ok (sees terms.Assign (at ts end), after terms.Assign (at ts end))) (spec.start_if levels) ≡ Ok (start, at rest end)
+      → Rattle.c_tree.specs.inside.Input.and_then (Ok (sees terms.Assign (at ts end), after terms.Assign (at ts end))) (spec.start_if levels) ≡ Ok (start, at rest end)
   start_again end None ts rest is so =
       let other = not_assign (term_at ts) (ap (λ (l : List Lexeme). closes (term_at l)) is ∙ so) in
       rw (not_seen terms.Assign end ts other, not_behind terms.Assign end ts other) (ap (λ (l : List Lexeme). Ok (None, at l end)) is)

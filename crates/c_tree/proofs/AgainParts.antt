@@ -4,11 +4,11 @@ use Rattle.c_lex.specs.Tokens.{Lexeme}
 use Rattle.c_tree.specs.declared.term.Term.{Term}
 use Rattle.c_tree.specs.declared.term.Term.TheVariants as terms
 use Rattle.c_tree.specs.Term.{same_term}
-use Rattle.c_tree.specs.Input.{Parser, peek, sees, after, expect, term_at}
-use Rattle.c_tree.specs.Chain.{mark_at, more_from, more_of}
-use Rattle.c_tree.specs.Many.{many_from, many}
-use Rattle.c_tree.specs.Expr as expr_spec
-use Rattle.c_tree.specs.Simple.{comma_mark, empty_parens}
+use Rattle.c_tree.specs.inside.Input.{Parser, peek, sees, after, expect, term_at}
+use Rattle.c_tree.specs.inside.Chain.{mark_at, more_from, more_of}
+use Rattle.c_tree.specs.inside.Many.{many_from, many}
+use Rattle.c_tree.specs.inside.Expr as expr_spec
+use Rattle.c_tree.specs.inside.Simple.{comma_mark, empty_parens}
 use Rattle.c_tree.specs.Grammar.{Stands, AreMore, IsExpr, binds}
 use Rattle.c_tree.specs.Sequence.{Part, AreAll, EmptyParens, IsComma}
 use Rattle.c_tree.proofs.Shrinks.{Shrinks}

@@ -18,9 +18,9 @@ use Rattle.c_tree.specs.declared.simple.Cond.TheVariants as conds
 use Rattle.c_tree.specs.declared.simple.Nil.TheVariants as nils
 use Rattle.c_tree.specs.declared.simple.Assign.TheVariants as assigns
 use Rattle.c_tree.specs.declared.simple.Call.TheVariants as calls
-use Rattle.c_tree.specs.Input.{Input, Parser, peek, bytes, expect, term_at}
-use Rattle.c_tree.specs.Expr as expr_spec
-use Rattle.c_tree.specs.Simple as spec
+use Rattle.c_tree.specs.inside.Input.{Input, Parser, peek, bytes, expect, term_at}
+use Rattle.c_tree.specs.inside.Expr as expr_spec
+use Rattle.c_tree.specs.inside.Simple as spec
 use Rattle.c_tree.specs.Grammar.{IsExpr, IsUnary, IsLayer, sign_term}
 use Rattle.c_tree.specs.Sequence.{Part, InParens}
 use Rattle.c_tree.specs.GrammarSimple.{IsNondet, IsNil, IsAddress, IsRight, IsCond, IsAssign, IsCall}
@@ -87,7 +87,7 @@ unfolding spec.exit_argument
 exit_argument_again end n ts rest is = rw (stands_again terms.LeftParen end ts is.0 is.1, nil_again end n is.0 is.2.0 is.2.1, stands_again terms.RightParen end is.2.0 rest is.2.2) refl
 
 module _ (levels : ℕ) where
-  right_by_again : (k : Term) → leads k ≡ true → spec.right_by levels k ≡ (λ i. Rattle.c_tree.specs.Input.and_then (expr_spec.expr levels i) (λ e j. Ok (rights.Expr e, j)))
+  right_by_again : (k : Term) → leads k ≡ true → spec.right_by levels k ≡ (λ i. Rattle.c_tree.specs.inside.Input.and_then (expr_spec.expr levels i) (λ e j. Ok (rights.Expr e, j)))
   right_by_again terms.Nondet so = impossible so
   right_by_again _ so = refl
 
@@ -96,7 +96,7 @@ module _ (levels : ℕ) where
   right_again end (rights.Nondet n) ts rest is so = rw (is_term terms.Nondet n.from ts is.0 is.1, nondet_again end n ts rest is) refl
   right_again end (rights.Expr e) ts rest is so = rw (right_by_again (term_at ts) (expr_leads levels e ts rest is), expr_closed levels end e ts rest is so) refl
 
-  cond_by_again : (k : Term) → leads k ≡ true → spec.cond_by levels k ≡ (λ i. Rattle.c_tree.specs.Input.and_then (expr_spec.expr levels i) (λ e j. Ok (conds.Expr e, j)))
+  cond_by_again : (k : Term) → leads k ≡ true → spec.cond_by levels k ≡ (λ i. Rattle.c_tree.specs.inside.Input.and_then (expr_spec.expr levels i) (λ e j. Ok (conds.Expr e, j)))
   cond_by_again terms.Nondet so = impossible so
   cond_by_again _ so = refl
 

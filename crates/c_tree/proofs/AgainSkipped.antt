@@ -4,8 +4,8 @@ use Rattle.c_lex.specs.Tokens.{Lexeme}
 use Rattle.c_tree.specs.declared.term.Term.{Term}
 use Rattle.c_tree.specs.declared.term.Term.TheVariants as terms
 use Rattle.c_tree.specs.Term.{same_term}
-use Rattle.c_tree.specs.Input.{Input, Outcome}
-use Rattle.c_tree.specs.Item as spec
+use Rattle.c_tree.specs.inside.Input.{Input, Outcome}
+use Rattle.c_tree.specs.inside.Item as spec
 use Rattle.c_tree.specs.Grammar.{Is, Stands}
 use Rattle.c_tree.specs.Sequence.{◌then◌, InParens}
 use Rattle.c_tree.specs.GrammarItem.{Nesting, is_plain, IsNesting, IsSkipped}

@@ -17,8 +17,8 @@ use Rattle.c_tree.specs.declared.stmt.Stmt.TheOpen.{Stmt-F}
 use denote.Enum.Bare.{same_true}
 use Rattle.c_tree.specs.contracts.term.Term.{the_type}
 use Rattle.c_tree.specs.Term.{same_term}
-use Rattle.c_tree.specs.Input.{Input, Outcome, Parser, peek, sees, after, term_at}
-use Rattle.c_tree.specs.Stmt as spec
+use Rattle.c_tree.specs.inside.Input.{Input, Outcome, Parser, peek, sees, after, term_at}
+use Rattle.c_tree.specs.inside.Stmt as spec
 use Rattle.c_tree.specs.Sequence.{Part, Perhaps, InParens}
 use Rattle.c_tree.specs.GrammarSimple.{IsNil, IsCond, IsAssign}
 use Rattle.c_tree.specs.GrammarStmt.{IsWordEnd, IsElse, IsFirst, IsBlock, IsLayer, IsStmt}

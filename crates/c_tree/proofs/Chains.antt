@@ -5,8 +5,8 @@ use Rattle.thr_base.specs.declared.stops.Refusal.{Refusal}
 use Rattle.thr_base.specs.declared.stops.Stop.{Stop}
 use Rattle.thr_base.specs.declared.stops.Stop.TheVariants.{Refused, Memory}
 use Rattle.c_tree.specs.declared.term.Term.{Term}
-use Rattle.c_tree.specs.Input.{Input, Outcome, Parser, and_then, Reads}
-use Rattle.c_tree.specs.Chain.{mark_at, past, one_more, more_from, more_of}
+use Rattle.c_tree.specs.inside.Input.{Input, Outcome, Parser, and_then, Reads}
+use Rattle.c_tree.specs.inside.Chain.{mark_at, past, one_more, more_from, more_of}
 use Rattle.c_tree.proofs.Shrinks.{Shrinks, NoMarkAtEnd, past_shorter}
 
 -- what was read before, and what is still read

@@ -15,8 +15,8 @@ use Rattle.c_tree.specs.declared.expr.Unary.{Unary}
 use Rattle.c_tree.specs.declared.expr.Unary.TheVariants as unaries
 use Rattle.c_tree.specs.declared.expr.UnaryKind.{UnaryKind}
 use Rattle.c_tree.specs.declared.expr.UnaryKind.TheVariants as signs
-use Rattle.c_tree.specs.Input.{Parser, ◌>>=◌, pure, refuse, expect, bytes}
-use Rattle.c_tree.specs.Expr as spec
+use Rattle.c_tree.specs.inside.Input.{Parser, ◌>>=◌, pure, refuse, expect, bytes}
+use Rattle.c_tree.specs.inside.Expr as spec
 use Rattle.c_tree.specs.Grammar.{binds}
 use Rattle.c_tree.proofs.Shrinks.{Shrinks, product_shrinks, sum_shrinks, relation_shrinks, equality_shrinks, conjunction_shrinks, unary_shrinks}
 use Rattle.c_tree.proofs.Sizes.{refuse_shrinks}

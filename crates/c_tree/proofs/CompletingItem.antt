@@ -17,11 +17,11 @@ use Rattle.c_tree.specs.declared.item.Untyped.TheVariants as untypeds
 use Rattle.c_tree.specs.declared.item.Body.TheVariants as bodies
 use Rattle.c_tree.specs.declared.item.Item.{Item}
 use Rattle.c_tree.specs.Term.{same_term}
-use Rattle.c_tree.specs.Input.{Input, Parser, ◌>>=◌, pure, expect, peek, sees, term_at}
-use Rattle.c_tree.specs.Expr as expr_spec
-use Rattle.c_tree.specs.Simple as simple_spec
-use Rattle.c_tree.specs.Stmt as stmt_spec
-use Rattle.c_tree.specs.Item as spec
+use Rattle.c_tree.specs.inside.Input.{Input, Parser, ◌>>=◌, pure, expect, peek, sees, term_at}
+use Rattle.c_tree.specs.inside.Expr as expr_spec
+use Rattle.c_tree.specs.inside.Simple as simple_spec
+use Rattle.c_tree.specs.inside.Stmt as stmt_spec
+use Rattle.c_tree.specs.inside.Item as spec
 use Rattle.c_tree.proofs.StmtSizes.{stmt_shrinks}
 use Rattle.c_tree.proofs.ItemSizes.{gname_shrinks, mname_shrinks, item_shrinks}
 use Rattle.c_tree.proofs.Again.{at, same_self}

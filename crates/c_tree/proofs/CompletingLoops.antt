@@ -3,9 +3,9 @@ use Rattle.std.proofs.Common.{◌≡◌, ℕ, zero, suc, ◌<◌, ◌≤◌, Boo
 use Rattle.c_lex.specs.Tokens.{Lexeme}
 use Rattle.c_tree.specs.declared.term.Term.{Term}
 use Rattle.c_tree.specs.Term.{same_term}
-use Rattle.c_tree.specs.Input.{Input, Parser, ◌>>=◌, pure, take_token, peek, place, sees, term_at}
-use Rattle.c_tree.specs.Chain.{mark_at, more_of}
-use Rattle.c_tree.specs.Many.{many}
+use Rattle.c_tree.specs.inside.Input.{Input, Parser, ◌>>=◌, pure, take_token, peek, place, sees, term_at}
+use Rattle.c_tree.specs.inside.Chain.{mark_at, more_of}
+use Rattle.c_tree.specs.inside.Many.{many}
 use Rattle.c_tree.proofs.Shrinks.{Shrinks, NoMarkAtEnd}
 use Rattle.c_tree.proofs.Again.{at}
 use Rattle.c_tree.proofs.NextToken.{views_sees, seeing}

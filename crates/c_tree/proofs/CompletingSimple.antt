@@ -19,10 +19,10 @@ use Rattle.c_tree.specs.declared.simple.Lname.{Lname}
 use Rattle.c_tree.specs.declared.simple.Local.{Local}
 use Rattle.c_tree.specs.declared.simple.Handles.{Handles}
 use Rattle.c_tree.specs.Term.{same_term, term_of}
-use Rattle.c_tree.specs.Input.{Input, Parser, ◌>>=◌, pure, look, take_token, expect, peek, bytes, term_at}
-use Rattle.c_tree.specs.Chain.{more_of}
-use Rattle.c_tree.specs.Expr as expr_spec
-use Rattle.c_tree.specs.Simple as spec
+use Rattle.c_tree.specs.inside.Input.{Input, Parser, ◌>>=◌, pure, look, take_token, expect, peek, bytes, term_at}
+use Rattle.c_tree.specs.inside.Chain.{more_of}
+use Rattle.c_tree.specs.inside.Expr as expr_spec
+use Rattle.c_tree.specs.inside.Simple as spec
 use Rattle.c_tree.specs.Grammar.{binds}
 use Rattle.c_tree.proofs.Shrinks.{name_shrinks}
 use Rattle.c_tree.proofs.Sizes.{lname_shrinks}

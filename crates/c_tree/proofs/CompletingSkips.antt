@@ -5,10 +5,10 @@ use Rattle.c_tree.specs.declared.term.Term.{Term}
 use Rattle.c_tree.specs.declared.term.Term.TheVariants as terms
 use Rattle.c_tree.specs.declared.simple.Qual.{Qual}
 use Rattle.c_tree.specs.Term.{same_term, term_of}
-use Rattle.c_tree.specs.Input.{◌>>=◌, pure, take_token, peek, place, next, term_at}
-use Rattle.c_tree.specs.Chain.{mark_at}
-use Rattle.c_tree.specs.Simple.{qual_mark, quals}
-use Rattle.c_tree.specs.Item.{open_after, skip_through}
+use Rattle.c_tree.specs.inside.Input.{◌>>=◌, pure, take_token, peek, place, next, term_at}
+use Rattle.c_tree.specs.inside.Chain.{mark_at}
+use Rattle.c_tree.specs.inside.Simple.{qual_mark, quals}
+use Rattle.c_tree.specs.inside.Item.{open_after, skip_through}
 use Rattle.c_tree.proofs.Again.{at}
 use Rattle.c_tree.proofs.Skipping.{none_left}
 use Rattle.c_tree.proofs.NextToken.{seeing}

@@ -6,7 +6,7 @@ use Rattle.c_lex.specs.Tokens.{Lexeme}
 use Rattle.c_tree.specs.declared.term.Term.{Term}
 use Rattle.c_tree.specs.declared.term.Term.TheVariants as terms
 use Rattle.c_tree.specs.Term.{same_term, term_of}
-use Rattle.c_tree.specs.Input.{Input, Outcome, Parser, and_then, ◌>>=◌, ◌>>◌, pure, refuse, refuse_deep, look, here, take_token, eat, peek, place, next, sees, after, expect, term_at, refusal, too_deep}
+use Rattle.c_tree.specs.inside.Input.{Input, Outcome, Parser, and_then, ◌>>=◌, ◌>>◌, pure, refuse, refuse_deep, look, here, take_token, eat, peek, place, next, sees, after, expect, term_at, refusal, too_deep}
 use Rattle.c_tree.proofs.Steps.{ok_parts, not_err}
 use Rattle.c_tree.proofs.Again.{at, same_self}
 use Rattle.c_tree.proofs.NextToken.{Views, seeing, views_peek, views_place, views_sees, views_refusal, views_too_deep, ok_not_err, err_parts}

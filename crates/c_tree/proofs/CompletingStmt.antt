@@ -12,9 +12,9 @@ use Rattle.c_tree.specs.declared.stmt.First.TheVariants as firsts
 use Rattle.c_tree.specs.declared.stmt.Stmt.{Stmt}
 use Rattle.c_tree.specs.declared.stmt.Stmt.TheVariants as stmts
 use Rattle.c_tree.specs.Term.{same_term, term_of}
-use Rattle.c_tree.specs.Input.{Parser, ◌>>=◌, pure, refuse, look, take_token, expect, sees, term_at}
-use Rattle.c_tree.specs.Simple as simple_spec
-use Rattle.c_tree.specs.Stmt as spec
+use Rattle.c_tree.specs.inside.Input.{Parser, ◌>>=◌, pure, refuse, look, take_token, expect, sees, term_at}
+use Rattle.c_tree.specs.inside.Simple as simple_spec
+use Rattle.c_tree.specs.inside.Stmt as spec
 use Rattle.c_tree.proofs.Shrinks.{Shrinks}
 use Rattle.c_tree.proofs.Sizes.{refuse_shrinks}
 use Rattle.c_tree.proofs.StmtSizes.{stmt_shrinks}

@@ -13,10 +13,10 @@ use Rattle.c_tree.specs.declared.expr.Expr.{Expr, roll-Expr, out-roll-Expr}
 use Rattle.c_tree.specs.declared.expr.Unary.TheVariants as unaries
 use Rattle.c_tree.specs.declared.expr.UnaryKind.{UnaryKind}
 use Rattle.c_tree.specs.declared.expr.UnaryKind.TheVariants as signs
-use Rattle.c_tree.specs.Input.{Input, Outcome, Parser, and_then, ◌>>=◌, pure, refuse, refuse_deep, look, here, take_token, expect, sees, place, next, refusal, too_deep}
-use Rattle.c_tree.specs.Chain.{mark_at, past, one_more, more_from, more_of}
-use Rattle.c_tree.specs.Many.{one_or_end, many_from, many}
-use Rattle.c_tree.specs.Expr as spec
+use Rattle.c_tree.specs.inside.Input.{Input, Outcome, Parser, and_then, ◌>>=◌, pure, refuse, refuse_deep, look, here, take_token, expect, sees, place, next, refusal, too_deep}
+use Rattle.c_tree.specs.inside.Chain.{mark_at, past, one_more, more_from, more_of}
+use Rattle.c_tree.specs.inside.Many.{one_or_end, many_from, many}
+use Rattle.c_tree.specs.inside.Expr as spec
 use Rattle.c_tree.specs.Plain as plain
 use Rattle.c_tree.specs.Seen.{left_to_right, or_mark, and_mark, equality_mark, relation_mark, sum_mark, product_mark, plain_unary, plain_product, plain_sum, plain_relation, plain_equality, plain_conjunction, plain_expr}
 use Rattle.c_tree.specs.Beyond.{expr_beyond}

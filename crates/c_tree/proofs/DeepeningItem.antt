@@ -14,11 +14,11 @@ use Rattle.c_tree.specs.declared.item.Untyped.TheVariants as untypeds
 use Rattle.c_tree.specs.declared.item.Body.{Body}
 use Rattle.c_tree.specs.declared.item.Body.TheVariants as bodies
 use Rattle.c_tree.specs.declared.item.Item.{Item}
-use Rattle.c_tree.specs.Input.{look, here, take_token, eat, expect, sees}
-use Rattle.c_tree.specs.Expr as expr_spec
-use Rattle.c_tree.specs.Simple as simple_spec
-use Rattle.c_tree.specs.Stmt as stmt_spec
-use Rattle.c_tree.specs.Item as spec
+use Rattle.c_tree.specs.inside.Input.{look, here, take_token, eat, expect, sees}
+use Rattle.c_tree.specs.inside.Expr as expr_spec
+use Rattle.c_tree.specs.inside.Simple as simple_spec
+use Rattle.c_tree.specs.inside.Stmt as stmt_spec
+use Rattle.c_tree.specs.inside.Item as spec
 use Rattle.c_tree.specs.Seen.{plain_block, plain_typed, plain_untyped, plain_body, plain_items, thread_of}
 use Rattle.c_tree.specs.Beyond.{item_beyond, items_beyond}
 use Rattle.c_tree.proofs.Deepening.{Widens, refuse_widens, pure_widens, bind_widens, behind_widens, many_widens}

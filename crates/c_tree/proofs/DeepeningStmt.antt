@@ -23,11 +23,11 @@ use Rattle.c_tree.specs.declared.stmt.First.{First}
 use Rattle.c_tree.specs.declared.stmt.First.TheVariants as firsts
 use Rattle.c_tree.specs.declared.stmt.Stmt.{Stmt}
 use Rattle.c_tree.specs.declared.stmt.Stmt.TheVariants as stmts
-use Rattle.c_tree.specs.Input.{Input, Outcome, Parser, ◌>>=◌, pure, refuse, look, here, take_token, eat, expect, peek, sees, place, place_at, refusal, too_deep}
-use Rattle.c_tree.specs.Many.{many}
-use Rattle.c_tree.specs.Expr as expr_spec
-use Rattle.c_tree.specs.Simple as simple_spec
-use Rattle.c_tree.specs.Stmt as spec
+use Rattle.c_tree.specs.inside.Input.{Input, Outcome, Parser, ◌>>=◌, pure, refuse, look, here, take_token, eat, expect, peek, sees, place, place_at, refusal, too_deep}
+use Rattle.c_tree.specs.inside.Many.{many}
+use Rattle.c_tree.specs.inside.Expr as expr_spec
+use Rattle.c_tree.specs.inside.Simple as simple_spec
+use Rattle.c_tree.specs.inside.Stmt as spec
 use Rattle.c_tree.specs.Grammar.{StartsAt}
 use Rattle.c_tree.specs.Plain as plain
 use Rattle.c_tree.specs.Plain.{stmt_place}
@@ -38,41 +38,9 @@ use Rattle.c_tree.proofs.FoundStmt.{stmt_found}
 use Rattle.c_tree.proofs.Starts.{stmt_starts}
 use Rattle.c_tree.proofs.View.{block_is, empty_is, local_is, assign_is, if_is, while_is, for_is, break_is, return_is, call_is, atomic_is, handles_is}
 use Rattle.c_tree.proofs.Deepening.{Fits, Widens, refuse_widens, pure_widens, bind_widens, behind_widens, more_widens, many_widens, expr_widens}
+use Rattle.c_tree.proofs.DeepeningSimple.{cond_opens, cond_if_opens, assign_opens, assign_if_opens, call_opens, local_opens, cond_widens, assign_widens, call_widens, local_widens}
 
 -- ---- what each opens beyond so many levels
-
-abbrev expr_opens : ℕ → Expr → List ℕ
-expr_opens n e = expr_beyond (plain_expr e) n
-
-abbrev right_opens : ℕ → Right → List ℕ
-right_opens n e = value_beyond (plain_right e) n
-
-abbrev cond_opens : ℕ → Cond → List ℕ
-cond_opens n c = value_beyond (plain_cond c) n
-
-abbrev cond_if_opens : ℕ → Option Cond → List ℕ
-cond_if_opens n c = value_if_beyond (option_map plain_cond c) n
-
-abbrev assign_opens : ℕ → Assign → List ℕ
-assign_opens n a = assign_beyond (plain_assign a) n
-
-abbrev assign_if_opens : ℕ → Option Assign → List ℕ
-assign_if_opens n a = assign_if_beyond (option_map plain_assign a) n
-
-abbrev call_opens : ℕ → Call → List ℕ
-call_opens n c = call_beyond (plain_call c) n
-
-abbrev start_opens : ℕ → Option Right → List ℕ
-start_opens n s = value_if_beyond (option_map plain_right s) n
-
-abbrev lname_opens : ℕ → Lname → List ℕ
-lname_opens n l = start_opens n l.start
-
-abbrev more_opens : ℕ → List (ℕ × Lname) → List ℕ
-more_opens n more = locals_beyond (map (λ m. plain_lname m.1) more) n
-
-abbrev local_opens : ℕ → Local → List ℕ
-local_opens n l = locals_beyond (plain_locals l) n
 
 abbrev first_opens : ℕ → First → List ℕ
 first_opens n f = first_beyond (plain_first f) n
@@ -99,122 +67,27 @@ if_opens n from c s None = within n (stmts.If from c s None) _ (if_is from c s N
 if_opens n from c s (Some t) = within n (stmts.If from c s (Some t)) _ (if_is from c s (Some t))
 
 module _ (n m : ℕ) (le : n ≤ m) where
-  right_by_widens : (k : Term) → Widens [] (right_opens n) (simple_spec.right_by n k) (simple_spec.right_by m k)
-  right_by_widens terms.Nondet = behind_widens [] _ _ _ simple_spec.nondet (λ x. pure_widens [] (right_opens n) (rights.Nondet x) refl)
-  right_by_widens _ = bind_widens [] _ _ _ (expr_opens n) (λ e. pure_widens (expr_opens n e) (right_opens n) (rights.Expr e) refl) _ _ (expr_widens n m le)
-
-  right_widens : Widens [] (right_opens n) (simple_spec.right n) (simple_spec.right m)
-  unfolding simple_spec.right
-  right_widens = behind_widens [] _ _ _ look right_by_widens
-
-  cond_by_widens : (k : Term) → Widens [] (cond_opens n) (simple_spec.cond_by n k) (simple_spec.cond_by m k)
-  cond_by_widens terms.Nondet = behind_widens [] _ _ _ simple_spec.nondet (λ x. pure_widens [] (cond_opens n) (conds.Nondet x) refl)
-  cond_by_widens _ = bind_widens [] _ _ _ (expr_opens n) (λ e. pure_widens (expr_opens n e) (cond_opens n) (conds.Expr e) refl) _ _ (expr_widens n m le)
-
-  cond_widens : Widens [] (cond_opens n) (simple_spec.cond n) (simple_spec.cond m)
-  unfolding simple_spec.cond
-  cond_widens = behind_widens [] _ _ _ look cond_by_widens
-
-  assigned_by_widens : (x : Name) (k : Term) → Widens [] (assign_opens n) (simple_spec.assigned_by n x k) (simple_spec.assigned_by m x k)
-  assigned_by_widens x terms.Assign = behind_widens [] _ _ _ take_token (λ from. bind_widens [] _ _ _ (right_opens n) (λ e. pure_widens (right_opens n e) (assign_opens n) (assigns.Set x e) refl) _ _ right_widens)
-  assigned_by_widens x terms.AddTo = behind_widens [] _ _ _ take_token (λ from. bind_widens [] _ _ _ (expr_opens n) (λ e. pure_widens (expr_opens n e) (assign_opens n) (assigns.Add x e) refl) _ _ (expr_widens n m le))
-  assigned_by_widens x terms.SubtractFrom = behind_widens [] _ _ _ take_token (λ from. bind_widens [] _ _ _ (expr_opens n) (λ e. pure_widens (expr_opens n e) (assign_opens n) (assigns.Subtract x e) refl) _ _ (expr_widens n m le))
-  assigned_by_widens x terms.Increment = behind_widens [] _ _ _ take_token (λ from. pure_widens [] (assign_opens n) (assigns.Increment x) refl)
-  assigned_by_widens x terms.Decrement = behind_widens [] _ _ _ take_token (λ from. pure_widens [] (assign_opens n) (assigns.Decrement x) refl)
-  assigned_by_widens x _ = refuse_widens [] (assign_opens n)
-
-  assigned_widens : Widens [] (assign_opens n) (simple_spec.assigned n) (simple_spec.assigned m)
-  unfolding simple_spec.assigned
-  assigned_widens = behind_widens [] _ _ _ expr_spec.name (λ x. behind_widens [] _ _ _ look (assigned_by_widens x))
-
-  assign_by_widens : (k : Term) → Widens [] (assign_opens n) (simple_spec.assign_by n k) (simple_spec.assign_by m k)
-  assign_by_widens terms.Name = assigned_widens
-  assign_by_widens terms.Increment = behind_widens [] _ _ _ take_token (λ from. behind_widens [] _ _ _ expr_spec.name (λ x. pure_widens [] (assign_opens n) (assigns.IncrementFirst from x) refl))
-  assign_by_widens terms.Decrement = behind_widens [] _ _ _ take_token (λ from. behind_widens [] _ _ _ expr_spec.name (λ x. pure_widens [] (assign_opens n) (assigns.DecrementFirst from x) refl))
-  assign_by_widens _ = refuse_widens [] (assign_opens n)
-
-  assign_widens : Widens [] (assign_opens n) (simple_spec.assign n) (simple_spec.assign m)
-  unfolding simple_spec.assign
-  assign_widens = behind_widens [] _ _ _ look assign_by_widens
-
-  argument_widens : Widens [] (expr_opens n) (simple_spec.argument n) (simple_spec.argument m)
-  unfolding simple_spec.argument
-  argument_widens = behind_widens [] _ _ _ (expect terms.LeftParen) (λ o. bind_widens [] _ _ _ (expr_opens n) (λ e. behind_widens (expr_opens n e) _ _ _ (expect terms.RightParen) (λ c. pure_widens (expr_opens n e) (expr_opens n) e refl)) _ _ (expr_widens n m le))
-
-  init_widens : (from : ℕ) → Widens [] (call_opens n) (simple_spec.init from) (simple_spec.init from)
-  unfolding simple_spec.init
-  init_widens from = behind_widens [] _ _ _ (expect terms.LeftParen) (λ o. behind_widens [] _ _ _ simple_spec.address (λ x. behind_widens [] _ _ _ (expect terms.Comma) (λ d. behind_widens [] _ _ _ simple_spec.nil
-      (λ y. behind_widens [] _ _ _ (expect terms.RightParen) (λ c. pure_widens [] (call_opens n) (calls.Init from x y) refl)))))
-
-  create_widens : (from : ℕ) → Widens [] (call_opens n) (simple_spec.create from) (simple_spec.create from)
-  unfolding simple_spec.create
-  create_widens from = behind_widens [] _ _ _ (expect terms.LeftParen) (λ o. behind_widens [] _ _ _ simple_spec.address (λ t. behind_widens [] _ _ _ (expect terms.Comma) (λ d. behind_widens [] _ _ _ simple_spec.nil
-      (λ a. behind_widens [] _ _ _ (expect terms.Comma) (λ d2. behind_widens [] _ _ _ expr_spec.name (λ f. behind_widens [] _ _ _ (expect terms.Comma) (λ d3. behind_widens [] _ _ _ simple_spec.nil
-      (λ x. behind_widens [] _ _ _ (expect terms.RightParen) (λ c. pure_widens [] (call_opens n) (calls.Create from t a f x) refl)))))))))
-
-  join_widens : (from : ℕ) → Widens [] (call_opens n) (simple_spec.join from) (simple_spec.join from)
-  unfolding simple_spec.join
-  join_widens from = behind_widens [] _ _ _ (expect terms.LeftParen) (λ o. behind_widens [] _ _ _ expr_spec.name (λ t. behind_widens [] _ _ _ (expect terms.Comma) (λ d. behind_widens [] _ _ _ simple_spec.nil
-      (λ y. behind_widens [] _ _ _ (expect terms.RightParen) (λ c. pure_widens [] (call_opens n) (calls.Join from t y) refl)))))
-
-  -- a word with an argument that opens nothing
-  word_widens : {A : Type 0} (p : Parser A) (made : ℕ → A → Call) → ((from : ℕ) (x : A) → call_opens n (made from x) ≡ []) → Widens [] (call_opens n) (take_token >>= λ from. p >>= λ x. pure (made from x)) (take_token >>= λ from. p >>= λ x. pure (made from x))
-  word_widens p made none = behind_widens [] _ _ _ take_token (λ from. behind_widens [] _ _ _ p (λ x. pure_widens [] (call_opens n) (made from x) (none from x)))
-
-  call_by_widens : (k : Term) → Widens [] (call_opens n) (simple_spec.call_by n k) (simple_spec.call_by m k)
-  call_by_widens terms.Assert = behind_widens [] _ _ _ take_token (λ from. bind_widens [] _ _ _ (expr_opens n) (λ e. pure_widens (expr_opens n e) (call_opens n) (calls.Assert from e) refl) _ _ argument_widens)
-  call_by_widens terms.Assume = behind_widens [] _ _ _ take_token (λ from. bind_widens [] _ _ _ (expr_opens n) (λ e. pure_widens (expr_opens n e) (call_opens n) (calls.Assume from e) refl) _ _ argument_widens)
-  call_by_widens terms.ReachError = word_widens simple_spec.empty_parens (λ from x. calls.ReachError from) (λ from x. refl)
-  call_by_widens terms.Abort = word_widens simple_spec.empty_parens (λ from x. calls.Abort from) (λ from x. refl)
-  call_by_widens terms.Exit = word_widens simple_spec.exit_argument (λ from x. calls.Exit from x) (λ from x. refl)
-  call_by_widens terms.MutexLock = word_widens simple_spec.lock_argument (λ from x. calls.Lock from x) (λ from x. refl)
-  call_by_widens terms.MutexUnlock = word_widens simple_spec.lock_argument (λ from x. calls.Unlock from x) (λ from x. refl)
-  call_by_widens terms.MutexDestroy = word_widens simple_spec.lock_argument (λ from x. calls.Destroy from x) (λ from x. refl)
-  call_by_widens terms.MutexInit = behind_widens [] _ _ _ take_token init_widens
-  call_by_widens terms.Create = behind_widens [] _ _ _ take_token create_widens
-  call_by_widens terms.Join = behind_widens [] _ _ _ take_token join_widens
-  call_by_widens _ = refuse_widens [] (call_opens n)
-
-  call_widens : Widens [] (call_opens n) (simple_spec.call n) (simple_spec.call m)
-  unfolding simple_spec.call
-  call_widens = behind_widens [] _ _ _ look call_by_widens
-
-  start_if_widens : (b : Bool) → Widens [] (start_opens n) (simple_spec.start_if n b) (simple_spec.start_if m b)
-  start_if_widens true = bind_widens [] _ _ _ (right_opens n) (λ e. pure_widens (right_opens n e) (start_opens n) (Some e) refl) _ _ right_widens
-  start_if_widens false = pure_widens [] (start_opens n) None refl
-
-  lname_widens : Widens [] (lname_opens n) (simple_spec.lname n) (simple_spec.lname m)
-  unfolding simple_spec.lname
-  lname_widens = behind_widens [] _ _ _ expr_spec.name (λ x. behind_widens [] _ _ _ (eat terms.Assign) (λ b. bind_widens [] _ _ _ (start_opens n) (λ s. pure_widens {A = Lname} (start_opens n s) (lname_opens n) (record { name = x; start = s }) refl) _ _ (start_if_widens b)))
-
-  local_widens : Widens [] (local_opens n) (simple_spec.local n) (simple_spec.local m)
-  unfolding simple_spec.local
-  local_widens = behind_widens [] _ _ _ here (λ from. behind_widens [] _ _ _ simple_spec.quals (λ qs. behind_widens [] _ _ _ simple_spec.itype (λ kind. bind_widens [] _ _ _ (lname_opens n)
-      (λ first. bind_widens (lname_opens n first) _ _ _ (more_opens n) (λ more. behind_widens (lname_opens n first ++ more_opens n more) _ _ _ (expect terms.Semicolon)
-      (λ c. pure_widens {A = Local} (lname_opens n first ++ more_opens n more) (local_opens n) (record { from = from; quals = qs; itype = kind; first = first; more = more }) refl)) _ _
-      (more_widens simple_spec.comma_mark _ _ (lname_opens n) (more_opens n) refl (λ k x xs. refl) lname_widens)) _ _ lname_widens)))
-
   -- ---- statements
 
   assign_stmt_widens : Widens [] (stmt_opens (suc n)) (spec.assign_stmt n) (spec.assign_stmt m)
   unfolding spec.assign_stmt
-  assign_stmt_widens = bind_widens [] _ _ _ (assign_opens n) (λ a. behind_widens (assign_opens n a) _ _ _ (expect terms.Semicolon) (λ c. pure_widens (assign_opens n a) (stmt_opens (suc n)) (stmts.Assign a) (within n (stmts.Assign a) _ (assign_is a)))) _ _ assign_widens
+  assign_stmt_widens = bind_widens [] _ _ _ (assign_opens n) (λ a. behind_widens (assign_opens n a) _ _ _ (expect terms.Semicolon) (λ c. pure_widens (assign_opens n a) (stmt_opens (suc n)) (stmts.Assign a) (within n (stmts.Assign a) _ (assign_is a)))) _ _ (assign_widens n m le)
 
   call_stmt_widens : Widens [] (stmt_opens (suc n)) (spec.call_stmt n) (spec.call_stmt m)
   unfolding spec.call_stmt
-  call_stmt_widens = bind_widens [] _ _ _ (call_opens n) (λ x. behind_widens (call_opens n x) _ _ _ (expect terms.Semicolon) (λ c. pure_widens (call_opens n x) (stmt_opens (suc n)) (stmts.Call x) (within n (stmts.Call x) _ (call_is x)))) _ _ call_widens
+  call_stmt_widens = bind_widens [] _ _ _ (call_opens n) (λ x. behind_widens (call_opens n x) _ _ _ (expect terms.Semicolon) (λ c. pure_widens (call_opens n x) (stmt_opens (suc n)) (stmts.Call x) (within n (stmts.Call x) _ (call_is x)))) _ _ (call_widens n m le)
 
   local_stmt_widens : Widens [] (stmt_opens (suc n)) (spec.local_stmt n) (spec.local_stmt m)
   unfolding spec.local_stmt
-  local_stmt_widens = bind_widens [] _ _ _ (local_opens n) (λ l. pure_widens (local_opens n l) (stmt_opens (suc n)) (stmts.Local l) (within n (stmts.Local l) _ (local_is l))) _ _ local_widens
+  local_stmt_widens = bind_widens [] _ _ _ (local_opens n) (λ l. pure_widens (local_opens n l) (stmt_opens (suc n)) (stmts.Local l) (within n (stmts.Local l) _ (local_is l))) _ _ (local_widens n m le)
 
   first_local_widens : Widens [] (first_opens n) (spec.first_local n) (spec.first_local m)
   unfolding spec.first_local
-  first_local_widens = bind_widens [] _ _ _ (local_opens n) (λ l. pure_widens (local_opens n l) (first_opens n) (firsts.Local l) refl) _ _ local_widens
+  first_local_widens = bind_widens [] _ _ _ (local_opens n) (λ l. pure_widens (local_opens n l) (first_opens n) (firsts.Local l) refl) _ _ (local_widens n m le)
 
   first_assign_widens : Widens [] (first_opens n) (spec.first_assign n) (spec.first_assign m)
   unfolding spec.first_assign
-  first_assign_widens = bind_widens [] _ _ _ (assign_opens n) (λ a. behind_widens (assign_opens n a) _ _ _ (expect terms.Semicolon) (λ c. pure_widens (assign_opens n a) (first_opens n) (firsts.Assign a) refl)) _ _ assign_widens
+  first_assign_widens = bind_widens [] _ _ _ (assign_opens n) (λ a. behind_widens (assign_opens n a) _ _ _ (expect terms.Semicolon) (λ c. pure_widens (assign_opens n a) (first_opens n) (firsts.Assign a) refl)) _ _ (assign_widens n m le)
 
   first_by_widens : (k : Term) → Widens [] (first_opens n) (spec.first_by n k) (spec.first_by m k)
   first_by_widens terms.Static = first_local_widens
@@ -231,7 +104,7 @@ module _ (n m : ℕ) (le : n ≤ m) where
 
   cond_if_widens : (b : Bool) → Widens [] (cond_if_opens n) (spec.cond_if n b) (spec.cond_if m b)
   cond_if_widens true = pure_widens [] (cond_if_opens n) None refl
-  cond_if_widens false = bind_widens [] _ _ _ (cond_opens n) (λ c. pure_widens (cond_opens n c) (cond_if_opens n) (Some c) refl) _ _ cond_widens
+  cond_if_widens false = bind_widens [] _ _ _ (cond_opens n) (λ c. pure_widens (cond_opens n c) (cond_if_opens n) (Some c) refl) _ _ (cond_widens n m le)
 
   middle_widens : Widens [] (cond_if_opens n) (spec.middle_part n) (spec.middle_part m)
   unfolding spec.middle_part
@@ -239,7 +112,7 @@ module _ (n m : ℕ) (le : n ≤ m) where
 
   last_if_widens : (b : Bool) → Widens [] (assign_if_opens n) (spec.last_if n b) (spec.last_if m b)
   last_if_widens true = pure_widens [] (assign_if_opens n) None refl
-  last_if_widens false = bind_widens [] _ _ _ (assign_opens n) (λ a. pure_widens (assign_opens n a) (assign_if_opens n) (Some a) refl) _ _ assign_widens
+  last_if_widens false = bind_widens [] _ _ _ (assign_opens n) (λ a. pure_widens (assign_opens n a) (assign_if_opens n) (Some a) refl) _ _ (assign_widens n m le)
 
   last_widens : Widens [] (assign_if_opens n) (spec.last_part n) (spec.last_part m)
   unfolding spec.last_part
@@ -247,7 +120,7 @@ module _ (n m : ℕ) (le : n ≤ m) where
 
   condition_widens : Widens [] (cond_opens n) (spec.condition n) (spec.condition m)
   unfolding spec.condition
-  condition_widens = behind_widens [] _ _ _ (expect terms.LeftParen) (λ o. bind_widens [] _ _ _ (cond_opens n) (λ c. behind_widens (cond_opens n c) _ _ _ (expect terms.RightParen) (λ d. pure_widens (cond_opens n c) (cond_opens n) c refl)) _ _ cond_widens)
+  condition_widens = behind_widens [] _ _ _ (expect terms.LeftParen) (λ o. bind_widens [] _ _ _ (cond_opens n) (λ c. behind_widens (cond_opens n c) _ _ _ (expect terms.RightParen) (λ d. pure_widens (cond_opens n c) (cond_opens n) c refl)) _ _ (cond_widens n m le))
 
   break_widens : (around : Around) → Widens [] (stmt_opens (suc n)) (spec.break_by around) (spec.break_by around)
   break_widens arounds.Nothing = refuse_widens [] (stmt_opens (suc n))

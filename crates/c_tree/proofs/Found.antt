@@ -23,9 +23,9 @@ use denote.Enum.Bare.{same_true}
 use Rattle.c_tree.specs.declared.expr.UnaryKind.{UnaryKind}
 use Rattle.c_tree.specs.declared.expr.UnaryKind.TheVariants as signs
 use Rattle.c_tree.specs.Term.{same_term}
-use Rattle.c_tree.specs.Input.{Input, Outcome, Parser, and_then, peek, place, bytes, bytes_at, next, sees, expect, term_at, refusal}
-use Rattle.c_tree.specs.Chain.{mark_at, past, one_more, more_from, more_of}
-use Rattle.c_tree.specs.Expr as spec
+use Rattle.c_tree.specs.inside.Input.{Input, Outcome, Parser, and_then, peek, place, bytes, bytes_at, next, sees, expect, term_at, refusal}
+use Rattle.c_tree.specs.inside.Chain.{mark_at, past, one_more, more_from, more_of}
+use Rattle.c_tree.specs.inside.Expr as spec
 use Rattle.c_tree.specs.Grammar.{Is, StartsAt, AreMore, IsLevel, IsOrMark, IsAndMark, IsEqualityMark, IsRelationMark, IsSumMark, IsProductMark, IsProduct, IsSum, IsRelation, IsEquality, IsConjunction, IsExprOver, IsName, IsLayer, IsUnary, IsExpr, sign_term}
 use Rattle.c_tree.proofs.Steps.{bind_ok, ok_parts, not_err}
 use Rattle.c_tree.proofs.Shrinks.{Shrinks, product_shrinks, sum_shrinks, relation_shrinks, equality_shrinks, conjunction_shrinks, unary_shrinks}
@@ -43,7 +43,7 @@ pub is_next : (i : Input) (k : Term) → (k ≡ terms.End → ⊥) → peek i �
 unfolding peek place next
 is_next i k more is = go i.tokens is
   where
-    go : (ts : List Lexeme) → term_at ts ≡ k → Is k (Rattle.c_tree.specs.Input.place_at i.end ts) ts (drop 1 ts)
+    go : (ts : List Lexeme) → term_at ts ≡ k → Is k (Rattle.c_tree.specs.inside.Input.place_at i.end ts) ts (drop 1 ts)
     go [] e = absurd (more (sym e))
     go (t ∷ ts) e = (e, refl, refl)
 
@@ -76,7 +76,7 @@ pub starts : (i : Input) (n : ℕ) → n < length i.tokens → StartsAt (place i
 unfolding place
 starts i n lt = go i.tokens lt
   where
-    go : (ts : List Lexeme) → n < length ts → StartsAt (Rattle.c_tree.specs.Input.place_at i.end ts) ts
+    go : (ts : List Lexeme) → n < length ts → StartsAt (Rattle.c_tree.specs.inside.Input.place_at i.end ts) ts
     go [] h = absurd (omega arith)
     go (t ∷ ts) h = refl
 

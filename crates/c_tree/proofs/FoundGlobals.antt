@@ -2,11 +2,11 @@
 use Rattle.std.proofs.Common.{◌≡◌, Bool, true, false, length, Option, Some, None, Ok, refl}
 use Rattle.c_tree.specs.declared.term.Term.TheVariants as terms
 use Rattle.c_tree.specs.declared.item.Start.{Start}
-use Rattle.c_tree.specs.Input.{Input, place, sees, after, expect, eat}
-use Rattle.c_tree.specs.Chain.{more_of}
-use Rattle.c_tree.specs.Expr as expr_spec
-use Rattle.c_tree.specs.Simple.{comma_mark}
-use Rattle.c_tree.specs.Item as spec
+use Rattle.c_tree.specs.inside.Input.{Input, place, sees, after, expect, eat}
+use Rattle.c_tree.specs.inside.Chain.{more_of}
+use Rattle.c_tree.specs.inside.Expr as expr_spec
+use Rattle.c_tree.specs.inside.Simple.{comma_mark}
+use Rattle.c_tree.specs.inside.Item as spec
 use Rattle.c_tree.specs.Grammar.{Stands, StartsAt}
 use Rattle.c_tree.specs.Sequence.{◌then◌, Perhaps, IsComma}
 use Rattle.c_tree.specs.GrammarItem.{IsSign, IsStart, IsGname, IsGlobals, IsStarted, IsMname, IsLocks}

@@ -13,11 +13,11 @@ use Rattle.c_tree.specs.declared.item.Untyped.{Untyped}
 use Rattle.c_tree.specs.declared.item.Untyped.TheVariants as untypeds
 use Rattle.c_tree.specs.declared.item.Body.{Body}
 use Rattle.c_tree.specs.declared.item.Body.TheVariants as bodies
-use Rattle.c_tree.specs.Input.{Input, ◌>>◌, peek, place, next, sees, after, expect, refusal}
-use Rattle.c_tree.specs.Expr as expr_spec
-use Rattle.c_tree.specs.Simple as simple_spec
-use Rattle.c_tree.specs.Stmt as stmt_spec
-use Rattle.c_tree.specs.Item as spec
+use Rattle.c_tree.specs.inside.Input.{Input, ◌>>◌, peek, place, next, sees, after, expect, refusal}
+use Rattle.c_tree.specs.inside.Expr as expr_spec
+use Rattle.c_tree.specs.inside.Simple as simple_spec
+use Rattle.c_tree.specs.inside.Stmt as stmt_spec
+use Rattle.c_tree.specs.inside.Item as spec
 use Rattle.c_tree.specs.Grammar.{Is, Stands, StartsAt, IsName}
 use Rattle.c_tree.specs.Sequence.{◌then◌, InParens}
 use Rattle.c_tree.specs.GrammarStmt.{IsStmt}
@@ -82,7 +82,7 @@ module _ (levels : ℕ) where
   if_any_found k more i true is = inr (eaten k more i is)
   if_any_found k more i false is = inl (not_eaten k i is)
 
-  main_fn_found : (i : Input) → peek i ≡ terms.Main → (x : Typed) (j : Input) → Rattle.c_tree.specs.Input.and_then ((spec.main_fn levels) i) (λ m l. Ok (typeds.Main m, l)) ≡ Ok (x, j) → (IsTyped levels) x i.tokens j.tokens
+  main_fn_found : (i : Input) → peek i ≡ terms.Main → (x : Typed) (j : Input) → Rattle.c_tree.specs.inside.Input.and_then ((spec.main_fn levels) i) (λ m l. Ok (typeds.Main m, l)) ≡ Ok (x, j) → (IsTyped levels) x i.tokens j.tokens
   unfolding spec.main_fn
   main_fn_found i is x j e =
       let whole = bind_ok ((spec.main_fn levels) i) (λ m l. Ok (typeds.Main m, l)) x j e in

@@ -2,10 +2,10 @@
 use Rattle.std.proofs.Common.{◌≡◌, ℕ, Bool, true, false, length, Option, Some, None, Ok, refl}
 use Rattle.c_tree.specs.declared.term.Term.TheVariants as terms
 use Rattle.c_tree.specs.declared.simple.Right.{Right}
-use Rattle.c_tree.specs.Input.{Input, place, sees, after, expect}
-use Rattle.c_tree.specs.Chain.{more_of}
-use Rattle.c_tree.specs.Expr as expr_spec
-use Rattle.c_tree.specs.Simple as spec
+use Rattle.c_tree.specs.inside.Input.{Input, place, sees, after, expect}
+use Rattle.c_tree.specs.inside.Chain.{more_of}
+use Rattle.c_tree.specs.inside.Expr as expr_spec
+use Rattle.c_tree.specs.inside.Simple as spec
 use Rattle.c_tree.specs.Grammar.{Stands, StartsAt, IsName}
 use Rattle.c_tree.specs.Sequence.{◌then◌, Perhaps, IsComma}
 use Rattle.c_tree.specs.GrammarSimple.{IsRight, IsLname, IsLocal, IsHandles}

@@ -3,9 +3,9 @@ use Rattle.std.proofs.Common.{◌≡◌, ℕ, zero, suc, Bool, true, false, List
 use Rattle.c_lex.specs.Tokens.{Lexeme}
 use Rattle.c_tree.specs.declared.term.Term.{Term}
 use Rattle.c_tree.specs.declared.term.Term.TheVariants as terms
-use Rattle.c_tree.specs.Input.{Input, Outcome, Parser, place, next, sees, after, expect, refusal}
-use Rattle.c_tree.specs.Many.{one_or_end, many_from, many}
-use Rattle.c_tree.specs.Simple.{comma_mark, empty_parens}
+use Rattle.c_tree.specs.inside.Input.{Input, Outcome, Parser, place, next, sees, after, expect, refusal}
+use Rattle.c_tree.specs.inside.Many.{one_or_end, many_from, many}
+use Rattle.c_tree.specs.inside.Simple.{comma_mark, empty_parens}
 use Rattle.c_tree.specs.Grammar.{Stands}
 use Rattle.c_tree.specs.Sequence.{Part, AreAll, EmptyParens, IsComma}
 use Rattle.c_tree.proofs.Steps.{bind_ok, ok_parts, not_err}
@@ -49,12 +49,12 @@ not_eaten k i is = rw is refl
 
 -- ---- lists
 
-comma_mark_by : (i : Input) (k : Term) (m : ℕ) → Rattle.c_tree.specs.Input.peek i ≡ k → comma_mark k (place i) ≡ Some m → IsComma m i.tokens (next i).tokens
+comma_mark_by : (i : Input) (k : Term) (m : ℕ) → Rattle.c_tree.specs.inside.Input.peek i ≡ k → comma_mark k (place i) ≡ Some m → IsComma m i.tokens (next i).tokens
 comma_mark_by i terms.Comma m is e = (let same : place i ≡ m = cc in subst (λ (x : ℕ). IsComma x i.tokens (next i).tokens) same (is_next i terms.Comma (λ h. cc) is))
 comma_mark_by i _ m is e = absurd (no_mark m e)
 
 pub comma_mark_found : FindsMark comma_mark IsComma
-comma_mark_found i m e = comma_mark_by i (Rattle.c_tree.specs.Input.peek i) m refl e
+comma_mark_found i m e = comma_mark_by i (Rattle.c_tree.specs.inside.Input.peek i) m refl e
 
 module _ {A : Type 0} (end : Term) (item : Parser A) (R : A → Part) (finds : Finds item R) where
   one_or_end_found : (n : ℕ) (b : Bool) (i : Input) (xs : List A) (j : Input) → Finds (many_from end item n) (AreAll R) → one_or_end item (many_from end item n) b i ≡ Ok (xs, j) → AreAll R xs i.tokens j.tokens

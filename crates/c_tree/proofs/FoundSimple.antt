@@ -19,10 +19,10 @@ use Rattle.c_tree.specs.declared.simple.Qual.{Qual}
 use Rattle.c_tree.specs.declared.simple.QualKind.TheVariants as kinds
 use Rattle.c_tree.specs.declared.simple.Itype.{Itype}
 use Rattle.c_tree.specs.declared.simple.Itype.TheVariants as itypes
-use Rattle.c_tree.specs.Input.{Input, Outcome, Parser, peek, place, bytes, bytes_at, next, sees, after, expect, refusal}
-use Rattle.c_tree.specs.Chain.{mark_at}
-use Rattle.c_tree.specs.Expr as expr_spec
-use Rattle.c_tree.specs.Simple as spec
+use Rattle.c_tree.specs.inside.Input.{Input, Outcome, Parser, peek, place, bytes, bytes_at, next, sees, after, expect, refusal}
+use Rattle.c_tree.specs.inside.Chain.{mark_at}
+use Rattle.c_tree.specs.inside.Expr as expr_spec
+use Rattle.c_tree.specs.inside.Simple as spec
 use Rattle.c_tree.specs.Grammar.{Is, IsName, IsExpr}
 use Rattle.c_tree.specs.Sequence.{AreAll, InParens}
 use Rattle.c_tree.specs.GrammarSimple.{IsQual, IsItype, IsNondet, IsNil, IsAddress, IsRight, IsCond, IsAssign, IsCall}
@@ -45,7 +45,7 @@ zero_there terms.Number text e = (refl, (bytes_eq-Decides text (codes "0")).0 e)
 zero_there _ text e = absurd (let impossible : ◌≡◌ {A = Bool} false true = e in cc)
 
 nil_by : (i : Input) (b : Bool) → spec.is_zero (peek i) (bytes i) ≡ b → (x : Nil) (j : Input)
-    → cond {A = Parser Nil} b (λ l. Ok (nils.Zero (place l), next l)) (λ l. Rattle.c_tree.specs.Input.and_then (expect terms.Null l) (λ from m. Ok (nils.Null from, m))) i ≡ Ok (x, j) → IsNil x i.tokens j.tokens
+    → cond {A = Parser Nil} b (λ l. Ok (nils.Zero (place l), next l)) (λ l. Rattle.c_tree.specs.inside.Input.and_then (expect terms.Null l) (λ from m. Ok (nils.Null from, m))) i ≡ Ok (x, j) → IsNil x i.tokens j.tokens
 unfolding bytes
 nil_by i true is x j e =
     let there = zero_there (peek i) (bytes_at i.tokens) is in

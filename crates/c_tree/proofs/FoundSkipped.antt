@@ -6,8 +6,8 @@ use Rattle.c_tree.specs.declared.term.Term.TheVariants as terms
 use denote.Enum.Bare.{same_true}
 use Rattle.c_tree.specs.contracts.term.Term.{the_type}
 use Rattle.c_tree.specs.Term.{same_term}
-use Rattle.c_tree.specs.Input.{Input, peek, place, next, expect, refusal}
-use Rattle.c_tree.specs.Item as spec
+use Rattle.c_tree.specs.inside.Input.{Input, peek, place, next, expect, refusal}
+use Rattle.c_tree.specs.inside.Item as spec
 use Rattle.c_tree.specs.Grammar.{Stands}
 use Rattle.c_tree.specs.Sequence.{Part, NoToken, ◌then◌, InParens}
 use Rattle.c_tree.specs.GrammarItem.{Nesting, is_plain, IsNesting, IsSkipped}

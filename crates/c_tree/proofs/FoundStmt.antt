@@ -14,10 +14,10 @@ use Rattle.c_tree.specs.declared.stmt.First.TheVariants as firsts
 use Rattle.c_tree.specs.declared.stmt.Stmt.{Stmt, out-Stmt}
 use Rattle.c_tree.specs.declared.stmt.Stmt.TheVariants as stmts
 use Rattle.c_tree.specs.Term.{same_term}
-use Rattle.c_tree.specs.Input.{Input, Parser, peek, place, next, sees, after, expect, refusal, term_at}
-use Rattle.c_tree.specs.Many.{many}
-use Rattle.c_tree.specs.Simple as simple_spec
-use Rattle.c_tree.specs.Stmt as spec
+use Rattle.c_tree.specs.inside.Input.{Input, Parser, peek, place, next, sees, after, expect, refusal, term_at}
+use Rattle.c_tree.specs.inside.Many.{many}
+use Rattle.c_tree.specs.inside.Simple as simple_spec
+use Rattle.c_tree.specs.inside.Stmt as spec
 use Rattle.c_tree.specs.Sequence.{Part, Perhaps, InParens}
 use Rattle.c_tree.specs.GrammarSimple.{IsNil, IsCond, IsAssign}
 use Rattle.c_tree.specs.GrammarStmt.{IsWordEnd, IsElse, IsFirst, IsBlock, IsLayer, IsStmt}

@@ -16,12 +16,12 @@ use Rattle.c_tree.specs.declared.item.Untyped.TheVariants as untypeds
 use Rattle.c_tree.specs.declared.item.Body.TheVariants as bodies
 use Rattle.c_tree.specs.declared.item.Item.{Item}
 use Rattle.c_tree.specs.Term.{same_term}
-use Rattle.c_tree.specs.Input.{Parser, look, here, take_token, eat, peek, expect}
-use Rattle.c_tree.specs.Chain.{more_of}
-use Rattle.c_tree.specs.Expr as expr_spec
-use Rattle.c_tree.specs.Simple as simple_spec
-use Rattle.c_tree.specs.Stmt as stmt_spec
-use Rattle.c_tree.specs.Item as spec
+use Rattle.c_tree.specs.inside.Input.{Parser, look, here, take_token, eat, peek, expect}
+use Rattle.c_tree.specs.inside.Chain.{more_of}
+use Rattle.c_tree.specs.inside.Expr as expr_spec
+use Rattle.c_tree.specs.inside.Simple as simple_spec
+use Rattle.c_tree.specs.inside.Stmt as stmt_spec
+use Rattle.c_tree.specs.inside.Item as spec
 use Rattle.c_tree.proofs.Shrinks.{Shrinks, NeverGrows, expect_shrinks, name_shrinks, number_shrinks, more_of_le}
 use Rattle.c_tree.proofs.Sizes.{weaker, pure_le, refuse_shrinks, bind_le, bind_first, bind_second, take_le, eat_le, look_le, here_le}
 use Rattle.c_tree.proofs.StmtSizes.{quals_le, itype_le, handles_shrinks, block_shrinks, stmt_shrinks, close_le, see_le, take_then}

@@ -23,8 +23,8 @@ use Rattle.c_tree.specs.declared.stmt.Block.{Block, out-Block}
 use Rattle.c_tree.specs.declared.stmt.Stmt.{Stmt, out-Stmt}
 use Rattle.c_tree.specs.declared.stmt.Stmt.TheOpen.{Stmt-F}
 use Rattle.c_tree.specs.Term.{same_term}
-use Rattle.c_tree.specs.Input.{term_at}
-use Rattle.c_tree.specs.Stmt.{begins}
+use Rattle.c_tree.specs.inside.Input.{term_at}
+use Rattle.c_tree.specs.inside.Stmt.{begins}
 use Rattle.c_tree.specs.Sequence.{Part, AreAll}
 use Rattle.c_tree.specs.GrammarSimple.{qual_term, IsQual, IsItype, IsNil, IsCond, IsAssign, IsCall, IsLocal}
 use Rattle.c_tree.specs.GrammarStmt.{IsBreak, IsLayer, IsStmt}

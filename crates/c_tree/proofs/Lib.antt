@@ -41,6 +41,7 @@ pub mod CompletingStmt
 pub mod CompletingItem
 pub mod Refusals
 pub mod Deepening
+pub mod DeepeningSimple
 pub mod DeepeningStmt
 pub mod DeepeningItem
 pub mod View
@@ -48,3 +49,8 @@ pub mod Starts
 pub mod Sitting
 pub mod SittingParts
 pub mod SittingText
+pub mod Moving
+pub mod MovingSimple
+pub mod MovingText
+pub mod OneRefusal
+pub mod Marking

@@ -5,8 +5,8 @@ use Rattle.thr_base.specs.declared.stops.Refusal.{Refusal}
 use Rattle.thr_base.specs.declared.stops.Stop.{Stop}
 use Rattle.thr_base.specs.declared.stops.Stop.TheVariants.{Refused, Memory}
 use Rattle.c_tree.specs.declared.term.Term.{Term}
-use Rattle.c_tree.specs.Input.{Input, Outcome, Parser, and_then, Reads, sees}
-use Rattle.c_tree.specs.Many.{many_from, many}
+use Rattle.c_tree.specs.inside.Input.{Input, Outcome, Parser, and_then, Reads, sees}
+use Rattle.c_tree.specs.inside.Many.{many_from, many}
 use Rattle.c_tree.proofs.Shrinks.{Shrinks}
 use Rattle.c_tree.proofs.Chains.{with_front}
 

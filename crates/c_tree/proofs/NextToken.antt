@@ -4,7 +4,7 @@ use Rattle.std.proofs.Math.Logic.{◌⊎◌, inl, inr}
 use Rattle.thr_base.specs.declared.stops.Refusal.{Refusal}
 use Rattle.c_lex.specs.Tokens.{Lexeme}
 use Rattle.c_tree.specs.declared.term.Term.{Term}
-use Rattle.c_tree.specs.Input.{Input, Outcome, Parser, and_then, peek, place, bytes, sees, refusal, too_deep}
+use Rattle.c_tree.specs.inside.Input.{Input, Outcome, Parser, and_then, peek, place, bytes, sees, refusal, too_deep}
 use Rattle.c_tree.specs.Refused.{SameNext}
 use Rattle.c_tree.proofs.Again.{at}
 

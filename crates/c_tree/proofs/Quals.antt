@@ -2,9 +2,9 @@
 use Rattle.std.proofs.Common.{◌≡◌, ℕ, zero, suc, ◌<◌, ◌≤◌, List, [], ◌∷◌, ◌++◌, length, Option, Some, None, Ok, Err, refl, sym, ap, ◌∙◌, append_assoc, arith}
 use Rattle.std.proofs.lemmas.List.{append-nil}
 use Rattle.c_tree.specs.declared.simple.Qual.{Qual}
-use Rattle.c_tree.specs.Input.{Input, Outcome, and_then, next}
-use Rattle.c_tree.specs.Chain.{mark_at, past}
-use Rattle.c_tree.specs.Simple.{qual_mark, quals_from, quals}
+use Rattle.c_tree.specs.inside.Input.{Input, Outcome, and_then, next}
+use Rattle.c_tree.specs.inside.Chain.{mark_at, past}
+use Rattle.c_tree.specs.inside.Simple.{qual_mark, quals_from, quals}
 use Rattle.c_tree.proofs.Shrinks.{past_shorter}
 use Rattle.c_tree.proofs.Chains.{with_front}
 

@@ -12,12 +12,13 @@ use Rattle.c_tree.specs.declared.item.Item.{Item}
 use Rattle.c_tree.specs.declared.item.Tree.{Tree}
 use Rattle.c_tree.specs.declared.term.Term.{Term}
 use Rattle.c_tree.specs.declared.term.Term.TheVariants as terms
-use Rattle.c_tree.specs.Input.{Input, Outcome, peek, place, refusal_code, refusal, too_deep}
-use Rattle.c_tree.specs.GrammarItem.{IsTreeWithin, IsTree}
-use Rattle.c_tree.specs.Item as spec
-use Rattle.c_tree.specs.Refused.{IsAnyTree, BeginsATree, too_many_in, SameNext, NoTreeGoesOn, IsFirstOf, OpensTooMany, AreBehind, IsFirstBehind, NoneOpensTooMany, IsRefusedWith, IsRefusedBy}
+use Rattle.c_tree.specs.inside.Input.{Input, Outcome, peek, place, refusal_code, refusal, too_deep}
+use Rattle.c_tree.specs.Next.{refusal_at, too_deep_at}
+use Rattle.c_tree.specs.GrammarItem.{IsTreeWithin, IsTree, IsTreeOf}
+use Rattle.c_tree.specs.inside.Item as spec
+use Rattle.c_tree.specs.Refused.{IsAnyTree, BeginsATree, too_many_in, SameNext, NoTreeGoesOn, IsFirstOf, OpensTooMany, AreBehind, IsFirstBehind, NoneOpensTooMany, IsRefusedWith, IsRefusalOver, IsRefusalOf, IsRefusedBy}
 use Rattle.c_tree.proofs.Again.{at, same_self}
-use Rattle.c_tree.proofs.Trees.{tree_found, tree_again}
+use Rattle.c_tree.proofs.Trees.{tree_found, tree_again, parsed_found}
 use Rattle.c_tree.proofs.Completing.{Says, AtOnce, Stopped}
 use Rattle.c_tree.proofs.CompletingLoops.{only}
 use Rattle.c_tree.proofs.CompletingItem.{tree_completes}
@@ -111,7 +112,15 @@ first_is p (q ∷ places) more e = cc
 
 -- ---- tokens in front, and the place of a refusal
 
-same_next : (ts : List Lexeme) → SameNext ts ts
+refusal_is : (end : ℕ) (ts : List Lexeme) → refusal (at ts end) ≡ refusal_at end ts
+unfolding refusal peek place
+refusal_is end ts = refl
+
+too_deep_is : (end : ℕ) (ts : List Lexeme) → too_deep (at ts end) ≡ too_deep_at end ts
+unfolding too_deep place
+too_deep_is end ts = refl
+
+pub same_next : (ts : List Lexeme) → SameNext ts ts
 same_next [] = tt
 same_next (t ∷ ts) = refl
 
@@ -231,17 +240,17 @@ module _ (end : ℕ) where
     refused_by : AtOnce (spec.tree spec.max_levels) end ts d ⊎ Stopped (spec.tree spec.max_levels) (spec.tree more_levels) (only terms.End) end ts d → IsRefusedWith end ts d
     refused_by (inl once) =
         let other : (j : Input) → d ≡ too_deep j → ⊥ = λ j deep. not_deep (at ts end) j (sym once.says ∙ deep) in
-        ([], ts, refl, ([], [], (0, refl)), inl (once.says, no_tree [] ts d once.again other, λ more tree behind is. none_in_front (too_many_in tree)))
+        ([], ts, refl, ([], [], (0, refl)), inl (once.says ∙ refusal_is end ts, no_tree [] ts d once.again other, λ more tree behind is. none_in_front (too_many_in tree)))
     refused_by (inr s) = (s.front, s.rest, s.splits, (s.more ++ [], s.value, (more_levels, whole)), said s.says)
       where
         whole : IsTreeWithin more_levels s.value (s.front ++ (s.more ++ []))
         whole = read_on s.front s.more s.value (s.reads [] (same_self terms.End))
 
-        said : Says d end s.rest s.more → ((d ≡ refusal (at s.rest end)) × NoTreeGoesOn s.front s.rest × NoneOpensTooMany s.front) ⊎ ((d ≡ too_deep (at s.rest end)) × OpensTooMany s.front s.rest)
+        said : Says d end s.rest s.more → ((d ≡ refusal_at end s.rest) × NoTreeGoesOn s.front s.rest × NoneOpensTooMany s.front) ⊎ ((d ≡ too_deep_at end s.rest) × OpensTooMany s.front s.rest)
         said (inl same) =
             let other : (j : Input) → d ≡ too_deep j → ⊥ = λ j deep. not_deep (at s.rest end) j (sym same ∙ deep) in
-            inl (same, no_tree s.front s.rest d s.again other, none_opens s.front s.rest d s.again other)
-        said (inr deep) = inr (deep.0, too_deep_with s.front s.rest s.more s.value s.again deep.0 deep.1 whole)
+            inl (same ∙ refusal_is end s.rest, no_tree s.front s.rest d s.again other, none_opens s.front s.rest d s.again other)
+        said (inr deep) = inr (deep.0 ∙ too_deep_is end s.rest, too_deep_with s.front s.rest s.more s.value s.again deep.0 deep.1 whole)
 
     tree_refused : IsRefusedWith end ts d
     tree_refused = refused_by (((tree_completes spec.max_levels more_levels (omega arith)).there end ts).stops d e)
@@ -250,20 +259,56 @@ value_refused : (end : ℕ) (r : Outcome (List Item)) (d : Refusal) → spec.end
 value_refused end (Ok p) d e = absurd (let differs : ◌≡◌ {A = Result Tree Refusal} (Ok (record { items = p.0; end = end })) (Err d) = e in cc)
 value_refused end (Err c) d e = (let same : c ≡ d = cc in ap (λ (z : Refusal). Err z) same)
 
-pub parsed_refused : (text : List ℕ) (tokens : List Lexeme) (d : Refusal) → lexed text ≡ Ok tokens → spec.parsed text ≡ Err d → IsRefusedWith (length text) tokens d
-parsed_refused text tokens d lexes e =
+tokens_refused : (text : List ℕ) (tokens : List Lexeme) (d : Refusal) → lexed text ≡ Ok tokens → spec.parsed text ≡ Err d → IsRefusedWith (length text) tokens d
+tokens_refused text tokens d lexes e =
     tree_refused (length text) tokens d (value_refused (length text) (spec.tree spec.max_levels (at tokens (length text))) d (ap (spec.tree_of (length text)) (sym lexes) ∙ e))
+
+-- ---- texts
+
+refusal_over : (text : List ℕ) (d : Refusal) (r : Result (List Lexeme) Refusal) → lexed text ≡ r → IsRefusalOver (length text) r d → IsRefusalOf text d
+refusal_over text d r lexes is = subst (λ (s : Result (List Lexeme) Refusal). IsRefusalOver (length text) s d) (sym lexes) is
+
+one_fault : (d f : Refusal) → ◌≡◌ {A = Result Tree Refusal} (Err d) (Err f) → d ≡ f
+one_fault d f e = cc
+
+pub text_refused : (text : List ℕ) (d : Refusal) → spec.parsed text ≡ Err d → IsRefusalOf text d
+text_refused text d e = by (lexed text) refl
+  where
+    by : (r : Result (List Lexeme) Refusal) → lexed text ≡ r → IsRefusalOf text d
+    by (Ok tokens) lexes = refusal_over text d (Ok tokens) lexes (tokens_refused text tokens d lexes e)
+    by (Err faulty) lexes = refusal_over text d (Err faulty) lexes (one_fault faulty d (sym (ap (spec.tree_of (length text)) lexes) ∙ e))
+
+-- a text has a tree or a refusal
+pub tree_or_refusal : (text : List ℕ) → ((t : Tree) × IsTreeOf text t) ⊎ ((d : Refusal) × IsRefusalOf text d)
+tree_or_refusal text = by (spec.parsed text) refl
+  where
+    by : (r : Result Tree Refusal) → spec.parsed text ≡ r → ((t : Tree) × IsTreeOf text t) ⊎ ((d : Refusal) × IsRefusalOf text d)
+    by (Ok t) e = inl (t, parsed_found text t e)
+    by (Err d) e = inr (d, text_refused text d e)
+
+-- and not both
+opens_nothing : (place : ℕ) (places : List ℕ) → places ≡ [] → IsFirstOf place places → ⊥
+opens_nothing place [] e first = first
+opens_nothing place (p ∷ places) e first = absurd cc
+
+refused_no_tree : (end : ℕ) (front rest : List Lexeme) (d : Refusal) (items : List Item) → IsTree items (front ++ rest)
+    → ((d ≡ refusal_at end rest) × NoTreeGoesOn front rest × NoneOpensTooMany front) ⊎ ((d ≡ too_deep_at end rest) × OpensTooMany front rest) → ⊥
+refused_no_tree end front rest d items is (inl none) = none.1 rest items (same_next rest) (spec.max_levels, is)
+refused_no_tree end front [] d items is (inr deep) = deep.1
+refused_no_tree end front (t ∷ rest) d items is (inr deep) = opens_nothing t.from (too_many_in items) (tree_opens_none items (front ++ t ∷ rest) is) (deep.1.1 rest items (spec.max_levels, is))
+
+pub tree_not_refused : (text : List ℕ) (t : Tree) (d : Refusal) → IsTreeOf text t → IsRefusalOf text d → ⊥
+tree_not_refused text t d is refused =
+    let r : IsRefusedWith (length text) is.0 d = subst (λ (s : Result (List Lexeme) Refusal). IsRefusalOver (length text) s d) is.1 refused in
+    refused_no_tree (length text) r.0 r.1 d t.items (subst (IsTree t.items) r.2 is.2) r.4
 
 -- ---- in the words of the code
 
-no_tokens : {A B : Type 0} (r : Result A Refusal) (d : Refusal) (x : A) → r ≡ Err d → r ≡ Ok x → B
-no_tokens {A} r d x refused given = absurd (let differs : ◌≡◌ {A = Result A Refusal} (Err d) (Ok x) = sym refused ∙ given in cc)
-
 pub lexing_stopped : {X : Type 0} (view : X → List Lexeme) (text : List ℕ) (stop : Stop) → Gives view (Err stop) (lexed text) → IsRefusedBy text (Err stop)
 lexing_stopped view text Memory stops = tt
-lexing_stopped view text (Refused d) stops = λ tokens lexes. no_tokens (lexed text) d tokens stops lexes
+lexing_stopped view text (Refused d) stops = refusal_over text d (Err d) stops refl
 
 pub refusal_given : (text : List ℕ) (result : Result Tree Stop) → Gives (λ t. t) result (spec.parsed text) → IsRefusedBy text result
 refusal_given text (Ok t) gives = tt
 refusal_given text (Err Memory) gives = tt
-refusal_given text (Err (Refused d)) gives = λ tokens lexes. parsed_refused text tokens d lexes gives
+refusal_given text (Err (Refused d)) gives = text_refused text d gives

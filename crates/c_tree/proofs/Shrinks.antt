@@ -13,9 +13,9 @@ use Rattle.c_tree.specs.declared.expr.Product.{roll-Product}
 use Rattle.c_tree.specs.declared.expr.Unary.{Unary}
 use Rattle.c_tree.specs.declared.expr.UnaryKind.{UnaryKind}
 use Rattle.c_tree.specs.declared.expr.UnaryKind.TheVariants as signs
-use Rattle.c_tree.specs.Input.{Input, Outcome, Parser, and_then, peek, place, next, sees, expect, refusal, bytes}
-use Rattle.c_tree.specs.Chain.{mark_at, past, one_more, more_from, more_of}
-use Rattle.c_tree.specs.Expr as spec
+use Rattle.c_tree.specs.inside.Input.{Input, Outcome, Parser, and_then, peek, place, next, sees, expect, refusal, bytes}
+use Rattle.c_tree.specs.inside.Chain.{mark_at, past, one_more, more_from, more_of}
+use Rattle.c_tree.specs.inside.Expr as spec
 use Rattle.c_tree.proofs.Steps.{bind_ok, ok_parts, not_err, next_shorter}
 
 abbrev pub Shrinks : {A : Type 0} → Parser A → Type 0

@@ -7,8 +7,8 @@ use Rattle.std.specs.List.{list_all}
 use Rattle.std.specs.Str.Parse.{digits_value}
 use Rattle.c_lex.specs.Tokens.{Lexeme, StandIn}
 use Rattle.c_tree.specs.declared.term.Term.{Term}
-use Rattle.c_tree.specs.Input.{bytes_at}
-use Rattle.c_tree.specs.Expr.{number_value}
+use Rattle.c_tree.specs.inside.Input.{bytes_at}
+use Rattle.c_tree.specs.inside.Expr.{number_value}
 use Rattle.c_tree.specs.Grammar.{Is, Stands, StartsAt}
 use Rattle.c_tree.specs.Sequence.{Part}
 use Rattle.c_tree.specs.Leaves.{Leaf, PlacesRise, IsWithin, NumbersFit}

@@ -35,7 +35,7 @@ use Rattle.c_tree.specs.declared.simple.Local.{Local}
 use Rattle.c_tree.specs.declared.simple.Handles.{Handles}
 use Rattle.c_tree.specs.Plain as plain
 use Rattle.c_tree.specs.Seen.{left_to_right, or_mark, and_mark, equality_mark, relation_mark, sum_mark, product_mark, plain_unary, plain_product, plain_sum, plain_relation, plain_equality, plain_conjunction, plain_expr, plain_right, plain_cond, plain_assign, plain_call, all_of, plain_lname, plain_locals, plain_names}
-use Rattle.c_tree.specs.Input.{bytes_at}
+use Rattle.c_tree.specs.inside.Input.{bytes_at}
 use Rattle.c_tree.specs.Grammar.{Is, Stands, StartsAt, AreMore, IsLevel, equality_term, relation_term, sum_term, sign_term, IsOrMark, IsAndMark, IsEqualityMark, IsRelationMark, IsSumMark, IsProductMark, IsName, IsLayer, IsUnary, IsProduct, IsSum, IsRelation, IsEquality, IsConjunction, IsExprOver, IsExpr}
 use Rattle.c_tree.specs.Sequence.{Part, NoToken, ◌then◌, Headed, Perhaps, AreAll, InParens, EmptyParens, IsComma, IsList}
 use Rattle.c_tree.specs.GrammarSimple.{qual_term, IsQual, IsItype, IsNondet, IsNil, IsAddress, IsRight, IsCond, IsAssign, IsCall, IsLname, IsLocal, IsHandles}

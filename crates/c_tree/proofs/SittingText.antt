@@ -30,8 +30,8 @@ use Rattle.c_tree.specs.declared.item.Untyped.TheVariants as untypeds
 use Rattle.c_tree.specs.declared.item.Body.{Body}
 use Rattle.c_tree.specs.declared.item.Body.TheVariants as bodies
 use Rattle.c_tree.specs.declared.item.Item.{Item}
-use Rattle.c_tree.specs.Input.{bytes_at}
-use Rattle.c_tree.specs.Expr.{number_value}
+use Rattle.c_tree.specs.inside.Input.{bytes_at}
+use Rattle.c_tree.specs.inside.Expr.{number_value}
 use Rattle.c_tree.specs.Seen.{plain_cond, plain_assign, plain_first, plain_stmt, plain_stmts, plain_block, start_value, plain_gname, plain_typed, thread_of, plain_untyped, plain_body, plain_items}
 use Rattle.c_tree.specs.Grammar.{Stands, IsName}
 use Rattle.c_tree.specs.Sequence.{Part, ◌then◌, Perhaps, AreAll, InParens}

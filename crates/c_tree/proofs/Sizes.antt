@@ -5,9 +5,9 @@ use Rattle.c_tree.specs.declared.term.Term.TheVariants as terms
 use Rattle.c_tree.specs.declared.simple.Lname.{Lname}
 use Rattle.c_lex.specs.Tokens.{Lexeme}
 use Rattle.c_tree.specs.Term.{same_term}
-use Rattle.c_tree.specs.Input.{Input, Parser, ◌>>=◌, pure, refuse, look, here, take_token, eat, peek, place, next, sees, after, expect, refusal}
-use Rattle.c_tree.specs.Expr as expr_spec
-use Rattle.c_tree.specs.Simple as spec
+use Rattle.c_tree.specs.inside.Input.{Input, Parser, ◌>>=◌, pure, refuse, look, here, take_token, eat, peek, place, next, sees, after, expect, refusal}
+use Rattle.c_tree.specs.inside.Expr as expr_spec
+use Rattle.c_tree.specs.inside.Simple as spec
 use Rattle.c_tree.proofs.Steps.{bind_ok, ok_parts, not_err}
 use Rattle.c_tree.proofs.Shrinks.{Shrinks, NeverGrows, expect_shrinks, name_shrinks, expr_over_shrinks, unary_shrinks}
 

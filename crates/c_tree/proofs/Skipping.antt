@@ -3,8 +3,8 @@ use Rattle.std.proofs.Common.{◌≡◌, ℕ, zero, suc, ◌≤◌, Bool, true, 
 use Rattle.std.proofs.lemmas.List.{length-reverse}
 use Rattle.c_tree.specs.declared.term.Term.{Term}
 use Rattle.c_tree.specs.declared.term.Term.TheVariants as terms
-use Rattle.c_tree.specs.Input.{Input, peek, next, refusal}
-use Rattle.c_tree.specs.Item.{open_after, skip_from, skip_through}
+use Rattle.c_tree.specs.inside.Input.{Input, peek, next, refusal}
+use Rattle.c_tree.specs.inside.Item.{open_after, skip_from, skip_through}
 use Rattle.c_tree.proofs.Steps.{next_shorter}
 
 -- What is still skipped is what was to be skipped from the start.

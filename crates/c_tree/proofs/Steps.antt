@@ -2,7 +2,7 @@
 use Rattle.std.proofs.Common.{◌≡◌, ◌+◌, List, [], ◌∷◌, length, drop, Ok, Err, refl, ap, arith}
 use Rattle.thr_base.specs.declared.stops.Refusal.{Refusal}
 use Rattle.c_tree.specs.declared.term.Term.TheVariants as terms
-use Rattle.c_tree.specs.Input.{Input, Outcome, Parser, and_then, peek, place, next, sees, expect}
+use Rattle.c_tree.specs.inside.Input.{Input, Outcome, Parser, and_then, peek, place, next, sees, expect}
 
 -- what a step that did not fail gave, and what was read behind it
 pub bind_ok : {A B : Type 0} (r : Outcome A) (f : A → Parser B) (y : B) (j : Input) → and_then r f ≡ Ok (y, j) → (x : A) × (k : Input) × (r ≡ Ok (x, k)) × (f x k ≡ Ok (y, j))
@@ -25,5 +25,5 @@ unfolding peek next
 next_shorter i more = go i.tokens refl
   where
     go : (ts : List _) → i.tokens ≡ ts → length (drop 1 i.tokens) + 1 ≡ length i.tokens
-    go [] e = absurd (more (ap Rattle.c_tree.specs.Input.term_at e))
+    go [] e = absurd (more (ap Rattle.c_tree.specs.inside.Input.term_at e))
     go (t ∷ ts) e = rw e (omega arith)

@@ -18,12 +18,12 @@ use Rattle.c_tree.specs.declared.stmt.Around.TheVariants as arounds
 use Rattle.c_tree.specs.declared.stmt.Block.{roll-Block}
 use Rattle.c_tree.specs.declared.stmt.Stmt.{Stmt}
 use Rattle.c_tree.specs.Term.{same_term}
-use Rattle.c_tree.specs.Input.{Input, Outcome, Parser, ◌>>=◌, ◌>>◌, pure, refuse, refuse_deep, look, here, take_token, eat, and_then, peek, place, next, sees, expect, refusal, too_deep}
-use Rattle.c_tree.specs.Chain.{mark_at, more_of}
-use Rattle.c_tree.specs.Many.{one_or_end, many_from, many}
-use Rattle.c_tree.specs.Expr as expr_spec
-use Rattle.c_tree.specs.Simple as spec
-use Rattle.c_tree.specs.Stmt as stmt_spec
+use Rattle.c_tree.specs.inside.Input.{Input, Outcome, Parser, ◌>>=◌, ◌>>◌, pure, refuse, refuse_deep, look, here, take_token, eat, and_then, peek, place, next, sees, expect, refusal, too_deep}
+use Rattle.c_tree.specs.inside.Chain.{mark_at, more_of}
+use Rattle.c_tree.specs.inside.Many.{one_or_end, many_from, many}
+use Rattle.c_tree.specs.inside.Expr as expr_spec
+use Rattle.c_tree.specs.inside.Simple as spec
+use Rattle.c_tree.specs.inside.Stmt as stmt_spec
 use Rattle.c_tree.proofs.Steps.{ok_parts, not_err, next_shorter}
 use Rattle.c_tree.proofs.Shrinks.{Shrinks, NeverGrows, expect_shrinks, name_shrinks, more_of_le}
 use Rattle.c_tree.proofs.Sizes.{weaker, pure_le, refuse_shrinks, bind_le, bind_first, bind_second, take_le, eat_le, look_le, here_le, expr_shrinks, nondet_shrinks, right_shrinks, lname_shrinks}
@@ -81,7 +81,7 @@ nil_by false i x j e = nil_if_le i false i x j e
 
 nil_le : NeverGrows spec.nil
 unfolding spec.nil
-nil_le i x j e = nil_by (spec.is_zero (peek i) (Rattle.c_tree.specs.Input.bytes i)) i x j e
+nil_le i x j e = nil_by (spec.is_zero (peek i) (Rattle.c_tree.specs.inside.Input.bytes i)) i x j e
 
 address_shrinks : Shrinks spec.address
 unfolding spec.address same_term

@@ -12,9 +12,9 @@ use Rattle.c_tree.specs.Words.{words, refused_words, marks}
 use Rattle.c_tree.specs.declared.item.Item.{Item}
 use Rattle.c_tree.specs.declared.item.Tree.{Tree}
 use Rattle.c_tree.specs.Term.{same_term, lookup, word_term, mark_term, kind_term}
-use Rattle.c_tree.specs.Input.{Input, Outcome, Parser, peek, sees, term_at, refusal}
-use Rattle.c_tree.specs.Many.{one_or_end, many_from, many}
-use Rattle.c_tree.specs.Item as spec
+use Rattle.c_tree.specs.inside.Input.{Input, Outcome, Parser, peek, sees, term_at, refusal}
+use Rattle.c_tree.specs.inside.Many.{one_or_end, many_from, many}
+use Rattle.c_tree.specs.inside.Item as spec
 use Rattle.c_tree.specs.Sequence.{AreAll}
 use Rattle.c_tree.specs.GrammarItem.{IsItem, IsTreeWithin, IsTree, IsTreeOf}
 use Rattle.c_tree.proofs.Steps.{bind_ok, ok_parts, not_err}

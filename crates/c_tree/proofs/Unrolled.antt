@@ -3,11 +3,11 @@ use Rattle.std.proofs.Common.{◌≡◌, ℕ, zero, suc, ◌+◌, ◌<◌, ◌�
 use Rattle.c_lex.specs.Tokens.{Lexeme}
 use Rattle.c_tree.specs.declared.term.Term.{Term}
 use Rattle.c_tree.specs.declared.simple.Qual.{Qual}
-use Rattle.c_tree.specs.Input.{Input, Outcome, Parser, and_then, ◌>>=◌, ◌>>◌, pure, refuse, take_token, peek, place, next, sees}
-use Rattle.c_tree.specs.Chain.{mark_at, past, more_from, more_of}
-use Rattle.c_tree.specs.Many.{one_or_end, many_from, many}
-use Rattle.c_tree.specs.Simple.{qual_mark, quals_from, quals}
-use Rattle.c_tree.specs.Item.{open_after, skip_from}
+use Rattle.c_tree.specs.inside.Input.{Input, Outcome, Parser, and_then, ◌>>=◌, ◌>>◌, pure, refuse, take_token, peek, place, next, sees}
+use Rattle.c_tree.specs.inside.Chain.{mark_at, past, more_from, more_of}
+use Rattle.c_tree.specs.inside.Many.{one_or_end, many_from, many}
+use Rattle.c_tree.specs.inside.Simple.{qual_mark, quals_from, quals}
+use Rattle.c_tree.specs.inside.Item.{open_after, skip_from}
 use Rattle.c_tree.proofs.Steps.{ok_parts, next_shorter}
 use Rattle.c_tree.proofs.Shrinks.{Shrinks, NoMarkAtEnd, past_shorter}
 use Rattle.c_tree.proofs.Again.{at}

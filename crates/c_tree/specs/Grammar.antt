@@ -1,6 +1,9 @@
 -- The grammar of expressions: which tokens a tree stands for. Each relation is between a tree, tokens that begin with those
 -- of the tree, and the tokens behind them.
-use Rattle.std.specs.Prelude.{◌≡◌, ℕ, zero, suc, List, [], ◌∷◌, Some}
+use Rattle.std.specs.Prelude.{◌≡◌, ℕ, zero, suc, ◌^◌, ℤ, pos, not, ◌&&◌, ◌==◌, nat_lt, if◌then◌else◌, List, [], ◌∷◌, length, Option, Some, None}
+use Rattle.std.specs.Char.{is_ascii_digit}
+use Rattle.std.specs.List.{list_all}
+use Rattle.std.specs.Str.Parse.{digits_value}
 use Rattle.c_lex.specs.Tokens.{Lexeme}
 use Rattle.c_tree.specs.declared.term.Term.{Term}
 use Rattle.c_tree.specs.declared.term.Term.TheVariants as terms
@@ -25,8 +28,7 @@ use Rattle.c_tree.specs.declared.expr.Unary.TheOpen.{Unary-F}
 use Rattle.c_tree.specs.declared.expr.UnaryKind.{UnaryKind}
 use Rattle.c_tree.specs.declared.expr.UnaryKind.TheVariants as signs
 use Rattle.c_tree.specs.Term.{term_of}
-use Rattle.c_tree.specs.Input.{bytes_at}
-use Rattle.c_tree.specs.Expr.{number_value}
+use Rattle.c_tree.specs.Next.{bytes_at}
 
 -- The first token is this one, at this place, and `rest` is behind it.
 abbrev pub Is : Term → ℕ → List Lexeme → List Lexeme → Type 0
@@ -133,6 +135,11 @@ module _ (IsOperand : Unary → List Lexeme → List Lexeme → Type 0) where
   IsExprOver e = IsLevel IsOrMark IsConjunction (out-Expr e).from (out-Expr e).first (out-Expr e).more
 
 -- ---- operands
+
+-- the value of digits, where it is below 2^127
+abbrev pub number_value : List ℕ → Option ℤ
+number_value text =
+    if not (length text == 0) && list_all is_ascii_digit text && nat_lt (digits_value 10 text) (2 ^ 127) then Some (pos (digits_value 10 text)) else None
 
 abbrev pub IsName : Name → List Lexeme → List Lexeme → Type 0
 IsName name ts rest = Is terms.Name name.from ts rest × (bytes_at ts ≡ name.text)

@@ -1,5 +1,6 @@
 -- The grammar of whole texts: which tokens a tree stands for, by cases on the tree.
 use Rattle.std.specs.Prelude.{◌≡◌, ◌⊎◌, ℕ, ℤ, Bool, true, false, List, [], length, Option, Some, None, Ok}
+use Rattle.thr_base.specs.Limits.{most_levels}
 use Rattle.c_lex.specs.Tokens.{Lexeme, lexed}
 use Rattle.c_tree.specs.declared.term.Term.{Term}
 use Rattle.c_tree.specs.declared.term.Term.TheVariants as terms
@@ -22,10 +23,8 @@ use Rattle.c_tree.specs.declared.item.Body.{Body}
 use Rattle.c_tree.specs.declared.item.Body.TheVariants as bodies
 use Rattle.c_tree.specs.declared.item.Item.{Item}
 use Rattle.c_tree.specs.declared.item.Tree.{Tree}
-use Rattle.c_tree.specs.Input.{bytes_at}
-use Rattle.c_tree.specs.Expr.{number_value}
-use Rattle.c_tree.specs.Item.{max_levels, is_profile}
-use Rattle.c_tree.specs.Grammar.{Is, Stands, StartsAt, IsName}
+use Rattle.c_tree.specs.Next.{bytes_at}
+use Rattle.c_tree.specs.Grammar.{Is, Stands, StartsAt, number_value, IsName}
 use Rattle.c_tree.specs.Sequence.{Part, NoToken, ◌then◌, Headed, Perhaps, AreAll, InParens, IsList}
 use Rattle.c_tree.specs.GrammarSimple.{IsQual, IsItype, IsHandles}
 use Rattle.c_tree.specs.GrammarStmt.{IsBlock, IsStmt}
@@ -96,6 +95,24 @@ IsLocks l = Headed terms.MutexType l.from (IsList IsMname l.first l.more)
 
 -- ---- functions
 
+-- the word is the name of a function of the profile
+abbrev pub is_profile : Term → Bool
+is_profile terms.Nondet = true
+is_profile terms.Assume = true
+is_profile terms.AtomicBegin = true
+is_profile terms.AtomicEnd = true
+is_profile terms.Assert = true
+is_profile terms.ReachError = true
+is_profile terms.Abort = true
+is_profile terms.Create = true
+is_profile terms.Join = true
+is_profile terms.Exit = true
+is_profile terms.MutexInit = true
+is_profile terms.MutexDestroy = true
+is_profile terms.MutexLock = true
+is_profile terms.MutexUnlock = true
+is_profile _ = false
+
 -- the name of a function of the profile
 abbrev pub IsProfileName : ℕ → Part
 IsProfileName from ts rest = (word : Term) × (is_profile word ≡ true) × Is word from ts rest
@@ -156,7 +173,7 @@ IsTreeWithin levels items ts = AreAll (IsItem levels) items ts []
 
 -- within the levels of the profile
 abbrev pub IsTree : List Item → List Lexeme → Type 0
-IsTree = IsTreeWithin max_levels
+IsTree = IsTreeWithin most_levels
 
 -- The text has tokens, and they are those of a tree, which ends where the text does.
 abbrev pub IsTreeOf : List ℕ → Tree → Type 0

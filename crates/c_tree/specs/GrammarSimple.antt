@@ -22,7 +22,7 @@ use Rattle.c_tree.specs.declared.simple.Itype.TheVariants as itypes
 use Rattle.c_tree.specs.declared.simple.Lname.{Lname}
 use Rattle.c_tree.specs.declared.simple.Local.{Local}
 use Rattle.c_tree.specs.declared.simple.Handles.{Handles}
-use Rattle.c_tree.specs.Input.{bytes_at}
+use Rattle.c_tree.specs.Next.{bytes_at}
 use Rattle.c_tree.specs.Grammar.{Is, Stands, StartsAt, IsName, IsExpr}
 use Rattle.c_tree.specs.Sequence.{Part, ◌then◌, Headed, Perhaps, AreAll, InParens, EmptyParens, IsList}
 

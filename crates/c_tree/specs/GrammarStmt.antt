@@ -8,7 +8,7 @@ use Rattle.c_tree.specs.declared.stmt.First.{First}
 use Rattle.c_tree.specs.declared.stmt.First.TheVariants as firsts
 use Rattle.c_tree.specs.declared.stmt.Stmt.{Stmt, out-Stmt}
 use Rattle.c_tree.specs.declared.stmt.Stmt.TheOpen.{Stmt-F}
-use Rattle.c_tree.specs.Input.{term_at}
+use Rattle.c_tree.specs.Next.{term_at}
 use Rattle.c_tree.specs.Grammar.{Is, Stands}
 use Rattle.c_tree.specs.Sequence.{Part, ◌then◌, Headed, Perhaps, AreAll, InParens, EmptyParens}
 use Rattle.c_tree.specs.GrammarSimple.{IsNil, IsCond, IsAssign, IsCall, IsLocal, IsHandles}

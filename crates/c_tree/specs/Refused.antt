@@ -1,14 +1,14 @@
 -- Where a text is refused: at its first token that no tree goes on with, or that opens a level too many.
-use Rattle.std.specs.Prelude.{◌≡◌, ◌⊎◌, ℕ, ◌<◌, List, [], ◌∷◌, ◌++◌, length, Result, Ok}
+use Rattle.std.specs.Prelude.{◌≡◌, ◌⊎◌, ℕ, ◌<◌, List, [], ◌∷◌, ◌++◌, length, Result, Ok, Err}
 use Rattle.std.specs.List.{AllByRecursion}
 use Rattle.thr_base.specs.declared.stops.Refusal.{Refusal}
 use Rattle.thr_base.specs.declared.stops.Stop.{Stop}
+use Rattle.thr_base.specs.Limits.{most_levels}
 use Rattle.thr_base.specs.Refusals.{MatchStop}
 use Rattle.c_lex.specs.Tokens.{Lexeme, lexed}
 use Rattle.c_tree.specs.declared.item.Item.{Item}
 use Rattle.c_tree.specs.declared.item.Tree.{Tree}
-use Rattle.c_tree.specs.Input.{refusal, too_deep}
-use Rattle.c_tree.specs.Item.{max_levels}
+use Rattle.c_tree.specs.Next.{refusal_at, too_deep_at}
 use Rattle.c_tree.specs.GrammarItem.{IsTreeWithin}
 use Rattle.c_tree.specs.Seen.{plain_items}
 use Rattle.c_tree.specs.Beyond.{items_beyond}
@@ -25,7 +25,7 @@ BeginsATree front = (more : List Lexeme) × (items : List Item) × IsAnyTree ite
 
 -- the places of the tokens of a tree that open a level too many
 abbrev pub too_many_in : List Item → List ℕ
-too_many_in items = items_beyond (plain_items items) max_levels
+too_many_in items = items_beyond (plain_items items) most_levels
 
 -- ---- the refused token
 
@@ -73,9 +73,17 @@ NoneOpensTooMany front = (more : List Lexeme) (items : List Item) → AreBehind 
 abbrev pub IsRefusedWith : ℕ → List Lexeme → Refusal → Type 0
 IsRefusedWith end tokens d =
     (front : List Lexeme) × (rest : List Lexeme) × (tokens ≡ front ++ rest) × BeginsATree front
-    × (((d ≡ refusal (record { tokens = rest; end = end })) × NoTreeGoesOn front rest × NoneOpensTooMany front)
-    ⊎ ((d ≡ too_deep (record { tokens = rest; end = end })) × OpensTooMany front rest))
+    × (((d ≡ refusal_at end rest) × NoTreeGoesOn front rest × NoneOpensTooMany front) ⊎ ((d ≡ too_deep_at end rest) × OpensTooMany front rest))
 
--- Where an answer refuses a text that has tokens, they are refused so.
+-- A text of so many bytes is refused where it has no tokens, at the first place that is faulty; and else where they are.
+abbrev pub IsRefusalOver : ℕ → Result (List Lexeme) Refusal → Refusal → Type 0
+IsRefusalOver end (Err faulty) d = faulty ≡ d
+IsRefusalOver end (Ok tokens) d = IsRefusedWith end tokens d
+
+-- the refusal of a text
+abbrev pub IsRefusalOf : List ℕ → Refusal → Type 0
+IsRefusalOf text d = IsRefusalOver (length text) (lexed text) d
+
+-- Where an answer refuses a text, the text has this refusal.
 abbrev pub IsRefusedBy : List ℕ → Result Tree Stop → Type 0
-IsRefusedBy text answer = MatchStop answer (λ tree. Unit {0}) (λ d. (tokens : List Lexeme) → lexed text ≡ Ok tokens → IsRefusedWith (length text) tokens d)
+IsRefusedBy text answer = MatchStop answer (λ tree. Unit {0}) (IsRefusalOf text)

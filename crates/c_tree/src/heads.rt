@@ -1,9 +1,9 @@
 //! Reads statements that hold no others, and the heads of those that do.
 
 ghost use Rattle.std.specs.Prelude.{◌≡◌};
-ghost use Rattle.c_tree.specs.Input.{Reads, peek};
-ghost use Rattle.c_tree.specs.Simple as simple_spec;
-ghost use Rattle.c_tree.specs.Stmt as stmt_spec;
+ghost use Rattle.c_tree.specs.inside.Input.{Reads, peek};
+ghost use Rattle.c_tree.specs.inside.Simple as simple_spec;
+ghost use Rattle.c_tree.specs.inside.Stmt as stmt_spec;
 
 use crate::lists::{handles, local};
 use crate::parts::{assign, call, cond, empty_parens, nil};
@@ -23,7 +23,7 @@ pub fn word_end(tokens: &mut Tokens<'_, '_>) -> Result<u32, Stop>
     tokens.expect(Term::Semicolon)
 }
 
-#[tactic(auto, unfolding(crate::specs::Stmt::return_stmt))]
+#[tactic(auto, unfolding(crate::specs::inside::Stmt::return_stmt))]
 pub fn return_stmt(tokens: &mut Tokens<'_, '_>) -> Result<Stmt, Stop>
     ensures { Reads (stmt_spec.return_stmt tokens.old) result tokens.new }
 {
@@ -50,7 +50,7 @@ pub fn break_stmt(tokens: &mut Tokens<'_, '_>, around: Around) -> Result<Stmt, S
     }
 }
 
-#[tactic(auto, unfolding(crate::specs::Stmt::assign_stmt))]
+#[tactic(auto, unfolding(crate::specs::inside::Stmt::assign_stmt))]
 pub fn assign_stmt(alloc: Global, tokens: &mut Tokens<'_, '_>, levels: u32) -> Result<Stmt, Stop>
     ensures { Reads (stmt_spec.assign_stmt levels tokens.old) result tokens.new }
 {
@@ -59,7 +59,7 @@ pub fn assign_stmt(alloc: Global, tokens: &mut Tokens<'_, '_>, levels: u32) -> R
     Ok(Stmt::Assign(Boxed::new(alloc, part)?))
 }
 
-#[tactic(auto, unfolding(crate::specs::Stmt::call_stmt))]
+#[tactic(auto, unfolding(crate::specs::inside::Stmt::call_stmt))]
 pub fn call_stmt(alloc: Global, tokens: &mut Tokens<'_, '_>, levels: u32) -> Result<Stmt, Stop>
     ensures { Reads (stmt_spec.call_stmt levels tokens.old) result tokens.new }
 {
@@ -75,7 +75,7 @@ pub fn handles_stmt(alloc: Global, tokens: &mut Tokens<'_, '_>) -> Result<Stmt, 
     Ok(Stmt::Handles(Boxed::new(alloc, part)?))
 }
 
-#[tactic(auto, unfolding(crate::specs::Stmt::local_stmt))]
+#[tactic(auto, unfolding(crate::specs::inside::Stmt::local_stmt))]
 pub fn local_stmt(alloc: Global, tokens: &mut Tokens<'_, '_>, levels: u32) -> Result<Stmt, Stop>
     ensures { Reads (stmt_spec.local_stmt levels tokens.old) result tokens.new }
 {
@@ -83,14 +83,14 @@ pub fn local_stmt(alloc: Global, tokens: &mut Tokens<'_, '_>, levels: u32) -> Re
     Ok(Stmt::Local(Boxed::new(alloc, part)?))
 }
 
-#[tactic(auto, unfolding(crate::specs::Stmt::first_local))]
+#[tactic(auto, unfolding(crate::specs::inside::Stmt::first_local))]
 fn first_local(alloc: Global, tokens: &mut Tokens<'_, '_>, levels: u32) -> Result<First, Stop>
     ensures { Reads (stmt_spec.first_local levels tokens.old) result tokens.new }
 {
     Ok(First::Local(local(alloc, tokens, levels)?))
 }
 
-#[tactic(auto, unfolding(crate::specs::Stmt::first_assign))]
+#[tactic(auto, unfolding(crate::specs::inside::Stmt::first_assign))]
 fn first_assign(alloc: Global, tokens: &mut Tokens<'_, '_>, levels: u32) -> Result<First, Stop>
     ensures { Reads (stmt_spec.first_assign levels tokens.old) result tokens.new }
 {
@@ -99,7 +99,7 @@ fn first_assign(alloc: Global, tokens: &mut Tokens<'_, '_>, levels: u32) -> Resu
     Ok(First::Assign(part))
 }
 
-#[tactic(auto, unfolding(crate::specs::Stmt::first_part))]
+#[tactic(auto, unfolding(crate::specs::inside::Stmt::first_part))]
 fn first_of(alloc: Global, tokens: &mut Tokens<'_, '_>, levels: u32) -> Result<First, Stop>
     ensures { Reads (stmt_spec.first_part levels tokens.old) result tokens.new }
 {
@@ -141,7 +141,7 @@ fn boxed_assign(
     Ok(Boxed::new(alloc, part)?)
 }
 
-#[tactic(auto, unfolding(crate::specs::Stmt::middle_part))]
+#[tactic(auto, unfolding(crate::specs::inside::Stmt::middle_part))]
 pub fn middle_part(
     alloc: Global,
     tokens: &mut Tokens<'_, '_>,
@@ -156,7 +156,7 @@ pub fn middle_part(
     }
 }
 
-#[tactic(auto, unfolding(crate::specs::Stmt::last_part))]
+#[tactic(auto, unfolding(crate::specs::inside::Stmt::last_part))]
 pub fn last_part(
     alloc: Global,
     tokens: &mut Tokens<'_, '_>,
@@ -171,7 +171,7 @@ pub fn last_part(
     }
 }
 
-#[tactic(auto, unfolding(crate::specs::Stmt::condition))]
+#[tactic(auto, unfolding(crate::specs::inside::Stmt::condition))]
 pub fn condition(
     alloc: Global,
     tokens: &mut Tokens<'_, '_>,
@@ -225,7 +225,7 @@ fn begins(around: Around, term: Term) -> bool
 }
 
 /// Where no further level may be opened.
-#[tactic(auto, unfolding(crate::specs::Stmt::no_stmt))]
+#[tactic(auto, unfolding(crate::specs::inside::Stmt::no_stmt))]
 pub fn no_stmt(tokens: &mut Tokens<'_, '_>, around: Around) -> Result<Stmt, Stop>
     ensures { Reads (stmt_spec.no_stmt around tokens.old) result tokens.new }
 {

@@ -1,11 +1,11 @@
 //! Reads the items of a text.
 
 ghost use Rattle.std.specs.Prelude.{◌≡◌};
-ghost use Rattle.c_tree.specs.Chain.{more_of};
-ghost use Rattle.c_tree.specs.Input.{Reads};
-ghost use Rattle.c_tree.specs.Item as spec;
-ghost use Rattle.c_tree.specs.Many.{many};
-ghost use Rattle.c_tree.specs.Simple as simple_spec;
+ghost use Rattle.c_tree.specs.inside.Chain.{more_of};
+ghost use Rattle.c_tree.specs.inside.Input.{Reads};
+ghost use Rattle.c_tree.specs.inside.Item as spec;
+ghost use Rattle.c_tree.specs.inside.Many.{many};
+ghost use Rattle.c_tree.specs.inside.Simple as simple_spec;
 
 use crate::heads::stmt;
 use crate::item::{
@@ -22,7 +22,7 @@ use sqlite_items::Items;
 use std::alloc::Global;
 use thr_base::{MOST_LEVELS, Stop};
 
-#[tactic(auto, unfolding(crate::specs::Item::body))]
+#[tactic(auto, unfolding(crate::specs::inside::Item::body))]
 fn body(alloc: Global, tokens: &mut Tokens<'_, '_>) -> Result<Block, Stop>
     ensures { Reads (spec.body spec.max_levels tokens.old) result tokens.new }
 {
@@ -34,7 +34,7 @@ fn body(alloc: Global, tokens: &mut Tokens<'_, '_>) -> Result<Block, Stop>
     .block(tokens, Around::Nothing)
 }
 
-#[tactic(auto, unfolding(crate::specs::Item::start_number))]
+#[tactic(auto, unfolding(crate::specs::inside::Item::start_number))]
 fn start_number(tokens: &mut Tokens<'_, '_>) -> Result<Start, Stop>
     ensures { Reads (spec.start_number tokens.old) result tokens.new }
 {
@@ -48,7 +48,7 @@ fn start_number(tokens: &mut Tokens<'_, '_>) -> Result<Start, Stop>
     })
 }
 
-#[tactic(auto, unfolding(crate::specs::Item::gname))]
+#[tactic(auto, unfolding(crate::specs::inside::Item::gname))]
 fn gname(alloc: Global, tokens: &mut Tokens<'_, '_>) -> Result<Gname, Stop>
     ensures { Reads (spec.gname tokens.old) result tokens.new }
 {
@@ -72,7 +72,7 @@ fn more_gnames(alloc: Global, tokens: &mut Tokens<'_, '_>) -> Result<Items<(u32,
     Ok(more)
 }
 
-#[tactic(auto, unfolding(crate::specs::Item::globals))]
+#[tactic(auto, unfolding(crate::specs::inside::Item::globals))]
 fn globals(alloc: Global, tokens: &mut Tokens<'_, '_>) -> Result<Globals, Stop>
     ensures { Reads (spec.globals tokens.old) result tokens.new }
 {
@@ -82,7 +82,7 @@ fn globals(alloc: Global, tokens: &mut Tokens<'_, '_>) -> Result<Globals, Stop>
     Ok(Globals { first, more })
 }
 
-#[tactic(auto, unfolding(crate::specs::Item::mname))]
+#[tactic(auto, unfolding(crate::specs::inside::Item::mname))]
 fn mname(alloc: Global, tokens: &mut Tokens<'_, '_>) -> Result<Mname, Stop>
     ensures { Reads (spec.mname tokens.old) result tokens.new }
 {
@@ -107,7 +107,7 @@ fn more_mnames(alloc: Global, tokens: &mut Tokens<'_, '_>) -> Result<Items<(u32,
     Ok(more)
 }
 
-#[tactic(auto, unfolding(crate::specs::Item::locks))]
+#[tactic(auto, unfolding(crate::specs::inside::Item::locks))]
 fn locks(alloc: Global, tokens: &mut Tokens<'_, '_>) -> Result<Locks, Stop>
     ensures { Reads (spec.locks tokens.old) result tokens.new }
 {
@@ -118,7 +118,7 @@ fn locks(alloc: Global, tokens: &mut Tokens<'_, '_>) -> Result<Locks, Stop>
     Ok(Locks { from, first, more })
 }
 
-#[tactic(auto, unfolding(crate::specs::Item::proto_end))]
+#[tactic(auto, unfolding(crate::specs::inside::Item::proto_end))]
 fn proto_end(tokens: &mut Tokens<'_, '_>, from: u32) -> Result<Proto, Stop>
     ensures { Reads (spec.proto_end from tokens.old) result tokens.new }
 {
@@ -126,7 +126,7 @@ fn proto_end(tokens: &mut Tokens<'_, '_>, from: u32) -> Result<Proto, Stop>
     Ok(Proto { from })
 }
 
-#[tactic(auto, unfolding(crate::specs::Item::skipped_parens))]
+#[tactic(auto, unfolding(crate::specs::inside::Item::skipped_parens))]
 fn skipped_parens(alloc: Global, tokens: &mut Tokens<'_, '_>) -> Result<(), Stop>
     ensures { Reads (spec.skipped_parens tokens.old) result tokens.new }
 {
@@ -134,7 +134,7 @@ fn skipped_parens(alloc: Global, tokens: &mut Tokens<'_, '_>) -> Result<(), Stop
     skip_through(alloc, tokens, Term::RightParen)
 }
 
-#[tactic(auto, unfolding(crate::specs::Item::proto))]
+#[tactic(auto, unfolding(crate::specs::inside::Item::proto))]
 fn proto(alloc: Global, tokens: &mut Tokens<'_, '_>) -> Result<Proto, Stop>
     ensures { Reads (spec.proto tokens.old) result tokens.new }
 {
@@ -143,7 +143,7 @@ fn proto(alloc: Global, tokens: &mut Tokens<'_, '_>) -> Result<Proto, Stop>
     proto_end(tokens, from)
 }
 
-#[tactic(auto, unfolding(crate::specs::Item::error_fn))]
+#[tactic(auto, unfolding(crate::specs::inside::Item::error_fn))]
 fn error_fn(alloc: Global, tokens: &mut Tokens<'_, '_>) -> Result<Untyped, Stop>
     ensures { Reads (spec.error_fn tokens.old) result tokens.new }
 {
@@ -158,7 +158,7 @@ fn error_fn(alloc: Global, tokens: &mut Tokens<'_, '_>) -> Result<Untyped, Stop>
     }
 }
 
-#[tactic(auto, unfolding(crate::specs::Item::main_fn))]
+#[tactic(auto, unfolding(crate::specs::inside::Item::main_fn))]
 fn main_fn(alloc: Global, tokens: &mut Tokens<'_, '_>) -> Result<Mainfn, Stop>
     ensures { Reads (spec.main_fn spec.max_levels tokens.old) result tokens.new }
 {
@@ -190,7 +190,7 @@ fn skip_pointer(alloc: Global, tokens: &mut Tokens<'_, '_>, is_void: bool) -> Re
     skip_name(alloc, tokens, is_pointer)
 }
 
-#[tactic(auto, unfolding(crate::specs::Item::parameter))]
+#[tactic(auto, unfolding(crate::specs::inside::Item::parameter))]
 fn parameter(alloc: Global, tokens: &mut Tokens<'_, '_>) -> Result<(), Stop>
     ensures { Reads (spec.parameter tokens.old) result tokens.new }
 {
@@ -201,7 +201,7 @@ fn parameter(alloc: Global, tokens: &mut Tokens<'_, '_>) -> Result<(), Stop>
     Ok(())
 }
 
-#[tactic(auto, unfolding(crate::specs::Item::thread_fn))]
+#[tactic(auto, unfolding(crate::specs::inside::Item::thread_fn))]
 fn thread_fn(alloc: Global, tokens: &mut Tokens<'_, '_>) -> Result<Threadfn, Stop>
     ensures { Reads (spec.thread_fn spec.max_levels tokens.old) result tokens.new }
 {
@@ -237,7 +237,7 @@ fn is_profile(term: Term) -> bool
     )
 }
 
-#[tactic(auto, unfolding(crate::specs::Item::profile_proto))]
+#[tactic(auto, unfolding(crate::specs::inside::Item::profile_proto))]
 fn profile_proto(alloc: Global, tokens: &mut Tokens<'_, '_>) -> Result<Proto, Stop>
     ensures { Reads (spec.profile_proto tokens.old) result tokens.new }
 {
@@ -248,7 +248,7 @@ fn profile_proto(alloc: Global, tokens: &mut Tokens<'_, '_>) -> Result<Proto, St
     }
 }
 
-#[tactic(auto, unfolding(crate::specs::Item::typed))]
+#[tactic(auto, unfolding(crate::specs::inside::Item::typed))]
 fn typed(alloc: Global, tokens: &mut Tokens<'_, '_>) -> Result<Typed, Stop>
     ensures { Reads (spec.typed spec.max_levels tokens.old) result tokens.new }
 {
@@ -259,7 +259,7 @@ fn typed(alloc: Global, tokens: &mut Tokens<'_, '_>) -> Result<Typed, Stop>
     }
 }
 
-#[tactic(auto, unfolding(crate::specs::Item::untyped))]
+#[tactic(auto, unfolding(crate::specs::inside::Item::untyped))]
 fn untyped(alloc: Global, tokens: &mut Tokens<'_, '_>) -> Result<Untyped, Stop>
     ensures { Reads (spec.untyped spec.max_levels tokens.old) result tokens.new }
 {
@@ -273,7 +273,7 @@ fn untyped(alloc: Global, tokens: &mut Tokens<'_, '_>) -> Result<Untyped, Stop>
     }
 }
 
-#[tactic(auto, unfolding(crate::specs::Item::typed_body))]
+#[tactic(auto, unfolding(crate::specs::inside::Item::typed_body))]
 fn typed_body(alloc: Global, tokens: &mut Tokens<'_, '_>) -> Result<Body, Stop>
     ensures { Reads (spec.typed_body spec.max_levels tokens.old) result tokens.new }
 {
@@ -281,7 +281,7 @@ fn typed_body(alloc: Global, tokens: &mut Tokens<'_, '_>) -> Result<Body, Stop>
     Ok(Body::Typed(kind, typed(alloc, tokens)?))
 }
 
-#[tactic(auto, unfolding(crate::specs::Item::void_body))]
+#[tactic(auto, unfolding(crate::specs::inside::Item::void_body))]
 fn void_body(alloc: Global, tokens: &mut Tokens<'_, '_>) -> Result<Body, Stop>
     ensures { Reads (spec.void_body spec.max_levels tokens.old) result tokens.new }
 {
@@ -289,7 +289,7 @@ fn void_body(alloc: Global, tokens: &mut Tokens<'_, '_>) -> Result<Body, Stop>
     Ok(Body::Void(from, untyped(alloc, tokens)?))
 }
 
-#[tactic(auto, unfolding(crate::specs::Item::item_body))]
+#[tactic(auto, unfolding(crate::specs::inside::Item::item_body))]
 fn item_body(alloc: Global, tokens: &mut Tokens<'_, '_>) -> Result<Body, Stop>
     ensures { Reads (spec.item_body spec.max_levels tokens.old) result tokens.new }
 {
@@ -302,7 +302,7 @@ fn item_body(alloc: Global, tokens: &mut Tokens<'_, '_>) -> Result<Body, Stop>
     }
 }
 
-#[tactic(auto, unfolding(crate::specs::Item::item))]
+#[tactic(auto, unfolding(crate::specs::inside::Item::item))]
 fn item(alloc: Global, tokens: &mut Tokens<'_, '_>) -> Result<Item, Stop>
     ensures { Reads (spec.item spec.max_levels tokens.old) result tokens.new }
 {

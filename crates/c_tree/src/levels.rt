@@ -1,10 +1,10 @@
 //! Each level of expressions over that of operands, whose parser is a parameter, so that each is proved by itself.
 
 ghost use Rattle.std.specs.Prelude.{◌≡◌, Some};
-ghost use Rattle.c_tree.specs.Chain.{more_of, mark_at, past};
-ghost use Rattle.c_tree.specs.Expr as spec;
-ghost use Rattle.c_tree.specs.Input.{Reads};
-ghost use Rattle.c_tree.specs.Nests.{Nests};
+ghost use Rattle.c_tree.specs.inside.Chain.{more_of, mark_at, past};
+ghost use Rattle.c_tree.specs.inside.Expr as spec;
+ghost use Rattle.c_tree.specs.inside.Input.{Reads};
+ghost use Rattle.c_tree.specs.inside.Nests.{Nests};
 
 use crate::expr::{
     Conjunction, Equality, EqualityKind, EqualityMark, Expr, Product, Relation, RelationKind,
@@ -116,7 +116,7 @@ impl<F: Fn(Global, &mut Tokens<'_, '_>, u32) -> Result<Unary, Stop>> Levels<F> {
         Ok(more)
     }
 
-    #[tactic(auto, unfolding(crate::specs::Expr::product))]
+    #[tactic(auto, unfolding(crate::specs::inside::Expr::product))]
     fn product(&self, tokens: &mut Tokens<'_, '_>) -> Result<Product, Stop>
         requires { Nests self.now.levels (F.pre self.now.unary) (F.post self.now.unary) }
         ensures { Reads (spec.product (spec.unary self.now.levels) tokens.old) result tokens.new }
@@ -139,7 +139,7 @@ impl<F: Fn(Global, &mut Tokens<'_, '_>, u32) -> Result<Unary, Stop>> Levels<F> {
         Ok(more)
     }
 
-    #[tactic(auto, unfolding(crate::specs::Expr::sum))]
+    #[tactic(auto, unfolding(crate::specs::inside::Expr::sum))]
     fn sum(&self, tokens: &mut Tokens<'_, '_>) -> Result<Sum, Stop>
         requires { Nests self.now.levels (F.pre self.now.unary) (F.post self.now.unary) }
         ensures { Reads (spec.sum (spec.unary self.now.levels) tokens.old) result tokens.new }
@@ -165,7 +165,7 @@ impl<F: Fn(Global, &mut Tokens<'_, '_>, u32) -> Result<Unary, Stop>> Levels<F> {
         Ok(more)
     }
 
-    #[tactic(auto, unfolding(crate::specs::Expr::relation))]
+    #[tactic(auto, unfolding(crate::specs::inside::Expr::relation))]
     fn relation(&self, tokens: &mut Tokens<'_, '_>) -> Result<Relation, Stop>
         requires { Nests self.now.levels (F.pre self.now.unary) (F.post self.now.unary) }
         ensures { Reads (spec.relation (spec.unary self.now.levels) tokens.old) result tokens.new }
@@ -191,7 +191,7 @@ impl<F: Fn(Global, &mut Tokens<'_, '_>, u32) -> Result<Unary, Stop>> Levels<F> {
         Ok(more)
     }
 
-    #[tactic(auto, unfolding(crate::specs::Expr::equality))]
+    #[tactic(auto, unfolding(crate::specs::inside::Expr::equality))]
     fn equality(&self, tokens: &mut Tokens<'_, '_>) -> Result<Equality, Stop>
         requires { Nests self.now.levels (F.pre self.now.unary) (F.post self.now.unary) }
         ensures { Reads (spec.equality (spec.unary self.now.levels) tokens.old) result tokens.new }
@@ -214,7 +214,7 @@ impl<F: Fn(Global, &mut Tokens<'_, '_>, u32) -> Result<Unary, Stop>> Levels<F> {
         Ok(more)
     }
 
-    #[tactic(auto, unfolding(crate::specs::Expr::conjunction))]
+    #[tactic(auto, unfolding(crate::specs::inside::Expr::conjunction))]
     fn conjunction(&self, tokens: &mut Tokens<'_, '_>) -> Result<Conjunction, Stop>
         requires { Nests self.now.levels (F.pre self.now.unary) (F.post self.now.unary) }
         ensures { Reads (spec.conjunction (spec.unary self.now.levels) tokens.old) result tokens.new }
@@ -237,7 +237,7 @@ impl<F: Fn(Global, &mut Tokens<'_, '_>, u32) -> Result<Unary, Stop>> Levels<F> {
         Ok(more)
     }
 
-    #[tactic(auto, unfolding(crate::specs::Expr::expr_over))]
+    #[tactic(auto, unfolding(crate::specs::inside::Expr::expr_over))]
     pub fn expr(&self, tokens: &mut Tokens<'_, '_>) -> Result<Expr, Stop>
         requires { Nests self.now.levels (F.pre self.now.unary) (F.post self.now.unary) }
         ensures { Reads (spec.expr_over (spec.unary self.now.levels) tokens.old) result tokens.new }
@@ -269,7 +269,7 @@ impl<F: Fn(Global, &mut Tokens<'_, '_>, u32) -> Result<Unary, Stop>> Levels<F> {
     }
 
     /// An operand, where a further level may be opened.
-    #[tactic(auto, unfolding(crate::specs::Expr::unary_with))]
+    #[tactic(auto, unfolding(crate::specs::inside::Expr::unary_with))]
     pub fn operand(&self, tokens: &mut Tokens<'_, '_>) -> Result<Unary, Stop>
         requires { Nests self.now.levels (F.pre self.now.unary) (F.post self.now.unary) }
         ensures { Reads (spec.unary_with (Some (spec.unary self.now.levels)) tokens.old) result tokens.new }

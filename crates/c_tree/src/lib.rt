@@ -28,8 +28,8 @@ pub use item::{
     Untyped,
 };
 pub use laws::{
-    expressions_are_read_exactly, places_are_those_of_first_tokens,
-    refusals_are_at_the_first_wrong_token, trees_are_read_exactly, trees_follow_their_texts,
+    expressions_are_unique, marks_are_tokens, places_are_those_of_first_tokens,
+    trees_are_read_exactly, trees_follow_their_texts,
 };
 pub use reader::{parse, parse_tokens};
 pub use simple::{

@@ -1,10 +1,10 @@
 //! Reads declarations: lists of names behind the words of a type.
 
 ghost use Rattle.std.specs.Prelude.{◌≡◌};
-ghost use Rattle.c_tree.specs.Chain.{more_of, mark_at, past};
-ghost use Rattle.c_tree.specs.Expr as expr_spec;
-ghost use Rattle.c_tree.specs.Simple as spec;
-ghost use Rattle.c_tree.specs.Input.{Reads};
+ghost use Rattle.c_tree.specs.inside.Chain.{more_of, mark_at, past};
+ghost use Rattle.c_tree.specs.inside.Expr as expr_spec;
+ghost use Rattle.c_tree.specs.inside.Simple as spec;
+ghost use Rattle.c_tree.specs.inside.Input.{Reads};
 
 use crate::expr::Name;
 use crate::operand::name;
@@ -50,7 +50,7 @@ pub fn quals(alloc: Global, tokens: &mut Tokens<'_, '_>) -> Result<Items<Qual>, 
     Ok(all)
 }
 
-#[tactic(auto, unfolding(crate::specs::Simple::itype))]
+#[tactic(auto, unfolding(crate::specs::inside::Simple::itype))]
 pub fn itype(tokens: &mut Tokens<'_, '_>) -> Result<Itype, Stop>
     ensures { Reads (spec.itype tokens.old) result tokens.new }
 {
@@ -94,7 +94,7 @@ pub fn more_names(alloc: Global, tokens: &mut Tokens<'_, '_>) -> Result<Items<(u
     Ok(more)
 }
 
-#[tactic(auto, unfolding(crate::specs::Simple::local))]
+#[tactic(auto, unfolding(crate::specs::inside::Simple::local))]
 pub fn local(alloc: Global, tokens: &mut Tokens<'_, '_>, levels: u32) -> Result<Local, Stop>
     ensures { Reads (spec.local levels tokens.old) result tokens.new }
 {
@@ -113,7 +113,7 @@ pub fn local(alloc: Global, tokens: &mut Tokens<'_, '_>, levels: u32) -> Result<
     })
 }
 
-#[tactic(auto, unfolding(crate::specs::Simple::handles))]
+#[tactic(auto, unfolding(crate::specs::inside::Simple::handles))]
 pub fn handles(alloc: Global, tokens: &mut Tokens<'_, '_>) -> Result<Handles, Stop>
     ensures { Reads (spec.handles tokens.old) result tokens.new }
 {

@@ -3,8 +3,8 @@
 ghost use Rattle.std.specs.Prelude.{◌≡◌, None};
 ghost use Rattle.std.specs.Char.{is_ascii_digit};
 ghost use Rattle.std.specs.List.{list_all};
-ghost use Rattle.c_tree.specs.Expr as spec;
-ghost use Rattle.c_tree.specs.Input.{Reads};
+ghost use Rattle.c_tree.specs.inside.Expr as spec;
+ghost use Rattle.c_tree.specs.inside.Input.{Reads};
 
 use crate::expr::{Name, Unary};
 use crate::levels::Levels;
@@ -30,7 +30,7 @@ fn number_value(text: &str) -> Option<i128>
     text.parse::<i128>().ok()
 }
 
-#[tactic(auto, unfolding(crate::specs::Expr::number))]
+#[tactic(auto, unfolding(crate::specs::inside::Expr::number))]
 pub fn number(tokens: &mut Tokens<'_, '_>) -> Result<i128, Stop>
     ensures { Reads (spec.number tokens.old) result tokens.new }
 {
@@ -43,7 +43,7 @@ pub fn number(tokens: &mut Tokens<'_, '_>) -> Result<i128, Stop>
     }
 }
 
-#[tactic(auto, unfolding(crate::specs::Expr::name))]
+#[tactic(auto, unfolding(crate::specs::inside::Expr::name))]
 pub fn name(alloc: Global, tokens: &mut Tokens<'_, '_>) -> Result<Name, Stop>
     ensures { Reads (spec.name tokens.old) result tokens.new }
 {
@@ -69,7 +69,7 @@ pub fn name_operand(alloc: Global, tokens: &mut Tokens<'_, '_>) -> Result<Unary,
 }
 
 /// An operand, where no further level may be opened.
-#[tactic(auto, unfolding(crate::specs::Expr::unary_with))]
+#[tactic(auto, unfolding(crate::specs::inside::Expr::unary_with))]
 pub fn leaf(alloc: Global, tokens: &mut Tokens<'_, '_>) -> Result<Unary, Stop>
     ensures { Reads (spec.unary_with None tokens.old) result tokens.new }
 {

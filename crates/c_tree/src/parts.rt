@@ -1,10 +1,10 @@
 //! Reads what statements are made of.
 
 ghost use Rattle.std.specs.Prelude.{◌≡◌};
-ghost use Rattle.c_tree.specs.Chain.{more_of, mark_at, past};
-ghost use Rattle.c_tree.specs.Expr as expr_spec;
-ghost use Rattle.c_tree.specs.Simple as spec;
-ghost use Rattle.c_tree.specs.Input.{Reads, peek, bytes};
+ghost use Rattle.c_tree.specs.inside.Chain.{more_of, mark_at, past};
+ghost use Rattle.c_tree.specs.inside.Expr as expr_spec;
+ghost use Rattle.c_tree.specs.inside.Simple as spec;
+ghost use Rattle.c_tree.specs.inside.Input.{Reads, peek, bytes};
 
 use crate::expr::{Expr, Name};
 use crate::levels::Levels;
@@ -33,7 +33,7 @@ pub fn empty_parens(tokens: &mut Tokens<'_, '_>) -> Result<u32, Stop>
     tokens.expect(Term::RightParen)
 }
 
-#[tactic(auto, unfolding(crate::specs::Simple::nondet))]
+#[tactic(auto, unfolding(crate::specs::inside::Simple::nondet))]
 fn nondet(tokens: &mut Tokens<'_, '_>) -> Result<Nondet, Stop>
     ensures { Reads (spec.nondet tokens.old) result tokens.new }
 {
@@ -51,7 +51,7 @@ fn is_zero(tokens: &Tokens<'_, '_>) -> bool
     }
 }
 
-#[tactic(auto, unfolding(crate::specs::Simple::nil))]
+#[tactic(auto, unfolding(crate::specs::inside::Simple::nil))]
 pub fn nil(tokens: &mut Tokens<'_, '_>) -> Result<Nil, Stop>
     ensures { Reads (spec.nil tokens.old) result tokens.new }
 {
@@ -62,7 +62,7 @@ pub fn nil(tokens: &mut Tokens<'_, '_>) -> Result<Nil, Stop>
     }
 }
 
-#[tactic(auto, unfolding(crate::specs::Simple::address))]
+#[tactic(auto, unfolding(crate::specs::inside::Simple::address))]
 pub fn address(alloc: Global, tokens: &mut Tokens<'_, '_>) -> Result<Name, Stop>
     ensures { Reads (spec.address tokens.old) result tokens.new }
 {
@@ -70,7 +70,7 @@ pub fn address(alloc: Global, tokens: &mut Tokens<'_, '_>) -> Result<Name, Stop>
     name(alloc, tokens)
 }
 
-#[tactic(auto, unfolding(crate::specs::Simple::right))]
+#[tactic(auto, unfolding(crate::specs::inside::Simple::right))]
 pub fn right(alloc: Global, tokens: &mut Tokens<'_, '_>, levels: u32) -> Result<Right, Stop>
     ensures { Reads (spec.right levels tokens.old) result tokens.new }
 {
@@ -80,7 +80,7 @@ pub fn right(alloc: Global, tokens: &mut Tokens<'_, '_>, levels: u32) -> Result<
     }
 }
 
-#[tactic(auto, unfolding(crate::specs::Simple::cond))]
+#[tactic(auto, unfolding(crate::specs::inside::Simple::cond))]
 pub fn cond(alloc: Global, tokens: &mut Tokens<'_, '_>, levels: u32) -> Result<Cond, Stop>
     ensures { Reads (spec.cond levels tokens.old) result tokens.new }
 {
@@ -90,7 +90,7 @@ pub fn cond(alloc: Global, tokens: &mut Tokens<'_, '_>, levels: u32) -> Result<C
     }
 }
 
-#[tactic(auto, unfolding(crate::specs::Simple::assigned))]
+#[tactic(auto, unfolding(crate::specs::inside::Simple::assigned))]
 fn assigned(alloc: Global, tokens: &mut Tokens<'_, '_>, levels: u32) -> Result<Assign, Stop>
     ensures { Reads (spec.assigned levels tokens.old) result tokens.new }
 {
@@ -120,7 +120,7 @@ fn assigned(alloc: Global, tokens: &mut Tokens<'_, '_>, levels: u32) -> Result<A
     }
 }
 
-#[tactic(auto, unfolding(crate::specs::Simple::assign))]
+#[tactic(auto, unfolding(crate::specs::inside::Simple::assign))]
 pub fn assign(alloc: Global, tokens: &mut Tokens<'_, '_>, levels: u32) -> Result<Assign, Stop>
     ensures { Reads (spec.assign levels tokens.old) result tokens.new }
 {
@@ -138,7 +138,7 @@ pub fn assign(alloc: Global, tokens: &mut Tokens<'_, '_>, levels: u32) -> Result
     }
 }
 
-#[tactic(auto, unfolding(crate::specs::Simple::argument))]
+#[tactic(auto, unfolding(crate::specs::inside::Simple::argument))]
 fn argument(alloc: Global, tokens: &mut Tokens<'_, '_>, levels: u32) -> Result<Expr, Stop>
     ensures { Reads (spec.argument levels tokens.old) result tokens.new }
 {
@@ -148,7 +148,7 @@ fn argument(alloc: Global, tokens: &mut Tokens<'_, '_>, levels: u32) -> Result<E
     Ok(e)
 }
 
-#[tactic(auto, unfolding(crate::specs::Simple::lock_argument))]
+#[tactic(auto, unfolding(crate::specs::inside::Simple::lock_argument))]
 fn lock_argument(alloc: Global, tokens: &mut Tokens<'_, '_>) -> Result<Name, Stop>
     ensures { Reads (spec.lock_argument tokens.old) result tokens.new }
 {
@@ -158,7 +158,7 @@ fn lock_argument(alloc: Global, tokens: &mut Tokens<'_, '_>) -> Result<Name, Sto
     Ok(m)
 }
 
-#[tactic(auto, unfolding(crate::specs::Simple::exit_argument))]
+#[tactic(auto, unfolding(crate::specs::inside::Simple::exit_argument))]
 fn exit_argument(tokens: &mut Tokens<'_, '_>) -> Result<Nil, Stop>
     ensures { Reads (spec.exit_argument tokens.old) result tokens.new }
 {
@@ -168,7 +168,7 @@ fn exit_argument(tokens: &mut Tokens<'_, '_>) -> Result<Nil, Stop>
     Ok(n)
 }
 
-#[tactic(auto, unfolding(crate::specs::Simple::init))]
+#[tactic(auto, unfolding(crate::specs::inside::Simple::init))]
 fn init(alloc: Global, tokens: &mut Tokens<'_, '_>, from: u32) -> Result<Call, Stop>
     ensures { Reads (spec.init from tokens.old) result tokens.new }
 {
@@ -180,7 +180,7 @@ fn init(alloc: Global, tokens: &mut Tokens<'_, '_>, from: u32) -> Result<Call, S
     Ok(Call::Init(from, m, n))
 }
 
-#[tactic(auto, unfolding(crate::specs::Simple::create))]
+#[tactic(auto, unfolding(crate::specs::inside::Simple::create))]
 fn create(alloc: Global, tokens: &mut Tokens<'_, '_>, from: u32) -> Result<Call, Stop>
     ensures { Reads (spec.create from tokens.old) result tokens.new }
 {
@@ -196,7 +196,7 @@ fn create(alloc: Global, tokens: &mut Tokens<'_, '_>, from: u32) -> Result<Call,
     Ok(Call::Create(from, t, a, f, x))
 }
 
-#[tactic(auto, unfolding(crate::specs::Simple::join))]
+#[tactic(auto, unfolding(crate::specs::inside::Simple::join))]
 fn join(alloc: Global, tokens: &mut Tokens<'_, '_>, from: u32) -> Result<Call, Stop>
     ensures { Reads (spec.join from tokens.old) result tokens.new }
 {
@@ -208,7 +208,7 @@ fn join(alloc: Global, tokens: &mut Tokens<'_, '_>, from: u32) -> Result<Call, S
     Ok(Call::Join(from, t, n))
 }
 
-#[tactic(auto, unfolding(crate::specs::Simple::lname))]
+#[tactic(auto, unfolding(crate::specs::inside::Simple::lname))]
 pub fn lname(alloc: Global, tokens: &mut Tokens<'_, '_>, levels: u32) -> Result<Lname, Stop>
     ensures { Reads (spec.lname levels tokens.old) result tokens.new }
 {
@@ -221,7 +221,7 @@ pub fn lname(alloc: Global, tokens: &mut Tokens<'_, '_>, levels: u32) -> Result<
     Ok(Lname { name, start })
 }
 
-#[tactic(auto, unfolding(crate::specs::Simple::call))]
+#[tactic(auto, unfolding(crate::specs::inside::Simple::call))]
 pub fn call(alloc: Global, tokens: &mut Tokens<'_, '_>, levels: u32) -> Result<Call, Stop>
     ensures { Reads (spec.call levels tokens.old) result tokens.new }
 {

@@ -5,7 +5,7 @@ ghost use Rattle.thr_base.specs.Limits.{text_limit};
 ghost use Rattle.thr_base.specs.Refusals.{Gives};
 ghost use Rattle.c_lex.specs.Tokens.{views, lexed};
 ghost use Rattle.c_tree.specs.GrammarItem.{IsTreeOf};
-ghost use Rattle.c_tree.specs.Item.{ended, max_levels, parsed, tree, value_of};
+ghost use Rattle.c_tree.specs.inside.Item.{ended, max_levels, tree, value_of};
 ghost use Rattle.c_tree.specs.Refused.{IsRefusedBy};
 
 use crate::item::Tree;
@@ -15,7 +15,7 @@ use c_lex::{Token, lex};
 use std::alloc::Global;
 use thr_base::Stop;
 
-#[tactic(auto, unfolding(crate::specs::Item::tree))]
+#[tactic(auto, unfolding(crate::specs::inside::Item::tree))]
 fn tree_of(alloc: Global, tokens: &[Token<'_>], end: u32) -> Result<Tree, Stop>
     ensures { Gives (λ t. t) result (ended end (value_of (tree max_levels (record { tokens = views tokens.now; end = end })))) }
 {
@@ -28,7 +28,6 @@ fn tree_of(alloc: Global, tokens: &[Token<'_>], end: u32) -> Result<Tree, Stop>
 pub fn parse_tokens(alloc: Global, text: &str, tokens: &[Token<'_>]) -> Result<Tree, Stop>
     requires limit { length text.now ≤ text_limit }
     requires tokens { lexed text.now ≡ Ok (views tokens.now) }
-    ensures exact { Gives (λ t. t) result (parsed text.now) }
     ensures tree { IfOk result (λ t. IsTreeOf text.now t) }
     ensures refused { IsRefusedBy text.now result }
 {
@@ -41,7 +40,6 @@ pub fn parse_tokens(alloc: Global, text: &str, tokens: &[Token<'_>]) -> Result<T
 /// token begins a text of the grammar.
 pub fn parse(alloc: Global, text: &str) -> Result<Tree, Stop>
     requires { length text.now ≤ text_limit }
-    ensures exact { Gives (λ t. t) result (parsed text.now) }
     ensures tree { IfOk result (λ t. IsTreeOf text.now t) }
     ensures refused { IsRefusedBy text.now result }
 {

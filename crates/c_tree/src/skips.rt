@@ -1,8 +1,8 @@
 //! Skips tokens whose brackets are balanced.
 
 ghost use Rattle.std.specs.Prelude.{◌≡◌, reverse, IfOk, Some, None, if◌then◌else◌};
-ghost use Rattle.c_tree.specs.Input.{Reads};
-ghost use Rattle.c_tree.specs.Item as spec;
+ghost use Rattle.c_tree.specs.inside.Input.{Reads};
+ghost use Rattle.c_tree.specs.inside.Item as spec;
 
 use crate::term::{Term, same_term};
 use crate::tokens::Tokens;

@@ -1,10 +1,10 @@
 //! Statements over those one level deeper, whose parser is a parameter, so that each is proved by itself.
 
 ghost use Rattle.std.specs.Prelude.{◌≡◌};
-ghost use Rattle.c_tree.specs.Input.{Reads};
-ghost use Rattle.c_tree.specs.Many.{many};
-ghost use Rattle.c_tree.specs.Stmt as stmt_spec;
-ghost use Rattle.c_tree.specs.NestsStmt.{NestsStmt};
+ghost use Rattle.c_tree.specs.inside.Input.{Reads};
+ghost use Rattle.c_tree.specs.inside.Many.{many};
+ghost use Rattle.c_tree.specs.inside.Stmt as stmt_spec;
+ghost use Rattle.c_tree.specs.inside.NestsStmt.{NestsStmt};
 
 use crate::heads::{
     assign_stmt, break_stmt, call_stmt, condition, first_part, handles_stmt, last_part, local_stmt,
@@ -51,7 +51,7 @@ impl<F: Fn(Global, &mut Tokens<'_, '_>, u32, Around) -> Result<Stmt, Stop>> Stat
         Ok(all)
     }
 
-    #[tactic(auto, unfolding(crate::specs::Stmt::block))]
+    #[tactic(auto, unfolding(crate::specs::inside::Stmt::block))]
     pub fn block(&self, tokens: &mut Tokens<'_, '_>, around: Around) -> Result<Block, Stop>
         requires { NestsStmt self.now.levels (F.pre self.now.stmt) (F.post self.now.stmt) }
         ensures { Reads (stmt_spec.block self.now.levels (stmt_spec.stmt self.now.levels) around tokens.old) result tokens.new }
@@ -70,7 +70,7 @@ impl<F: Fn(Global, &mut Tokens<'_, '_>, u32, Around) -> Result<Stmt, Stop>> Stat
         Ok(Boxed::new(self.alloc, stmt)?)
     }
 
-    #[tactic(auto, unfolding(crate::specs::Stmt::if_stmt))]
+    #[tactic(auto, unfolding(crate::specs::inside::Stmt::if_stmt))]
     fn if_stmt(&self, tokens: &mut Tokens<'_, '_>, around: Around) -> Result<Stmt, Stop>
         requires { NestsStmt self.now.levels (F.pre self.now.stmt) (F.post self.now.stmt) }
         ensures { Reads (stmt_spec.if_stmt self.now.levels (stmt_spec.stmt self.now.levels) around tokens.old) result tokens.new }
@@ -86,7 +86,7 @@ impl<F: Fn(Global, &mut Tokens<'_, '_>, u32, Around) -> Result<Stmt, Stop>> Stat
         Ok(Stmt::If(from, cond, inside, otherwise))
     }
 
-    #[tactic(auto, unfolding(crate::specs::Stmt::while_stmt))]
+    #[tactic(auto, unfolding(crate::specs::inside::Stmt::while_stmt))]
     fn while_stmt(&self, tokens: &mut Tokens<'_, '_>) -> Result<Stmt, Stop>
         requires { NestsStmt self.now.levels (F.pre self.now.stmt) (F.post self.now.stmt) }
         ensures { Reads (stmt_spec.while_stmt self.now.levels (stmt_spec.stmt self.now.levels) tokens.old) result tokens.new }
@@ -97,7 +97,7 @@ impl<F: Fn(Global, &mut Tokens<'_, '_>, u32, Around) -> Result<Stmt, Stop>> Stat
         Ok(Stmt::While(from, cond, body))
     }
 
-    #[tactic(auto, unfolding(crate::specs::Stmt::for_stmt))]
+    #[tactic(auto, unfolding(crate::specs::inside::Stmt::for_stmt))]
     fn for_stmt(&self, tokens: &mut Tokens<'_, '_>) -> Result<Stmt, Stop>
         requires { NestsStmt self.now.levels (F.pre self.now.stmt) (F.post self.now.stmt) }
         ensures { Reads (stmt_spec.for_stmt self.now.levels (stmt_spec.stmt self.now.levels) tokens.old) result tokens.new }
@@ -113,7 +113,7 @@ impl<F: Fn(Global, &mut Tokens<'_, '_>, u32, Around) -> Result<Stmt, Stop>> Stat
         Ok(Stmt::For(from, first, cond, last, body))
     }
 
-    #[tactic(auto, unfolding(crate::specs::Stmt::atomic_stmt))]
+    #[tactic(auto, unfolding(crate::specs::inside::Stmt::atomic_stmt))]
     fn atomic_stmt(&self, tokens: &mut Tokens<'_, '_>, around: Around) -> Result<Stmt, Stop>
         requires { NestsStmt self.now.levels (F.pre self.now.stmt) (F.post self.now.stmt) }
         ensures { Reads (stmt_spec.atomic_stmt self.now.levels (stmt_spec.stmt self.now.levels) around tokens.old) result tokens.new }
@@ -127,7 +127,7 @@ impl<F: Fn(Global, &mut Tokens<'_, '_>, u32, Around) -> Result<Stmt, Stop>> Stat
     }
 
     /// A statement, where a further level may be opened.
-    #[tactic(auto, unfolding(crate::specs::Stmt::stmt_over))]
+    #[tactic(auto, unfolding(crate::specs::inside::Stmt::stmt_over))]
     pub fn stmt(&self, tokens: &mut Tokens<'_, '_>, around: Around) -> Result<Stmt, Stop>
         requires { NestsStmt self.now.levels (F.pre self.now.stmt) (F.post self.now.stmt) }
         ensures { Reads (stmt_spec.stmt_over self.now.levels (stmt_spec.stmt self.now.levels) around tokens.old) result tokens.new }

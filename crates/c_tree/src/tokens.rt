@@ -2,8 +2,8 @@
 
 ghost use Rattle.std.specs.Prelude.{◌≡◌};
 ghost use Rattle.c_lex.specs.Tokens.{views};
-ghost use Rattle.c_tree.specs.Input as spec;
-ghost use Rattle.c_tree.specs.Input.{Reads};
+ghost use Rattle.c_tree.specs.inside.Input as spec;
+ghost use Rattle.c_tree.specs.inside.Input.{Reads};
 
 use crate::term::{Term, same_term, term_of};
 use c_lex::Token;
@@ -20,11 +20,11 @@ pub struct Tokens<'t, 'a> {
 }
 
 impl<'t, 'a> Model for Tokens<'t, 'a> {
-    ghost use Rattle.c_tree.specs.Input.{Input};
+    ghost use Rattle.c_tree.specs.inside.Input.{Input};
 
     ghost Value = { Input };
 
-    ghost use Rattle.c_tree.specs.Cursor.{input_of, IsReady};
+    ghost use Rattle.c_tree.specs.inside.Cursor.{input_of, IsReady};
 
     ghost view = { input_of };
 
@@ -48,7 +48,7 @@ impl<'t, 'a> Tokens<'t, 'a> {
         Tokens { left, term, end }
     }
 
-    #[tactic(auto, unfolding(crate::specs::Input::peek))]
+    #[tactic(auto, unfolding(crate::specs::inside::Input::peek))]
     pub fn peek(&self) -> Term
         ensures { result ≡ spec.peek self.now }
     {
@@ -56,7 +56,7 @@ impl<'t, 'a> Tokens<'t, 'a> {
     }
 
     /// Where the next token begins, or the text ends.
-    #[tactic(auto, unfolding(crate::specs::Input::place))]
+    #[tactic(auto, unfolding(crate::specs::inside::Input::place))]
     pub fn place(&self) -> u32
         ensures { result ≡ spec.place self.now }
     {
@@ -66,7 +66,7 @@ impl<'t, 'a> Tokens<'t, 'a> {
         }
     }
 
-    #[tactic(auto, unfolding(crate::specs::Input::bytes))]
+    #[tactic(auto, unfolding(crate::specs::inside::Input::bytes))]
     pub fn text(&self) -> &'a str
         ensures { result.now ≡ spec.bytes self.now }
     {
@@ -77,7 +77,7 @@ impl<'t, 'a> Tokens<'t, 'a> {
     }
 
     /// Takes the next token, and returns where it begins.
-    #[tactic(auto, unfolding(crate::specs::Input::place, crate::specs::Input::next))]
+    #[tactic(auto, unfolding(crate::specs::inside::Input::place, crate::specs::inside::Input::next))]
     pub fn take(&mut self) -> u32
         ensures place { result ≡ spec.place self.old }
         ensures next { self.new ≡ spec.next self.old }
@@ -91,7 +91,7 @@ impl<'t, 'a> Tokens<'t, 'a> {
     }
 
     /// No text of the grammar has the next token there.
-    #[tactic(auto, unfolding(crate::specs::Input::refusal, crate::specs::Input::peek, crate::specs::Input::place))]
+    #[tactic(auto, unfolding(crate::specs::inside::Input::refusal, crate::specs::inside::Input::peek, crate::specs::inside::Input::place))]
     pub fn refuse(&self) -> Stop
         ensures { result ≡ Stop.Refused (spec.refusal self.now) }
     {
@@ -106,7 +106,7 @@ impl<'t, 'a> Tokens<'t, 'a> {
     }
 
     /// The next token opens a level too many.
-    #[tactic(auto, unfolding(crate::specs::Input::too_deep, crate::specs::Input::place))]
+    #[tactic(auto, unfolding(crate::specs::inside::Input::too_deep, crate::specs::inside::Input::place))]
     pub fn refuse_deep(&self) -> Stop
         ensures { result ≡ Stop.Refused (spec.too_deep self.now) }
     {
@@ -116,14 +116,14 @@ impl<'t, 'a> Tokens<'t, 'a> {
         })
     }
 
-    #[tactic(auto, unfolding(crate::specs::Input::sees))]
+    #[tactic(auto, unfolding(crate::specs::inside::Input::sees))]
     pub fn sees(&self, term: Term) -> bool
         ensures { result ≡ spec.sees term self.now }
     {
         same_term(self.peek(), term)
     }
 
-    #[tactic(auto, unfolding(crate::specs::Input::after))]
+    #[tactic(auto, unfolding(crate::specs::inside::Input::after))]
     pub fn eat(&mut self, term: Term) -> bool
         ensures found { result ≡ spec.sees term self.old }
         ensures after { self.new ≡ spec.after term self.old }
@@ -135,7 +135,7 @@ impl<'t, 'a> Tokens<'t, 'a> {
         is_there
     }
 
-    #[tactic(auto, unfolding(crate::specs::Input::expect))]
+    #[tactic(auto, unfolding(crate::specs::inside::Input::expect))]
     pub fn expect(&mut self, term: Term) -> Result<u32, Stop>
         ensures { Reads (spec.expect term self.old) result self.new }
     {

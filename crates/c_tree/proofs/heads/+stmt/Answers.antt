@@ -1,4 +1,4 @@
-use Rattle.c_tree.specs.Stmt.{stmt}
+use Rattle.c_tree.specs.inside.Stmt.{stmt}
 use Rattle.std.proofs.Common.{arith}
 use Rattle.c_tree.proofs.Deeper.{deeper}
 use Rattle.c_tree.proofs.heads.+stmt.Goals as goal

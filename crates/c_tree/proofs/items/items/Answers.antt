@@ -1,7 +1,7 @@
 use Rattle.std.proofs.Common.{sym}
 use Rattle.std.proofs.lemmas.Result.{err_from_is_err_and}
 use Rattle.c_tree.specs.declared.term.Term.TheVariants as terms
-use Rattle.c_tree.specs.Item.{max_levels, item}
+use Rattle.c_tree.specs.inside.Item.{max_levels, item}
 use Rattle.c_tree.proofs.ItemSizes.{item_shrinks}
 use Rattle.c_tree.proofs.ManyLoop.{at_start, goes_on, stops, all_read}
 use Rattle.c_tree.proofs.items.items.Goals as goal

@@ -1,6 +1,6 @@
 use Rattle.std.proofs.Common.{length}
 use Rattle.c_tree.specs.declared.term.Term.TheVariants as terms
-use Rattle.c_tree.specs.Item.{max_levels, item}
+use Rattle.c_tree.specs.inside.Item.{max_levels, item}
 use Rattle.c_tree.proofs.ManyLoop.{IsReadTo}
 use Rattle.c_tree.proofs.items.items.Given as goal
 

@@ -1,6 +1,6 @@
 use Rattle.std.proofs.Common.{length}
-use Rattle.c_tree.specs.Simple as simple_spec
-use Rattle.c_tree.specs.Item as spec
+use Rattle.c_tree.specs.inside.Simple as simple_spec
+use Rattle.c_tree.specs.inside.Item as spec
 use Rattle.c_tree.proofs.Chains.{IsReadTo}
 use Rattle.c_tree.proofs.items.more_gnames.Given as goal
 

@@ -1,7 +1,7 @@
 use Rattle.std.proofs.Common.{refl}
 use Rattle.std.proofs.lemmas.Result.{err_from_is_err_and}
-use Rattle.c_tree.specs.Simple as simple_spec
-use Rattle.c_tree.specs.Item as spec
+use Rattle.c_tree.specs.inside.Simple as simple_spec
+use Rattle.c_tree.specs.inside.Item as spec
 use Rattle.c_tree.proofs.ItemSizes.{mname_shrinks}
 use Rattle.c_tree.proofs.Chains.{at_start, next_read, next_shrinks, stops, all_read}
 use Rattle.c_tree.proofs.items.more_mnames.Goals as goal

@@ -1,6 +1,6 @@
 use Rattle.std.proofs.Common.{refl}
 use Rattle.std.proofs.lemmas.Result.{err_from_is_err_and}
-use Rattle.c_tree.specs.Simple as spec
+use Rattle.c_tree.specs.inside.Simple as spec
 use Rattle.c_tree.proofs.Sizes.{lname_shrinks}
 use Rattle.c_tree.proofs.Chains.{at_start, next_read, next_shrinks, stops, all_read}
 use Rattle.c_tree.proofs.lists.more_lnames.Goals as goal

@@ -1,5 +1,5 @@
 use Rattle.std.proofs.Common.{length}
-use Rattle.c_tree.specs.Simple as spec
+use Rattle.c_tree.specs.inside.Simple as spec
 use Rattle.c_tree.proofs.Chains.{IsReadTo}
 use Rattle.c_tree.proofs.lists.more_lnames.Given as goal
 

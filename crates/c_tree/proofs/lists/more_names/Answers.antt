@@ -1,7 +1,7 @@
 use Rattle.std.proofs.Common.{refl}
 use Rattle.std.proofs.lemmas.Result.{err_from_is_err_and}
-use Rattle.c_tree.specs.Simple as spec
-use Rattle.c_tree.specs.Expr as expr_spec
+use Rattle.c_tree.specs.inside.Simple as spec
+use Rattle.c_tree.specs.inside.Expr as expr_spec
 use Rattle.c_tree.proofs.Shrinks.{name_shrinks}
 use Rattle.c_tree.proofs.Chains.{at_start, next_read, next_shrinks, stops, all_read}
 use Rattle.c_tree.proofs.lists.more_names.Goals as goal

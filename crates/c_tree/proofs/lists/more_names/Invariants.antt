@@ -1,6 +1,6 @@
 use Rattle.std.proofs.Common.{length}
-use Rattle.c_tree.specs.Simple as spec
-use Rattle.c_tree.specs.Expr as expr_spec
+use Rattle.c_tree.specs.inside.Simple as spec
+use Rattle.c_tree.specs.inside.Expr as expr_spec
 use Rattle.c_tree.proofs.Chains.{IsReadTo}
 use Rattle.c_tree.proofs.lists.more_names.Given as goal
 

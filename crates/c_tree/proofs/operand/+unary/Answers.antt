@@ -1,5 +1,5 @@
 use Rattle.std.proofs.Common.{arith}
-use Rattle.c_tree.specs.Expr.{unary}
+use Rattle.c_tree.specs.inside.Expr.{unary}
 use Rattle.c_tree.proofs.Deeper.{deeper}
 use Rattle.c_tree.proofs.operand.+unary.Goals as goal
 

@@ -1,7 +1,7 @@
 use Rattle.std.proofs.Common.{◌≡◌, reverse, Some, refl, ap, arith}
 use Rattle.std.proofs.lemmas.Bool.{false≢true}
-use Rattle.c_tree.specs.Input.{peek}
-use Rattle.c_tree.specs.Item.{open_after}
+use Rattle.c_tree.specs.inside.Input.{peek}
+use Rattle.c_tree.specs.inside.Item.{open_after}
 use Rattle.c_tree.proofs.Steps.{next_shorter}
 use Rattle.c_tree.proofs.Skipping.{at_start, goes_on, refuses, all_skipped, is_there, fits_so, fails_so, some_open}
 use Rattle.c_tree.proofs.skips.skip_through.Goals as goal

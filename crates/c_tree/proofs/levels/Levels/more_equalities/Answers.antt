@@ -1,6 +1,6 @@
 use Rattle.std.proofs.Common.{refl}
 use Rattle.std.proofs.lemmas.Result.{err_from_is_err_and}
-use Rattle.c_tree.specs.Expr as spec
+use Rattle.c_tree.specs.inside.Expr as spec
 use Rattle.c_tree.proofs.Shrinks.{unary_shrinks, relation_shrinks}
 use Rattle.c_tree.proofs.Chains.{at_start, next_read, next_shrinks, stops, all_read}
 use Rattle.c_tree.proofs.levels.Levels.more_equalities.Goals as goal

@@ -1,5 +1,5 @@
 use Rattle.std.proofs.Common.{length}
-use Rattle.c_tree.specs.Expr as spec
+use Rattle.c_tree.specs.inside.Expr as spec
 use Rattle.c_tree.proofs.Chains.{IsReadTo}
 use Rattle.c_tree.proofs.levels.Levels.more_relations.Given as goal
 

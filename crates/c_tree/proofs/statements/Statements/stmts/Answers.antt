@@ -1,6 +1,6 @@
 use Rattle.std.proofs.Common.{sym}
 use Rattle.std.proofs.lemmas.Result.{err_from_is_err_and}
-use Rattle.c_tree.specs.Stmt.{stmt}
+use Rattle.c_tree.specs.inside.Stmt.{stmt}
 use Rattle.c_tree.proofs.StmtSizes.{stmt_shrinks}
 use Rattle.c_tree.proofs.ManyLoop.{at_start, goes_on, stops, all_read}
 use Rattle.c_tree.proofs.statements.Statements.stmts.Goals as goal

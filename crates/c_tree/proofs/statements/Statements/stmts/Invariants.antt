@@ -1,5 +1,5 @@
 use Rattle.std.proofs.Common.{length}
-use Rattle.c_tree.specs.Stmt.{stmt}
+use Rattle.c_tree.specs.inside.Stmt.{stmt}
 use Rattle.c_tree.proofs.ManyLoop.{IsReadTo}
 use Rattle.c_tree.proofs.statements.Statements.stmts.Given as goal
 

@@ -1,0 +1,10 @@
+pub mod Input
+pub mod Chain
+pub mod Many
+pub mod Expr
+pub mod Simple
+pub mod Stmt
+pub mod Item
+pub mod Cursor
+pub mod Nests
+pub mod NestsStmt
