@@ -1,0 +1,4 @@
+pub mod Tableau
+pub mod Rounds
+pub mod Decision
+pub mod inside

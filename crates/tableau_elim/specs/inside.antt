@@ -1,0 +1,4 @@
+-- What no public clause cites.
+pub mod Held
+pub mod Combined
+pub mod Steps
