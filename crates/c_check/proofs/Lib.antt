@@ -1,0 +1,16 @@
+mod Arms
+mod CheckLemmas
+mod CodeLemmas
+mod ColumnLemmas
+mod Compound
+mod Creations
+mod Declarations
+mod FirstOf
+mod Found
+mod FoundIn
+mod Front
+mod Postfix
+mod ScopeLemmas
+mod Scoped
+mod TestPostfix
+mod WalkLemmas

@@ -1,0 +1,43 @@
+-- How many temporaries the statements of a function need: as many as the most reads that one of them, or one comparison, is cut into.
+use Rattle.std.specs.Prelude.{ℕ, max, length, ◌++◌, Bool, true, false}
+use Rattle.c_check.specs.Plan.{Arithmetic, Test, Condition, Stmt, Stmts}
+use Rattle.c_check.specs.Items.{few, shared_in, written}
+
+-- so many reads, where the accesses are more than one
+abbrev pub reads_of : ℕ → ℕ → ℕ
+reads_of accesses count = needed (few accesses)
+  where
+    needed : Bool → ℕ
+    needed true = 0
+    needed false = count
+
+abbrev pub compare_need : Arithmetic → Arithmetic → ℕ
+compare_need a b = reads_of (length (shared_in a ++ shared_in b)) (length (shared_in a ++ shared_in b))
+
+abbrev pub test_need : Test → ℕ
+test_need (Test.Compare from m a b) = compare_need a b
+test_need (Test.Not t) = test_need t
+test_need (Test.And t u) = max (test_need t) (test_need u)
+test_need (Test.Or t u) = max (test_need t) (test_need u)
+
+abbrev pub condition_need : Condition → ℕ
+condition_need (Condition.Choice from) = 0
+condition_need (Condition.Tested from t) = test_need t
+
+abbrev mutual
+  pub stmt_need : Stmt → ℕ
+  stmt_need (Stmt.Assign from at v e) = reads_of (written v (length (shared_in e))) (length (shared_in e))
+  stmt_need (Stmt.AssignAny from v) = 0
+  stmt_need (Stmt.If from c ts es) = max (condition_need c) (max (need ts) (need es))
+  stmt_need (Stmt.Loop from c body last) = max (condition_need c) (max (need body) (need last))
+  stmt_need (Stmt.Break from) = 0
+  stmt_need (Stmt.Exit from) = 0
+  stmt_need (Stmt.Lock from lock) = 0
+  stmt_need (Stmt.Unlock from lock) = 0
+  stmt_need (Stmt.Assert from t) = test_need t
+  stmt_need (Stmt.Assume from t) = test_need t
+  stmt_need (Stmt.Atomic from inner) = 0
+
+  pub need : Stmts → ℕ
+  need Stmts.End = 0
+  need (Stmts.Then s rest) = max (stmt_need s) (need rest)

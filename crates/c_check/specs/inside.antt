@@ -1,0 +1,7 @@
+pub mod First
+pub mod Found
+pub mod Main
+pub mod Operations
+pub mod Tests
+pub mod Used
+pub mod Walked

@@ -1,0 +1,36 @@
+//! What a program does: every name resolved, every condition a choice or one tree of comparisons; or the first rule that it breaks.
+#![tactic(auto)]
+
+mod arithmetic;
+mod assignments;
+mod body;
+mod breaks;
+mod calls;
+mod checking;
+mod columns;
+mod conditions;
+mod first;
+mod instruction;
+mod items;
+mod locals;
+mod lookups;
+mod loops;
+mod main_form;
+mod meaning;
+mod operation;
+mod place;
+mod plan;
+mod scopes;
+mod statements;
+mod test;
+mod uses;
+
+pub use checking::{check, plans_have_items_of_texts};
+pub use instruction::{Assignment, Instruction};
+pub use meaning::{Meaning, Variable};
+pub use operation::{Mark, Operation};
+pub use plan::{Column, ColumnKind, Function, Plan, Thread};
+pub use test::{Comparison, Condition, TestOperation};
+
+#[cfg(test)]
+mod tests;

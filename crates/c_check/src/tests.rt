@@ -1,0 +1,124 @@
+ghost use Rattle.std.specs.Prelude.{◌≤◌, length};
+ghost use Rattle.thr_base.specs.Limits.{text_limit};
+
+use super::*;
+use c_tree::parse;
+use std::alloc::Global;
+use std::test::*;
+use thr_base::{Stop, TEXT_LIMIT};
+
+// Texts, each behind the code and the place of its refusal, or 0 twice where it is accepted.
+const TEXTS: &str = "\
+6 26 int x; void *f(void *a) { y = 1; } int main() { pthread_t t; pthread_create(&t, 0, f, 0); return 0; }\n\
+6 40  void *f(void *a) { pthread_mutex_lock(&m); } int main() { pthread_t t; pthread_create(&t, 0, f, 0); return 0; }\n\
+6 43 pthread_t h; int x; void *f(void *a) { x = h; } int main() { pthread_t t; pthread_create(&t, 0, f, 0); return 0; }\n\
+6 48 int x; void *f(void *a) { pthread_mutex_unlock(&x); } int main() { pthread_t t; pthread_create(&t, 0, f, 0); return 0; }\n\
+6 81 int x; pthread_mutex_t m; void *f(void *a) { x = 1; { int m; pthread_mutex_lock(&m); } } int main() { pthread_t t; pthread_create(&t, 0, f, 0); return 0; }\n\
+6 44 int x; void *f(void *a) { x = 1; { int y; } y = 2; } int main() { pthread_t t; pthread_create(&t, 0, f, 0); return 0; }\n\
+6 30 int x; void *f(void *a) { x = f; } int main() { pthread_t t; pthread_create(&t, 0, f, 0); return 0; }\n\
+6 30 int x; void *f(void *a) { x = a; } int main() { pthread_t t; pthread_create(&t, 0, f, 0); return 0; }\n\
+6 19 void *f(void *a) { x = 1; } int x; int main() { pthread_t t; pthread_create(&t, 0, f, 0); return 0; }\n\
+6 66 void *f(void *a); int main() { pthread_t t; pthread_create(&t, 0, f, 0); }\n\
+7 11 int x; int x; void *f(void *a) {  } int main() { pthread_t t; pthread_create(&t, 0, f, 0); return 0; }\n\
+7 26 int x; pthread_mutex_t m, x; void *f(void *a) {  } int main() { pthread_t t; pthread_create(&t, 0, f, 0); return 0; }\n\
+7 34  void *f(void *a) { int l; int k, l; } int main() { pthread_t t; pthread_create(&t, 0, f, 0); return 0; }\n\
+7 13 int f; void *f(void *a) {  } int main() { pthread_t t; pthread_create(&t, 0, f, 0); return 0; }\n\
+0 0 int x; void *f(void *a) { int x; { int x; } for (int x = 0; x < 1; x++) int x; } int main() { pthread_t t; pthread_create(&t, 0, f, 0); return 0; }\n\
+0 0  void *f(void *a) { int f; int l = l; } int main() { pthread_t t; pthread_create(&t, 0, f, 0); return 0; }\n\
+8 32 int x; void *f(void *a) { x = x * x; } int main() { pthread_t t; pthread_create(&t, 0, f, 0); return 0; }\n\
+0 0 int x; void *f(void *a) { x = 2 * (3 * x); x = (2 - 1) * x; } int main() { pthread_t t; pthread_create(&t, 0, f, 0); return 0; }\n\
+8 38 int x; void *f(void *a) { x = (x - x) * x; } int main() { pthread_t t; pthread_create(&t, 0, f, 0); return 0; }\n\
+8 33 int x; void *f(void *a) { x = (x < 1) + 1; } int main() { pthread_t t; pthread_create(&t, 0, f, 0); return 0; }\n\
+8 32 int x; void *f(void *a) { if (x < 1 < 2) ; } int main() { pthread_t t; pthread_create(&t, 0, f, 0); return 0; }\n\
+8 37 int x; void *f(void *a) { if (x == 1 < 2) ; } int main() { pthread_t t; pthread_create(&t, 0, f, 0); return 0; }\n\
+8 30 int x; void *f(void *a) { x = !x + 1; } int main() { pthread_t t; pthread_create(&t, 0, f, 0); return 0; }\n\
+8 38 int x; void *f(void *a) { x = (x < 1) && x; } int main() { pthread_t t; pthread_create(&t, 0, f, 0); return 0; }\n\
+9 13 int main() { int k; return 0; }\n\
+9 21 void *f(void *a) { } \n\
+9 0 \n\
+9 38 pthread_mutex_t m; void *f(void *a) { pthread_mutex_init(&m, 0); } int main() { pthread_t t; pthread_create(&t, 0, f, 0); return 0; }\n\
+9 20  void *f(void *a) { pthread_t h; } int main() { pthread_t t; pthread_create(&t, 0, f, 0); return 0; }\n\
+9 96 void *f(void *a) { } int main() { pthread_t t; pthread_create(&t, 0, f, 0); pthread_join(t, 0); pthread_create(&t, 0, f, 0); }\n\
+9 86 void *f(void *a) { } int main() { pthread_t t; pthread_create(&t, 0, f, 0); return 0; return 0; }\n\
+9 94  void *f(void *a) {  } int main() { pthread_t t; pthread_create(&t, 0, f, 0); return 0; } int main() { }\n\
+9 89  void *f(void *a) {  } int main() { pthread_t t; pthread_create(&t, 0, f, 0); return 0;  ; }\n\
+10 4 int main() { return 0; }\n\
+10 11 int x; int main() { pthread_t t; }\n\
+11 301 void *f(void *a) { } int main() { pthread_t t; pthread_create(&t, 0, f, 0); pthread_create(&t, 0, f, 0); pthread_create(&t, 0, f, 0); pthread_create(&t, 0, f, 0); pthread_create(&t, 0, f, 0); pthread_create(&t, 0, f, 0); pthread_create(&t, 0, f, 0); pthread_create(&t, 0, f, 0); pthread_create(&t, 0, f, 0); }\n\
+6 301 void *f(void *a) { } int main() { pthread_t t; pthread_create(&t, 0, f, 0); pthread_create(&t, 0, f, 0); pthread_create(&t, 0, f, 0); pthread_create(&t, 0, f, 0); pthread_create(&t, 0, f, 0); pthread_create(&t, 0, f, 0); pthread_create(&t, 0, f, 0); pthread_create(&t, 0, f, 0); pthread_create(&t, 0, g, 0); }\n\
+0 0 void *f(void *a) { } int main() { pthread_t t; pthread_create(&t, 0, f, 0); pthread_create(&t, 0, f, 0); pthread_create(&t, 0, f, 0); pthread_create(&t, 0, f, 0); pthread_create(&t, 0, f, 0); pthread_create(&t, 0, f, 0); pthread_create(&t, 0, f, 0); pthread_create(&t, 0, f, 0); }\n\
+11 341 int x0, x1, x2, x3, x4, x5, x6, x7, x8, x9, x10, x11, x12, x13, x14, x15, x16, x17, x18, x19, x20, x21, x22, x23, x24, x25, x26, x27, x28, x29, x30, x31, x32, x33, x34, x35, x36, x37, x38, x39, x40, x41, x42, x43, x44, x45, x46, x47, x48, x49, x50, x51, x52, x53, x54, x55, x56, x57, x58, x59, x60, x61, x62, x63;  void *f(void *a) {  } int main() { pthread_t t; pthread_create(&t, 0, f, 0); return 0; }\n\
+0 0 int x0, x1, x2, x3, x4, x5, x6, x7, x8, x9, x10, x11, x12, x13, x14, x15, x16, x17, x18, x19, x20, x21, x22, x23, x24, x25, x26, x27, x28, x29, x30, x31, x32, x33, x34, x35, x36, x37, x38, x39, x40, x41, x42, x43, x44, x45, x46, x47, x48, x49, x50, x51, x52, x53, x54, x55, x56, x57, x58, x59, x60, x61, x62;  void *f(void *a) {  } int main() { pthread_t t; pthread_create(&t, 0, f, 0); return 0; }\n\
+12 47  void *f(void *a) { __VERIFIER_atomic_begin(); while (0) ; __VERIFIER_atomic_end(); } int main() { pthread_t t; pthread_create(&t, 0, f, 0); return 0; }\n\
+12 47  void *f(void *a) { __VERIFIER_atomic_begin(); for (;;) ; __VERIFIER_atomic_end(); } int main() { pthread_t t; pthread_create(&t, 0, f, 0); return 0; }\n\
+12 65 pthread_mutex_t m; void *f(void *a) { __VERIFIER_atomic_begin(); pthread_mutex_lock(&m); __VERIFIER_atomic_end(); } int main() { pthread_t t; pthread_create(&t, 0, f, 0); return 0; }\n\
+12 47  void *f(void *a) { __VERIFIER_atomic_begin(); return; __VERIFIER_atomic_end(); } int main() { pthread_t t; pthread_create(&t, 0, f, 0); return 0; }\n\
+12 47  void *f(void *a) { __VERIFIER_atomic_begin(); pthread_exit(0); __VERIFIER_atomic_end(); } int main() { pthread_t t; pthread_create(&t, 0, f, 0); return 0; }\n\
+12 47  void *f(void *a) { __VERIFIER_atomic_begin(); __VERIFIER_atomic_begin(); __VERIFIER_atomic_end(); __VERIFIER_atomic_end(); } int main() { pthread_t t; pthread_create(&t, 0, f, 0); return 0; }\n\
+12 59  void *f(void *a) { while (1) { __VERIFIER_atomic_begin(); break; __VERIFIER_atomic_end(); } } int main() { pthread_t t; pthread_create(&t, 0, f, 0); return 0; }\n\
+0 0 int x; void *f(void *a) { __VERIFIER_atomic_begin(); if (x < 1) x = 2; else ; { x = 3; } __VERIFIER_atomic_end(); } int main() { pthread_t t; pthread_create(&t, 0, f, 0); return 0; }\n\
+6 30 int x; void *f(void *a) { x = y * x; } int main() { pthread_t t; pthread_create(&t, 0, f, 0); return 0; }\n\
+8 32 int x; void *f(void *a) { x = x * y; } int main() { pthread_t t; pthread_create(&t, 0, f, 0); return 0; }";
+
+fn plan_of(alloc: Global, text: &str) -> Result<Plan, Stop>
+    requires { length text.now ≤ text_limit }
+{
+    check(alloc, &parse(alloc, text)?)
+}
+
+// The code and the place of a refusal, and 0 twice where there is none.
+fn refused(alloc: Global, text: &str) -> Result<(u8, u32), Fail>
+    requires { length text.now ≤ text_limit }
+{
+    match plan_of(alloc, text) {
+        Ok(_) => Ok((0, 0)),
+        Err(Stop::Refused(refusal)) => Ok((refusal.code, refusal.place)),
+        Err(Stop::Memory) => Err("memory")?,
+    }
+}
+
+#[test]
+fn refusals(rt: HostRuntime) -> Result<(), Fail> {
+    for case in TEXTS.lines() {
+        let (code, rest) = case.split_once(' ').ok_or("code")?;
+        let (place, text) = rest.split_once(' ').ok_or("place")?;
+        assert!(rt; text.len() <= TEXT_LIMIT as usize);
+        let (found, at) = refused(rt.alloc(), text)?;
+        assert_eq!(rt;
+            format!(in rt.alloc(); "{found} {at}")?,
+            format!(in rt.alloc(); "{code} {place}")?,
+            "in {text}"
+        );
+    }
+    Ok(())
+}
+
+#[test]
+fn columns(rt: HostRuntime) -> Result<(), Fail> {
+    let text =
+        "int x = -5; pthread_mutex_t m; void *f(void *a) { int l; { int l; } x = x + x + 1; } int y; int main() { pthread_t t; pthread_create(&t, 0, f, 0); pthread_create(&t, 0, f, 0); }";
+    assert!(rt; text.len() <= TEXT_LIMIT as usize);
+    let plan = plan_of(rt.alloc(), text)?;
+    let mut names = Vec::new(rt.alloc());
+    for column in plan.columns.as_slice() {
+        names.extend_from_slice(column.text.as_slice())?;
+        names.push(b' ')?;
+    }
+    let all = b"x y m t1.l t1.l#2 t1.$1 t1.$2 t2.l t2.l#2 t2.$1 t2.$2 t1.$pc t2.$pc ";
+    assert_eq!(rt; names.as_slice(), all.as_slice());
+    assert_eq!(rt;
+        plan.threads.as_slice(),
+        [
+            Thread {
+                function: 0,
+                first: 3
+            },
+            Thread {
+                function: 0,
+                first: 7
+            }
+        ]
+        .as_slice()
+    );
+    Ok(())
+}
