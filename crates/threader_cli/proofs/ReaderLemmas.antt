@@ -1,12 +1,17 @@
 -- Why bytes give no program, and that a program has its word `main`.
-use Rattle.std.proofs.Common.{◌≡◌, ℕ, Bool, true, false, cond, ◌||◌, List, [], ◌∷◌, ◌++◌, map, flat_map, find, codes, length, bytes_eq, Some, Err, is_some, IsSome, IsUtf8, refl, sym, ap, subst, ◌∙◌}
+use Rattle.std.proofs.Common.{◌≡◌, ℕ, Bool, true, false, cond, ◌||◌, List, [], ◌∷◌, ◌++◌, map, flat_map, find, codes, length, bytes_eq, Some, Result, Err, is_some, IsSome, IsUtf8, refl, sym, ap, subst, ◌∙◌}
 use Rattle.std.specs.List.{list_any}
+use Rattle.thr_base.specs.declared.stops.Refusal.{Refusal}
 use Rattle.thr_base.specs.declared.stops.Stop.{Stop}
 use Rattle.thr_base.specs.declared.stops.Stop.TheVariants.{Refused, Memory}
 use Rattle.thr_base.specs.Refusals.{MatchStop}
 use Rattle.c_lex.specs.Tokens.{Lexeme, lexed}
-use Rattle.c_tree.specs.Item.{tree_of, parsed}
-use Rattle.threader_cli.specs.ProgramText.{IsText, IsAccepted, Refuses, not_in_profile, not_narrow}
+use Rattle.c_tree.specs.declared.item.Tree.{Tree}
+use Rattle.c_tree.specs.Refused.{IsRefusalOver, IsRefusalOf, IsRefusedBy}
+use Rattle.c_tree.specs.GrammarItem.{IsTreeOf}
+use Rattle.c_tree.specs.Seen.{plain_tree}
+use Rattle.c_check.specs.Check.{IsCheckAnswer}
+use Rattle.threader_cli.specs.ProgramText.{IsText, IsAccepted, Refuses, not_in_profile, not_in_form, not_narrow}
 use Rattle.threader_cli.specs.inside.Readers.{StopsTokens, StopsBytes}
 use Rattle.threader_cli.specs.Spelling.{spell_program, spell_variable, spell_function, spell_handle, spell_creation}
 use Rattle.threader_cli.specs.Tree.{Program}
@@ -18,12 +23,15 @@ use Rattle.threader_cli.specs.Word.{pieces}
 pub StopsBytes-lexed : {X : Type 0} (IsRead : X → Type 0) (stop : Stop) (text : List ℕ) → IsUtf8 text
     → MatchStop {X = X} (Err stop) IsRead (λ refusal. lexed text ≡ Err refusal) → StopsBytes text stop
 StopsBytes-lexed IsRead Memory text utf8 h = tt
-StopsBytes-lexed IsRead (Refused refusal) text utf8 h = not_in_profile refusal utf8 (ap (tree_of (length text)) h)
+StopsBytes-lexed IsRead (Refused refusal) text utf8 h = not_in_profile refusal utf8 (subst (λ (r : Result (List Lexeme) Refusal). IsRefusalOver (length text) r refusal) (sym h) refl)
 
-pub StopsBytes-parsed : {X : Type 0} (IsRead : X → Type 0) (stop : Stop) (text : List ℕ) → IsUtf8 text
-    → MatchStop {X = X} (Err stop) IsRead (λ refusal. parsed text ≡ Err refusal) → StopsBytes text stop
-StopsBytes-parsed IsRead Memory text utf8 h = tt
-StopsBytes-parsed IsRead (Refused refusal) text utf8 h = not_in_profile refusal utf8 h
+pub StopsBytes-tree : (stop : Stop) (text : List ℕ) → IsUtf8 text → IsRefusedBy text (Err stop) → StopsBytes text stop
+StopsBytes-tree Memory text utf8 h = tt
+StopsBytes-tree (Refused refusal) text utf8 h = not_in_profile refusal utf8 h
+
+pub StopsBytes-form : (stop : Stop) (text : List ℕ) (tree : Tree) → IsUtf8 text → IsTreeOf text tree → IsCheckAnswer (plain_tree tree) (Err stop) → StopsBytes text stop
+StopsBytes-form Memory text tree utf8 is h = tt
+StopsBytes-form (Refused refusal) text tree utf8 is h = not_in_form tree refusal utf8 is h
 
 pub StopsBytes-tokens : (stop : Stop) (bytes : List ℕ) (tokens : List Lexeme) → IsText bytes tokens → StopsTokens tokens stop → StopsBytes bytes stop
 StopsBytes-tokens Memory bytes tokens is h = tt

@@ -12,8 +12,9 @@ use crate::cursor::NOT_READ;
 use crate::data::program_data;
 use crate::program::program;
 use crate::tree;
+use c_check::check;
 use c_lex::{Token, lex};
-use c_tree::parse;
+use c_tree::parse_tokens;
 use std::alloc::Global;
 use std::str;
 use thr_base::{NO_THREAD, NOT_TEXT, Refusal, Stop};
@@ -34,7 +35,7 @@ fn text_of(bytes: &[u8]) -> Result<&str, Stop>
     }
 }
 
-/// The tokens of a text of the profile.
+/// The tokens of a text of the profile, in which names and form are right.
 fn tokens_of<'a>(alloc: Global, text: &'a str) -> Result<Vec<Token<'a>>, Stop>
     requires within { length text.now ≤ text_limit }
     requires utf8 { IsUtf8 text.now }
@@ -42,7 +43,8 @@ fn tokens_of<'a>(alloc: Global, text: &'a str) -> Result<Vec<Token<'a>>, Stop>
     ensures stops { IfErr result (StopsBytes text.now) }
 {
     let tokens = lex(alloc, text)?;
-    let _tree = parse(alloc, text)?;
+    let tree = parse_tokens(alloc, text, &tokens)?;
+    let _plan = check(alloc, &tree)?;
     Ok(tokens)
 }
 

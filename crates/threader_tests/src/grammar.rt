@@ -115,7 +115,7 @@ fn bytes_that_are_no_text(rt: HostRuntime) -> Result<(), Fail> {
         let (numbers, place) = rest.split_once(" => ").ok_or("no place")?;
         let (status, written) = run_bytes(rt.alloc(), &bytes(rt.alloc(), front, numbers)?)?;
         let answer = match place {
-            "none" => String::from_str(rt.alloc(), "program E14 0\n")?,
+            "none" => String::from_str(rt.alloc(), "program E9 4\n")?,
             _ => format!(in rt.alloc(); "program E1 {place}\n")?,
         };
         assert_eq!(rt; status, 3, "{case}");

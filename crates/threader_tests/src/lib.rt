@@ -4,6 +4,8 @@
 #[cfg(test)]
 mod faults;
 #[cfg(test)]
+mod form;
+#[cfg(test)]
 mod grammar;
 #[cfg(test)]
 mod limits;

@@ -1,4 +1,4 @@
-use crate::runs::{ASSIGNS_ONCE, NOT_BUILT, run, run_with, spelled};
+use crate::runs::{ASSIGNS_ONCE, run, run_with, spelled};
 use std::alloc::{AllocError, Global};
 use std::str::FromStr;
 use std::test::Fail;
@@ -59,7 +59,10 @@ fn bodies_have_limits(rt: HostRuntime) -> Result<(), Fail> {
 
 #[test]
 fn a_text_has_a_limit(rt: HostRuntime) -> Result<(), Fail> {
-    for (count, wanted) in [(1_048_576, NOT_BUILT), (1_048_577, "program long\n")] {
+    for (count, wanted) in [
+        (1_048_576, "program E9 1048576\n"),
+        (1_048_577, "program long\n"),
+    ] {
         let (status, written) = run(rt.alloc(), "tables x.c", &times(rt.alloc(), count, " ")?)?;
         assert_eq!(rt; status, 3, "{count} blanks");
         assert_eq!(rt; written.as_str(), wanted, "{count} blanks");
