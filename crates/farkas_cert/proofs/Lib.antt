@@ -23,4 +23,7 @@ pub mod Sides
 pub mod Bounds
 pub mod Between
 pub mod Points
+pub mod Combinations
+mod ListedPairs
+mod Orders
 mod WorkedSystems

@@ -3,8 +3,10 @@ pub mod Proof
 pub mod Point
 pub mod Answer
 pub mod Reduced
+pub mod Order
 pub mod Divided
 pub mod Line
+pub mod Combination
 pub mod BackSubstitution
 pub mod Elimination
 pub mod NamedRows

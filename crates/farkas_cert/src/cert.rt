@@ -1,13 +1,18 @@
-ghost use Rattle.std.specs.Prelude.{◌≡◌, ◌<◌, ◌↔◌, length, IsTrue};
+ghost use Rattle.std.specs.Prelude.{◌≡◌, ◌<◌, ◌^◌, ◌↔◌, length, IfOk, IsTrue};
+ghost use Rattle.std.specs.List.{AllByRecursion};
+ghost use Rattle.thr_base.specs.Number.{Fits};
 ghost use Rattle.lin_rows.specs.View.{system_of};
 ghost use Rattle.farkas_cert.specs.Cert.{InOrder, AllowsAt, row_numbered};
+ghost use Rattle.farkas_cert.specs.Line.{nonzero_pairs};
 ghost use Rattle.farkas_cert.specs.Proof.{Entails, Proves, denying};
 ghost use Rattle.farkas_cert.specs.Answer.{IsCertAnswer};
 
 use crate::answers::CertAnswer;
 use crate::columns::weigh;
 use crate::named_rows::NamedRows;
+use crate::numbers::is_nonzero;
 use lin_rows::{Atom, RowsView};
+use std::alloc::{AllocError, Global};
 use std::marker::Model;
 
 /// Numbers of rows, from 1, with their multipliers. Rows that are not listed have 0.
@@ -29,6 +34,21 @@ impl Cert {
         ensures { result ≡ pairs.items }
     {
         Cert { pairs }
+    }
+
+    /// The multipliers that are not 0, with the numbers of their rows.
+    pub fn of_multipliers(alloc: Global, multipliers: &[i128]) -> Result<Cert, AllocError>
+        requires few { length multipliers.now < 2 ^ 32 }
+        requires fit { AllByRecursion Fits multipliers.now }
+        ensures { IfOk result (λ cert. cert ≡ nonzero_pairs 1 multipliers.now) }
+    {
+        let mut pairs = Vec::new(alloc);
+        for (place, multiplier) in multipliers.iter().enumerate() {
+            if is_nonzero(*multiplier) {
+                pairs.push((place as u32 + 1, *multiplier))?;
+            }
+        }
+        Ok(Cert::of(pairs))
     }
 
     pub fn pairs(&self) -> &[(u32, i128)]

@@ -1,4 +1,4 @@
--- A combination is made number by number, and has all numbers where all fit.
+-- What the loop that makes a combination has done, and what is left of it.
 use Rattle.std.proofs.Common.{◌≡◌, ℕ, zero, suc, ◌+◌, ◌<◌, max, refl, sym, ◌∙◌, ap, subst, arith, List, [], ◌∷◌, ◌++◌, map, length, take, drop, get_or, Bool, true, false, cond, Option, Some, None, append_assoc, append-nil, add-one, add-zero}
 use Rattle.std.specs.Prelude.{ℤ, pos, ◌+ℤ◌, ◌*ℤ◌, ◌≤◌, ◌&&◌, slice_set}
 use Rattle.std.specs.Option.{option_map, option_and_then}
@@ -17,41 +17,8 @@ use Rattle.lin_rows.specs.Gcd.{gcd_of}
 use Rattle.farkas_cert.specs.Line.{all_fit, combination, combination_fits, made_line}
 use Rattle.farkas_cert.proofs.Linear.{sum-none}
 use Rattle.farkas_cert.proofs.Divisors.{divided-same}
-use Rattle.plain_elim.specs.inside.Combined.{combined_number, combined_numbers, in_front}
-
--- ---- what is done, and what is left
-
-pub front_more : {X : Type 0} (front : List X) (x : X) (o : Option (List X))
-    → option_map (λ rest. (front ++ x ∷ []) ++ rest) o ≡ option_map (λ rest. front ++ rest) (option_map (λ xs. x ∷ xs) o)
-front_more front x None = refl
-front_more front x (Some xs) = ap Some (append_assoc front (x ∷ []) xs)
-
-drop_nil : (p : ℕ) → drop {A = ℤ} p [] ≡ []
-drop_nil zero = refl
-drop_nil (suc p) = refl
-
-pub combined_numbers-step : (a : ℤ) (xs : List ℤ) (b : ℤ) (ys : List ℤ) (p : ℕ) → p < max (length xs) (length ys)
-    → combined_numbers a (drop p xs) b (drop p ys) ≡ in_front (combined_number a (get_or xs p (pos 0)) b (get_or ys p (pos 0))) (combined_numbers a (drop (suc p) xs) b (drop (suc p) ys))
-unfolding combined_numbers
-combined_numbers-step a [] b [] p h = absurd (omega arith)
-combined_numbers-step a [] b (y ∷ ys) zero h = refl
-combined_numbers-step a (x ∷ xs) b [] zero h = refl
-combined_numbers-step a (x ∷ xs) b (y ∷ ys) zero h = refl
-combined_numbers-step a [] b (y ∷ ys) (suc p) h = let r = combined_numbers-step a [] b ys p (omega arith) in rw drop_nil at r
-combined_numbers-step a (x ∷ xs) b [] (suc p) h = let r = combined_numbers-step a xs b [] p (omega arith) in rw drop_nil at r
-combined_numbers-step a (x ∷ xs) b (y ∷ ys) (suc p) h = combined_numbers-step a xs b ys p (omega arith)
-
-pub combined_numbers-end : (a : ℤ) (xs : List ℤ) (b : ℤ) (ys : List ℤ) (p : ℕ) → max (length xs) (length ys) ≡ p
-    → combined_numbers a (drop p xs) b (drop p ys) ≡ Some []
-unfolding combined_numbers
-combined_numbers-end a [] b [] zero h = refl
-combined_numbers-end a [] b [] (suc p) h = refl
-combined_numbers-end a [] b (y ∷ ys) zero h = absurd (omega arith)
-combined_numbers-end a (x ∷ xs) b [] zero h = absurd (omega arith)
-combined_numbers-end a (x ∷ xs) b (y ∷ ys) zero h = absurd (omega arith)
-combined_numbers-end a [] b (y ∷ ys) (suc p) h = let r = combined_numbers-end a [] b ys p (omega arith) in rw drop_nil at r
-combined_numbers-end a (x ∷ xs) b [] (suc p) h = let r = combined_numbers-end a xs b [] p (omega arith) in rw drop_nil at r
-combined_numbers-end a (x ∷ xs) b (y ∷ ys) (suc p) h = combined_numbers-end a xs b ys p (omega arith)
+use Rattle.farkas_cert.specs.Combination.{combined_number, combined_numbers, in_front}
+use Rattle.farkas_cert.proofs.Combinations.{front_more, combined_numbers-step, combined_numbers-end, combined_numbers-all, some_by, none_by}
 
 -- the loop goes on, stops, or ends
 pub combined_numbers-more : (a : ℤ) (xs : List ℤ) (b : ℤ) (ys : List ℤ) (p : ℕ) (front next : List ℤ) (z : ℤ) (whole : Option (List ℤ))
@@ -76,104 +43,6 @@ pub combined_numbers-ends : (a : ℤ) (xs : List ℤ) (b : ℤ) (ys : List ℤ) 
 combined_numbers-ends a xs b ys p front whole h k =
     ap Some (sym (append-nil front)) ∙ ap (λ o. option_map (λ rest. front ++ rest) o) (sym (combined_numbers-end a xs b ys p h)) ∙ k
 
--- ---- all numbers, where all fit
-
-front_of_all : (w : Bool) (z : ℤ) (zs : List ℤ) → in_front (Some z) (cond w (Some zs) None) ≡ cond w (Some (z ∷ zs)) None
-front_of_all true z zs = refl
-front_of_all false z zs = refl
-
-right_alone : (t u v : Bool) (z : ℤ) (zs : List ℤ)
-    → in_front (cond t (Some z) None) (cond (u && v) (Some zs) None) ≡ cond ((t && u) && (t && v)) (Some (z ∷ zs)) None
-right_alone true u v z zs = front_of_all (u && v) z zs
-right_alone false u v z zs = refl
-
-both_there : (r s t u v w : Bool) (z : ℤ) (zs : List ℤ)
-    → in_front (cond r (cond s (cond t (Some z) None) None) None) (cond (u && (v && w)) (Some zs) None)
-    ≡ cond ((r && u) && ((s && v) && (t && w))) (Some (z ∷ zs)) None
-both_there true true true u v w z zs = front_of_all (u && (v && w)) z zs
-both_there false s t u v w z zs = refl
-both_there true false t true v w z zs = refl
-both_there true false t false v w z zs = refl
-both_there true true false true true w z zs = refl
-both_there true true false true false w z zs = refl
-both_there true true false false v w z zs = refl
-
--- a zero beside a number
-zero_left : (a b y : ℤ) → combined_number a (pos 0) b y ≡ fitting (b *ℤ y)
-zero_left a b y = rw mul-zero_ℤ (at (fits (b *ℤ y)) refl) where
-  sum : pos 0 +ℤ (b *ℤ y) ≡ b *ℤ y
-  sum = omega (arith, ints)
-
-  at : (t : Bool) → fits (b *ℤ y) ≡ t → option_and_then (λ second. fitting (pos 0 +ℤ second)) (cond t (Some (b *ℤ y)) None) ≡ cond t (Some (b *ℤ y)) None
-  at true e = rw (sum, e) refl
-  at false e = refl
-
-zero_right : (a x b : ℤ) → combined_number a x b (pos 0) ≡ fitting (a *ℤ x)
-zero_right a x b = rw mul-zero_ℤ (at (fits (a *ℤ x)) refl) where
-  sum : (a *ℤ x) +ℤ pos 0 ≡ a *ℤ x
-  sum = omega (arith, ints)
-
-  at : (t : Bool) → fits (a *ℤ x) ≡ t → option_and_then (λ first. option_and_then (λ second. fitting (first +ℤ second)) (fitting (pos 0))) (cond t (Some (a *ℤ x)) None) ≡ cond t (Some (a *ℤ x)) None
-  at true e = rw (sum, e) refl
-  at false e = refl
-
-both_numbers : (a x b y : ℤ) → combined_number a x b y
-    ≡ cond (fits (a *ℤ x)) (cond (fits (b *ℤ y)) (cond (fits (a *ℤ x +ℤ b *ℤ y)) (Some (a *ℤ x +ℤ b *ℤ y)) None) None) None
-both_numbers a x b y = at (fits (a *ℤ x)) (fits (b *ℤ y)) where
-  at : (s t : Bool) → option_and_then (λ first. option_and_then (λ second. fitting (first +ℤ second)) (cond t (Some (b *ℤ y)) None)) (cond s (Some (a *ℤ x)) None)
-      ≡ cond s (cond t (fitting (a *ℤ x +ℤ b *ℤ y)) None) None
-  at true true = refl
-  at true false = refl
-  at false t = refl
-
-pub combined_numbers-all : (a : ℤ) (xs : List ℤ) (b : ℤ) (ys : List ℤ)
-    → combined_numbers a xs b ys ≡ cond (combination_fits a xs b ys) (Some (combination a xs b ys)) None
-unfolding combined_numbers
-combined_numbers-all a [] b [] = refl
-combined_numbers-all a [] b (y ∷ ys) =
-    rw (zero_left, combined_numbers-all a [] b ys) (right_alone (fits (b *ℤ y)) (all_fit (scaled b ys)) (all_fit (scaled b ys)) (b *ℤ y) (scaled b ys))
-combined_numbers-all a (x ∷ xs) b [] =
-    rw (zero_right, combined_numbers-all a xs b [], ← sum-none (scaled a xs)) (right_alone (fits (a *ℤ x)) (all_fit (scaled a xs)) (all_fit (scaled a xs)) (a *ℤ x) (scaled a xs))
-combined_numbers-all a (x ∷ xs) b (y ∷ ys) =
-    rw (both_numbers, combined_numbers-all a xs b ys)
-    (both_there (fits (a *ℤ x)) (fits (b *ℤ y)) (fits (a *ℤ x +ℤ b *ℤ y)) (all_fit (scaled a xs)) (all_fit (scaled b ys)) (all_fit (combination a xs b ys))
-    (a *ℤ x +ℤ b *ℤ y) (combination a xs b ys))
-
-all_fit-true : (xs : List ℤ) → all_fit xs ≡ true → AllByRecursion Fits xs
-all_fit-true [] e = tt
-all_fit-true (x ∷ xs) e = at (all_fit-true xs) (fits x) refl e where
-  at : (all_fit xs ≡ true → AllByRecursion Fits xs) → (s : Bool) → fits x ≡ s → (s && all_fit xs) ≡ true → AllByRecursion Fits (x ∷ xs)
-  at rest true p e = (fits-true x p, rest e)
-  at rest false p e = absurd cc
-
-third_true : (u v w : Bool) → (u && (v && w)) ≡ true → w ≡ true
-third_true true true w e = e
-third_true true false w e = absurd cc
-third_true false v w e = absurd cc
-
-some_by : (w : Bool) (zs made : List ℤ) → Some made ≡ cond w (Some zs) None → (w ≡ true) × (made ≡ zs)
-some_by true zs made e = (refl, cc)
-some_by false zs made e = absurd cc
-
-none_by : (w : Bool) (zs : List ℤ) → None ≡ cond w (Some zs) None → w ≡ false
-none_by true zs e = absurd cc
-none_by false zs e = refl
-
-fits_by : (r s t : Bool) (w z : ℤ) → fits w ≡ t → Some z ≡ cond r (cond s (cond t (Some w) None) None) None → Fits z
-fits_by true true true w z e h = let same : z ≡ w = cc in rw same (fits-true w e)
-fits_by true true false w z e h = absurd cc
-fits_by true false t w z e h = absurd cc
-fits_by false s t w z e h = absurd cc
-
-pub number_fits : (a x b y z : ℤ) → Some z ≡ combined_number a x b y → Fits z
-number_fits a x b y z e = fits_by (fits (a *ℤ x)) (fits (b *ℤ y)) (fits (a *ℤ x +ℤ b *ℤ y)) (a *ℤ x +ℤ b *ℤ y) z refl (e ∙ both_numbers a x b y)
-
-pub combined_fit : (a : ℤ) (xs : List ℤ) (b : ℤ) (ys made : List ℤ) → Some made ≡ combined_numbers a xs b ys → AllByRecursion Fits made
-combined_fit a xs b ys made e =
-    let is = some_by (combination_fits a xs b ys) (combination a xs b ys) made (e ∙ combined_numbers-all a xs b ys) in
-    subst (λ zs. AllByRecursion Fits zs) (sym is.1)
-    (all_fit-true (combination a xs b ys) (third_true (all_fit (scaled a xs)) (all_fit (scaled b ys)) (all_fit (combination a xs b ys)) is.0))
-
 pub made_some : (equal : Bool) (a : ℤ) (xs : List ℤ) (b : ℤ) (ys made : List ℤ) → Some made ≡ combined_numbers a xs b ys
     → Some (record { equal = equal; numbers = divided made }) ≡ made_line equal a xs b ys
 unfolding made_line
@@ -186,43 +55,6 @@ unfolding made_line
 made_none equal a xs b ys e =
     let is = none_by (combination_fits a xs b ys) (combination a xs b ys) (e ∙ combined_numbers-all a xs b ys) in
     rw is refl
-
--- ---- division in place
-
-pub divided-more : (f : ℤ → ℤ) (numbers given : List ℤ) (i : ℕ) (y : ℤ) → i < length given → length numbers ≡ length given
-    → take i numbers ≡ map f (take i given) → drop i numbers ≡ drop i given → y ≡ f (get_or given i (pos 0))
-    → (take (i + 1) (slice_set numbers i y) ≡ map f (take (i + 1) given)) × (drop (i + 1) (slice_set numbers i y) ≡ drop (i + 1) given)
-divided-more f numbers given i y h l front back e =
-    let made = take_more_set numbers i y (omega arith) in
-    let more = ap (λ xs. map f xs) (take_more given i (pos 0) h) ∙ map-append f (take i given) (get_or given i (pos 0) ∷ []) in
-    let kept = drop-set-lt (i + 1) numbers i y (omega arith) in
-    let left = drop_more numbers i (pos 0) (omega arith) in
-    let right = drop_more given i (pos 0) h in
-    (cc, cc)
-
-pub get_from_drop : (numbers given : List ℤ) (i : ℕ) → drop i numbers ≡ drop i given → get_or numbers i (pos 0) ≡ get_or given i (pos 0)
-get_from_drop numbers given i e =
-    let left = get_or-drop i numbers 0 (pos 0) in
-    let right = get_or-drop i given 0 (pos 0) in
-    let same = ap (λ xs. get_or xs 0 (pos 0)) e in
-    rw (sym (add-zero i)) (sym left ∙ same ∙ right)
-
--- Numbers whose divisor is at most 1 are divided already.
-pub divided_already : (xs : List ℤ) → gcd_of xs ≤ 1 → xs ≡ divided xs
-unfolding divided
-divided_already xs h = at (gcd_of xs) refl h where
-  at : (g : ℕ) → gcd_of xs ≡ g → g ≤ 1 → xs ≡ map (over (gcd_of xs)) xs
-  at zero e h = sym (divided-same xs e)
-  at (suc zero) e h = rw e (sym (map-over_one xs))
-  at (suc (suc g)) e h = absurd (omega arith)
-
-pub divided_is : (xs ys : List ℤ) (d : ℤ) → d ≡ pos (gcd_of xs) → ys ≡ map (λ x. int_div_euclid x d) xs → ys ≡ divided xs
-unfolding divided
-divided_is xs ys d e h = h ∙ ap (λ d. map (λ x. int_div_euclid x d) xs) e
-
-pub divided_fit : (xs : List ℤ) → AllByRecursion Fits xs → AllByRecursion Fits (divided xs)
-unfolding divided
-divided_fit xs h = AllByRecursion-map Fits Fits (over (gcd_of xs)) (λ x k. Fits-int_div_euclid x (gcd_of xs) k) xs h
 
 -- what a vector holds after a slice of it was written
 pub written_back : {X : Type 0} (P : List X → Type 0) (new items : List X) (n : ℕ) → length new ≡ n → P new

@@ -4,7 +4,7 @@ use Rattle.std.specs.Prelude.{filter, flat_map}
 use Rattle.std.specs.Option.{option_map, option_and_then}
 use Rattle.std.proofs.lemmas.List.{drop_more, drop_all}
 use Rattle.farkas_cert.specs.Elimination.{every}
-use Rattle.plain_elim.proofs.Combinations.{front_more}
+use Rattle.farkas_cert.proofs.Combinations.{front_more}
 
 pub every-more : {X : Type 0} (front next : List X) (x : X) (o : Option X) (os : List (Option X)) (whole : Option (List X)) → Some x ≡ o
     → next ≡ front ++ x ∷ [] → option_map (λ rest. front ++ rest) (every (o ∷ os)) ≡ whole → option_map (λ rest. next ++ rest) (every os) ≡ whole

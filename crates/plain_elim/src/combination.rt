@@ -1,35 +1,20 @@
-ghost use Rattle.std.specs.Prelude.{◌≡◌, IfOk, pos, ◌*ℤ◌, ◌<ℤ◌, get_or, map};
-ghost use Rattle.std.specs.Int.{int_div_euclid};
+ghost use Rattle.std.specs.Prelude.{◌≡◌, IfOk, pos, get_or};
 ghost use Rattle.std.specs.List.{AllByRecursion};
-ghost use Rattle.std.specs.Option.{option_map};
 ghost use Rattle.thr_base.specs.Number.{Fits};
-ghost use Rattle.lin_rows.specs.Exact.{fitting};
+ghost use Rattle.farkas_cert.specs.Combination.{combined_number, combined_numbers};
 ghost use Rattle.farkas_cert.specs.Divided.{divided};
 ghost use Rattle.farkas_cert.specs.Line as specs;
-ghost use Rattle.plain_elim.specs.inside.Combined.{combined_number, combined_numbers, numbers_in};
+ghost use Rattle.plain_elim.specs.inside.Combined.{numbers_in};
 
-use crate::line::{Line, number_at};
-use lin_rows::{divisor_of, floor_of, product_if_fits, sum_if_fits};
+use crate::line::Line;
+use farkas_cert::{combined_number, divide, number_at};
 use std::alloc::{AllocError, Global};
-
-/// The product, where it fits. The lines are mostly 0, so that is looked at first.
-fn product(a: i128, number: i128) -> Option<i128>
-    ensures { result ≡ fitting (a *ℤ number) }
-{
-    if number == 0 {
-        Some(0)
-    } else {
-        product_if_fits(a, number)
-    }
-}
 
 /// `a` times the one number plus `b` times the other, where the products and the sum fit.
 fn combined_at(a: i128, left: &[i128], b: i128, right: &[i128], place: usize) -> Option<i128>
     ensures { result ≡ combined_number a (get_or left.now place (pos 0)) b (get_or right.now place (pos 0)) }
 {
-    let first = product(a, number_at(left, place))?;
-    let second = product(b, number_at(right, place))?;
-    sum_if_fits(first, second)
+    combined_number(a, number_at(left, place), b, number_at(right, place))
 }
 
 /// `a` times the one list plus `b` times the other, where all products and sums fit. The shorter is continued by zeros.
@@ -52,28 +37,6 @@ fn combined_numbers(
         }
     }
     Ok(Some(numbers))
-}
-
-/// Each number is replaced by its quotient, rounded down.
-fn divide_by(numbers: &mut [i128], divisor: i128)
-    requires positive { pos 0 <ℤ divisor }
-    requires fit { AllByRecursion Fits numbers.old }
-    ensures { numbers.new ≡ map (λ number. int_div_euclid number divisor) numbers.old }
-{
-    for number in numbers.iter_mut() {
-        *number = floor_of(*number, divisor);
-    }
-}
-
-/// Each number is divided by the greatest common divisor of all.
-fn divide(numbers: &mut [i128])
-    requires { AllByRecursion Fits numbers.old }
-    ensures { numbers.new ≡ divided numbers.old }
-{
-    let divisor = divisor_of(numbers);
-    if 1 < divisor {
-        divide_by(numbers, divisor);
-    }
 }
 
 /// The line of numbers without a common divisor.

@@ -1,9 +1,9 @@
-ghost use Rattle.std.specs.Prelude.{◌≡◌, pos, ◌<ℤ◌, ◌≢◌, unsigned_abs};
+ghost use Rattle.std.specs.Prelude.{◌≡◌, pos, ◌<ℤ◌, ◌≢◌};
 ghost use Rattle.thr_base.specs.Number.{Fits};
-ghost use Rattle.lin_rows.specs.Gcd.{gcd};
 ghost use Rattle.farkas_cert.specs.BackSubstitution as specs;
 
-use lin_rows::{divisor_of, floor_of, product_if_fits};
+use farkas_cert::common_divisor;
+use lin_rows::{floor_of, product_if_fits};
 use std::marker::Model;
 
 /// A reduced fraction with a positive denominator. Both of its numbers fit.
@@ -24,17 +24,6 @@ impl Model for Fraction {
     ghost inverse = { λ f. record { numerator = f.numerator; denominator = f.denominator } };
 
     ghost invariant = { λ inside. IsFraction inside.numerator inside.denominator };
-}
-
-/// The greatest common divisor of a number and a positive one.
-pub fn common_divisor(number: i128, positive: i128) -> i128
-    requires number { Fits number }
-    requires fits { Fits positive }
-    requires positive { pos 0 <ℤ positive }
-    ensures divisor { result ≡ pos (gcd (unsigned_abs number) (unsigned_abs positive)) }
-    ensures positive { pos 0 <ℤ result }
-{
-    divisor_of(&[positive, number])
 }
 
 impl Fraction {

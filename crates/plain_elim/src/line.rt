@@ -1,8 +1,9 @@
-ghost use Rattle.std.specs.Prelude.{◌≡◌, ◌<◌, length, pos, int_lt, get_or};
+ghost use Rattle.std.specs.Prelude.{◌≡◌, ◌<◌, length, pos, int_lt};
 ghost use Rattle.std.specs.List.{AllByRecursion, position_or_len};
 ghost use Rattle.thr_base.specs.Number.{Fits};
 ghost use Rattle.farkas_cert.specs.Line as specs;
 
+use farkas_cert::{is_nonzero, number_at};
 use std::marker::Model;
 
 /// A row that the elimination works on: its coefficients, its bound, and a multiplier for each given row. All of them fit.
@@ -23,19 +24,6 @@ impl Model for Line {
     ghost view = { λ inside. record { equal = inside.equal; numbers = inside.numbers.items } };
 
     ghost invariant = { λ inside. IsHeld inside.first inside.numbers.items };
-}
-
-/// The number at a place, or 0 past the end.
-pub fn number_at(numbers: &[i128], place: usize) -> i128
-    ensures { result ≡ get_or numbers.now place (pos 0) }
-{
-    numbers.get(place).copied().unwrap_or(0)
-}
-
-pub fn is_nonzero(number: i128) -> bool
-    ensures { result ≡ specs.is_nonzero number }
-{
-    number != 0
 }
 
 /// The place of the first number that is not 0, or their count.

@@ -6,7 +6,8 @@ ghost use Rattle.lin_rows.specs.Row.{scaled};
 ghost use Rattle.farkas_cert.specs.Line.{all_fit};
 ghost use Rattle.farkas_cert.specs.BackSubstitution as specs;
 
-use crate::fraction::{Fraction, common_divisor};
+use crate::fraction::Fraction;
+use farkas_cert::common_divisor;
 use lin_rows::{floor_of, product_if_fits};
 use std::alloc::{AllocError, Global};
 use std::marker::Model;

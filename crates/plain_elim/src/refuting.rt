@@ -1,28 +1,12 @@
-ghost use Rattle.std.specs.Prelude.{◌≡◌, ◌<◌, ◌-◌, ◌^◌, ◌&&◌, pos, int_lt, IfOk, length};
+ghost use Rattle.std.specs.Prelude.{◌≡◌, ◌&&◌, pos, int_lt, IfOk};
 ghost use Rattle.std.specs.List.{AllByRecursion};
-ghost use Rattle.thr_base.specs.Number.{Fits};
 ghost use Rattle.farkas_cert.specs.Line as specs;
 ghost use Rattle.plain_elim.specs.inside.Stages.{IsWide, refutation_of};
 
-use crate::line::{Line, is_nonzero};
+use crate::line::Line;
 use farkas_cert::{Cert, NamedRows};
 use lin_rows::opposites_of;
 use std::alloc::{AllocError, Global};
-
-/// The multipliers that are not 0, with the numbers of their rows.
-fn nonzero_pairs(alloc: Global, multipliers: &[i128]) -> Result<Cert, AllocError>
-    requires few { length multipliers.now < 2 ^ 32 }
-    requires fit { AllByRecursion Fits multipliers.now }
-    ensures { IfOk result (λ cert. cert ≡ specs.nonzero_pairs 1 multipliers.now) }
-{
-    let mut pairs = Vec::new(alloc);
-    for (place, multiplier) in multipliers.iter().enumerate() {
-        if is_nonzero(*multiplier) {
-            pairs.push((place as u32 + 1, *multiplier))?;
-        }
-    }
-    Ok(Cert::of(pairs))
-}
 
 /// Whether a false line refutes by its multipliers with the other signs.
 fn is_turned(line: &Line, columns: u32) -> bool
@@ -40,9 +24,9 @@ fn certificate(alloc: Global, rows: &NamedRows<'_>, line: &Line) -> Result<Cert,
     let multipliers = line.multipliers(columns);
     if is_turned(line, columns) {
         let opposites = opposites_of(alloc, multipliers)?;
-        nonzero_pairs(alloc, opposites.as_slice())
+        Cert::of_multipliers(alloc, opposites.as_slice())
     } else {
-        nonzero_pairs(alloc, multipliers)
+        Cert::of_multipliers(alloc, multipliers)
     }
 }
 

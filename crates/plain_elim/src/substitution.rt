@@ -7,9 +7,9 @@ use crate::combination::made_line;
 use crate::factors::{common_divisor, with_sign_of};
 use crate::follows::follows;
 use crate::kept::Kept;
-use crate::line::{Line, is_nonzero};
+use crate::line::Line;
 use crate::work::{Next, Work};
-use farkas_cert::NamedRows;
+use farkas_cert::{NamedRows, is_nonzero};
 use lin_rows::floor_of;
 use std::alloc::{AllocError, Global};
 

@@ -3,10 +3,13 @@ use Rattle.std.specs.Prelude.{◌≡◌, ℕ, Option, Some, None, option_map, �
 use Rattle.lin_rows.specs.Row.{Row}
 use Rattle.lin_rows.specs.System.{System}
 use Rattle.farkas_cert.specs.Proof.{Entails}
-use Rattle.farkas_cert.specs.Elimination.{outcome_of, left_by}
+use Rattle.farkas_cert.specs.Elimination as elimination
+use Rattle.farkas_cert.specs.Elimination.{left_by}
 use Rattle.farkas_cert.specs.declared.answers.LeaveKind.{LeaveKind}
 use Rattle.farkas_cert.specs.declared.answers.Decided.{Decided}
 use Rattle.farkas_cert.specs.declared.answers.Decided.TheVariants as decided
+use Rattle.tableau_elim.specs.Rounds as tableau
+use Rattle.tableau_elim.specs.Rounds.{Outcome, Refuted, Point, GaveUp}
 use Rattle.rational_entail.specs.declared.denial.Entailed.{Entailed}
 use Rattle.rational_entail.specs.declared.denial.Entailed.TheVariants as entailed
 
@@ -16,9 +19,15 @@ left_in (decided.Refuted cert) = None
 left_in (decided.Point x d) = None
 left_in (decided.Leaves stage kind) = Some (stage, kind)
 
--- When a system is left undecided, with which stage and kind: where its elimination leaves, and as that does.
+-- what an elimination leaves is left where the tableau gave up
+abbrev pub left_with : Outcome → Option (ℕ × LeaveKind) → Option (ℕ × LeaveKind)
+left_with (Refuted pairs) left = None
+left_with (Point x d) left = None
+left_with GaveUp left = left
+
+-- When a system is left undecided, with which stage and kind: where its tableau gives up and its elimination leaves, and as that does.
 abbrev pub left_of : System → Option (ℕ × LeaveKind)
-left_of system = left_by (outcome_of system)
+left_of system = left_with (tableau.outcome_of system) (left_by (elimination.outcome_of system))
 
 -- the kind alone
 abbrev pub leave_of : System → Option LeaveKind

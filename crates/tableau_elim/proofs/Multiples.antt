@@ -10,7 +10,7 @@ use Rattle.std.proofs.lemmas.Int.{ints}
 use Rattle.std.proofs.lemmas.Nat.Gcd.{le_of_dvd, mod-eq-zero_of_dvd}
 use Rattle.thr_base.specs.Number.{Fits, fits}
 use Rattle.lin_rows.specs.Exact.{fitting}
-use Rattle.lin_rows.specs.Gcd.{gcd}
+use Rattle.lin_rows.specs.Gcd.{gcd, lcm}
 use Rattle.lin_rows.specs.Row.{product_of}
 use Rattle.lin_rows.specs.Sum.{summed, overflow_from}
 use Rattle.lin_rows.proofs.Divisors.{IsGcd-gcd}
@@ -24,7 +24,7 @@ use Rattle.farkas_cert.proofs.Fractions.{positive_over}
 use Rattle.tableau_elim.specs.Tableau.{Line, sum_of_line, value_at_place}
 use Rattle.farkas_cert.specs.Elimination.{every}
 use Rattle.farkas_cert.specs.Line.{all_fit}
-use Rattle.tableau_elim.specs.Rounds.{least_common_multiple, common_denominator, point_over, Point, GaveUp}
+use Rattle.tableau_elim.specs.Rounds.{common_denominator, point_over, Point, GaveUp}
 use Rattle.tableau_elim.specs.inside.Combined.{numerator_over}
 use Rattle.tableau_elim.specs.declared.variable.Variable.{Variable}
 use Rattle.tableau_elim.specs.declared.point.Value.{Value as HeldValue}
@@ -75,9 +75,9 @@ not_fitting z e = rw e refl
 -- ---- multiples
 
 abbrev pub multiple_from : ℕ → List Fraction → ℕ
-multiple_from d values = fold (λ d value. least_common_multiple d (unsigned_abs value.denominator)) d values
+multiple_from d values = fold (λ d value. lcm d (unsigned_abs value.denominator)) d values
 
-multiple_grows : (a b : ℕ) → 0 < b → a ≤ least_common_multiple a b
+multiple_grows : (a b : ℕ) → 0 < b → a ≤ lcm a b
 multiple_grows a b h =
     let g = gcd a b in
     let is = IsGcd-gcd a b in
@@ -91,7 +91,7 @@ from_grows : (d : ℕ) (values : List Fraction) → AllByRecursion (λ value. 0 
 from_grows d [] h = omega arith
 from_grows d (value ∷ values) h =
     let one = multiple_grows d (unsigned_abs value.denominator) h.0 in
-    let more = from_grows (least_common_multiple d (unsigned_abs value.denominator)) values h.1 in
+    let more = from_grows (lcm d (unsigned_abs value.denominator)) values h.1 in
     omega arith
 
 pub multiple_begins : (values : List Fraction) → multiple_from 1 values ≡ common_denominator values
@@ -102,7 +102,7 @@ none : HeldValue
 none = record { numerator = pos 0; denominator = pos 1 }
 
 multiple_step : (d : ℕ) (values : List HeldValue) (k : ℕ) (value : HeldValue) → k < length values → get_or values k value ≡ value
-    → multiple_from d (map fraction_in (drop k values)) ≡ multiple_from (least_common_multiple d (unsigned_abs value.denominator)) (map fraction_in (drop (k + 1) values))
+    → multiple_from d (map fraction_in (drop k values)) ≡ multiple_from (lcm d (unsigned_abs value.denominator)) (map fraction_in (drop (k + 1) values))
 multiple_step d values k value h e =
     ap (λ vs. multiple_from d (map fraction_in vs)) (drop_more values k value h ∙ ap (λ v. v ∷ drop (k + 1) values) e)
 
@@ -125,9 +125,9 @@ pub multiple_of_none : (values : List HeldValue) → IsMultiple (pos 1) values 0
 multiple_of_none values = record { whole = multiple_begins (map fraction_in values); positive = omega (arith, ints); fits = omega arith }
 
 pub multiple_goes_on : (d next : ℤ) (values : List HeldValue) (k : ℕ) (value : HeldValue) → k < length values → get_or values k value ≡ value → IsValue value
-    → Some next ≡ fitting (pos (least_common_multiple (unsigned_abs d) (unsigned_abs value.denominator))) → IsMultiple d values k → IsMultiple next values (k + 1)
+    → Some next ≡ fitting (pos (lcm (unsigned_abs d) (unsigned_abs value.denominator))) → IsMultiple d values k → IsMultiple next values (k + 1)
 multiple_goes_on d next values k value h e v f i =
-    let is = fitting_is (pos (least_common_multiple (unsigned_abs d) (unsigned_abs value.denominator))) next f in
+    let is = fitting_is (pos (lcm (unsigned_abs d) (unsigned_abs value.denominator))) next f in
     let grows = multiple_grows (unsigned_abs d) (unsigned_abs value.denominator) (positive_abs value.denominator v.positive) in
     let some = positive_abs d i.positive in
     let size = ap unsigned_abs is.0 in
@@ -144,10 +144,10 @@ below_fits m n h e = at (fits (pos n)) refl where
   at false t = t
 
 pub multiple_stops : (d : ℤ) (values : List HeldValue) (k : ℕ) (value : HeldValue) → k < length values → get_or values k value ≡ value → AllByRecursion IsValue values
-    → None ≡ fitting (pos (least_common_multiple (unsigned_abs d) (unsigned_abs value.denominator))) → IsMultiple d values k
+    → None ≡ fitting (pos (lcm (unsigned_abs d) (unsigned_abs value.denominator))) → IsMultiple d values k
     → None ≡ fitting (pos (common_denominator (map fraction_in values)))
 multiple_stops d values k value h e all f i =
-    let m = least_common_multiple (unsigned_abs d) (unsigned_abs value.denominator) in
+    let m = lcm (unsigned_abs d) (unsigned_abs value.denominator) in
     let grows = from_grows m (map fraction_in (drop (k + 1) values)) (denominators_positive (drop (k + 1) values) (drop_values values (k + 1) all)) in
     let whole = sym (multiple_step (unsigned_abs d) values k value h e) ∙ i.whole in
     not_fitting (pos (common_denominator (map fraction_in values))) (below_fits m (common_denominator (map fraction_in values)) (subst (λ n. m ≤ n) whole grows) (fitting_none (pos m) f))

@@ -122,39 +122,6 @@ long_multipliers side rows places line =
     ∙ long_places places (drop 1 line.numbers) (with_multiplier line.basic (divisor_of line) (replicate rows (pos 0)))
     ∙ long_multiplier line.basic (divisor_of line) (replicate rows (pos 0)) ∙ long_zeros rows
 
--- ---- those that are nonzero_pairs
-
-listed_step : (k : ℕ) (m : ℤ) (ms : List ℤ) (b : Bool) → is_nonzero m ≡ b → nonzero_pairs k (m ∷ ms) ≡ cond b ((k, m) ∷ nonzero_pairs (suc k) ms) (nonzero_pairs (suc k) ms)
-unfolding nonzero_pairs
-listed_step k m ms b e = rw e refl
-
-listed_none : (k : ℕ) (ms : List ℤ) → length ms ≡ 0 → nonzero_pairs k ms ≡ []
-unfolding nonzero_pairs
-listed_none k [] e = refl
-listed_none k (m ∷ ms) e = absurd (omega arith)
-
-pub listed_more : (ms : List ℤ) (k : ℕ) (front next whole : List (ℕ × ℤ)) → k < length ms → is_nonzero (get_or ms k (pos 0)) ≡ true
-    → next ≡ front ++ (k + 1, get_or ms k (pos 0)) ∷ [] → front ++ nonzero_pairs (suc k) (drop k ms) ≡ whole → next ++ nonzero_pairs (suc (k + 1)) (drop (k + 1) ms) ≡ whole
-listed_more ms k front next whole h n e i =
-    let m = get_or ms k (pos 0) in
-    let step = listed_step (suc k) m (drop (k + 1) ms) true n in
-    let rest = ap (λ xs. front ++ nonzero_pairs (suc k) xs) (drop_more ms k (pos 0) h) in
-    let one = add-one k in
-    ap (λ xs. xs ++ nonzero_pairs (suc (k + 1)) (drop (k + 1) ms)) e ∙ append_assoc front ((k + 1, m) ∷ []) (nonzero_pairs (suc (k + 1)) (drop (k + 1) ms))
-    ∙ ap (λ (n : ℕ). front ++ ((n, m) ∷ nonzero_pairs (suc n) (drop (k + 1) ms))) one ∙ ap (λ xs. front ++ xs) (sym step) ∙ sym rest ∙ i
-
-pub listed_skips : (ms : List ℤ) (k : ℕ) (front next whole : List (ℕ × ℤ)) → k < length ms → is_nonzero (get_or ms k (pos 0)) ≡ false
-    → next ≡ front → front ++ nonzero_pairs (suc k) (drop k ms) ≡ whole → next ++ nonzero_pairs (suc (k + 1)) (drop (k + 1) ms) ≡ whole
-listed_skips ms k front next whole h n e i =
-    let m = get_or ms k (pos 0) in
-    let step = listed_step (suc k) m (drop (k + 1) ms) false n in
-    let rest = ap (λ xs. front ++ nonzero_pairs (suc k) xs) (drop_more ms k (pos 0) h) in
-    ap (λ xs. xs ++ nonzero_pairs (suc (k + 1)) (drop (k + 1) ms)) e ∙ ap (λ (n : ℕ). front ++ nonzero_pairs (suc n) (drop (k + 1) ms)) (add-one k)
-    ∙ ap (λ xs. front ++ xs) (sym step) ∙ sym rest ∙ i
-
-pub listed_ends : (ms : List ℤ) (k : ℕ) (front whole : List (ℕ × ℤ)) → length ms ≤ k → front ++ nonzero_pairs (suc k) (drop k ms) ≡ whole → front ≡ whole
-listed_ends ms k front whole h i = sym (append-nil front) ∙ ap (λ xs. front ++ xs) (sym (listed_none (suc k) (drop k ms) (ap length (drop_all k ms h)))) ∙ i
-
 -- ---- the steps of the program
 
 pub get_default : {X : Type 0} (xs : List X) (k : ℕ) (d e : X) → k < length xs → get_or xs k d ≡ get_or xs k e

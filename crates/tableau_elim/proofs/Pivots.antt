@@ -13,7 +13,7 @@ use Rattle.farkas_cert.specs.Divided.{divided}
 use Rattle.farkas_cert.specs.Line.{combination, combination_fits, is_nonzero}
 use Rattle.tableau_elim.specs.Tableau.{Line, Pivot, are_same, solved, substituted, changed}
 use Rattle.tableau_elim.specs.declared.variable.Variable.{Variable}
-use Rattle.tableau_elim.specs.inside.Combined.{combined}
+use Rattle.farkas_cert.specs.Combination.{combined_numbers}
 use Rattle.tableau_elim.proofs.Combinations.{made_by, none_by}
 
 pub all_set : {X : Type 0} (P : X → Type 0) (xs : List X) (i : ℕ) (y : X) → P y → AllByRecursion P xs → AllByRecursion P (slice_set xs i y)
@@ -42,7 +42,7 @@ solved_fit moved now p size h k e f =
 
 pub substituted_made : (pivot : Pivot) (basic : Variable) (numbers made : List ℤ) (a b : ℤ) → length numbers ≡ length pivot.moved
     → a ≡ pos (unsigned_abs pivot.number) → b ≡ neg_ℤ (int_signum pivot.number) *ℤ get_or numbers (pivot.place + 1) (pos 0)
-    → combined a (slice_set numbers (pivot.place + 1) (pos 0)) b pivot.moved ≡ Some made
+    → combined_numbers a (slice_set numbers (pivot.place + 1) (pos 0)) b pivot.moved ≡ Some made
     → substituted pivot (record { basic = basic; numbers = numbers }) ≡ Some (record { basic = basic; numbers = divided made })
 unfolding substituted
 substituted_made pivot basic numbers made a b l p q e =
@@ -57,7 +57,7 @@ substituted_made pivot basic numbers made a b l p q e =
 
 pub substituted_none : (pivot : Pivot) (basic : Variable) (numbers : List ℤ) (a b : ℤ) → length numbers ≡ length pivot.moved
     → a ≡ pos (unsigned_abs pivot.number) → b ≡ neg_ℤ (int_signum pivot.number) *ℤ get_or numbers (pivot.place + 1) (pos 0)
-    → combined a (slice_set numbers (pivot.place + 1) (pos 0)) b pivot.moved ≡ None
+    → combined_numbers a (slice_set numbers (pivot.place + 1) (pos 0)) b pivot.moved ≡ None
     → substituted pivot (record { basic = basic; numbers = numbers }) ≡ None
 unfolding substituted
 substituted_none pivot basic numbers a b l p q e =

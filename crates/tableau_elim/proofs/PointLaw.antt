@@ -8,7 +8,7 @@ use Rattle.std.proofs.Math.Nat.{div-add-mod, dvd-mul_right, mul-le-mul_right}
 use Rattle.std.proofs.lemmas.Int.{ints}
 use Rattle.std.proofs.lemmas.Nat.Gcd.{dvd_trans, dvd_refl, mod-eq-zero_of_dvd, le_of_dvd}
 use Rattle.thr_base.specs.Number.{fits}
-use Rattle.lin_rows.specs.Gcd.{gcd}
+use Rattle.lin_rows.specs.Gcd.{gcd, lcm}
 use Rattle.lin_rows.specs.Row.{Row, product_of, scaled, MeetsOver}
 use Rattle.lin_rows.specs.Sum.{sum_in_order}
 use Rattle.lin_rows.specs.System.{System, HasWidths, IsRationalPoint}
@@ -29,7 +29,7 @@ use Rattle.farkas_cert.proofs.Lists.{all_both, all_from}
 use Rattle.farkas_cert.proofs.Signs.{split_at}
 use Rattle.farkas_cert.proofs.Slack.{product-scaled_right}
 use Rattle.tableau_elim.specs.Tableau.{Line, Tableau, divisor_of, value_at_place, given, given_lines, sum_of_line, pivot_at, pivoted}
-use Rattle.tableau_elim.specs.Rounds.{Outcome, Refuted, Point, GaveUp, Found, Ends, Pivots, first_out, standing_of, chosen, multipliers, refuted, least_common_multiple, basic_value, column_value, common_denominator, point_over, point_of, or_gives_up, found, found_by_line, found_by_standing, found_by_place, at_end, after_pivot, goes_on, ended_within, most_pivots, outcome_of}
+use Rattle.tableau_elim.specs.Rounds.{Outcome, Refuted, Point, GaveUp, Found, Ends, Pivots, first_out, standing_of, chosen, multipliers, refuted, basic_value, column_value, common_denominator, point_over, point_of, or_gives_up, found, found_by_line, found_by_standing, found_by_place, at_end, after_pivot, goes_on, ended_within, most_pivots, outcome_of}
 use Rattle.tableau_elim.specs.declared.variable.Variable.{Variable}
 use Rattle.tableau_elim.specs.declared.variable.Variable.TheVariants.{Column, Slack}
 use Rattle.tableau_elim.specs.declared.standing.Side.{Side}
@@ -44,7 +44,7 @@ use Rattle.tableau_elim.proofs.PointOf.{multiple, multiple_positive, IsShare, sh
 
 -- ---- the columns
 
-lcm_first : (a b : ℕ) → a ∣ least_common_multiple a b
+lcm_first : (a b : ℕ) → a ∣ lcm a b
 lcm_first a b =
     let g = gcd a b in
     let is = IsGcd-gcd a b in
@@ -60,23 +60,23 @@ lcm_first a b =
     turn : (x g y : ℕ) → x * (g * y) ≡ (g * x) * y
     turn x g y = sym (mul_assoc x g y) ∙ ap (λ n. n * y) (mul_comm x g)
 
-lcm_second : (a b : ℕ) → b ∣ least_common_multiple a b
+lcm_second : (a b : ℕ) → b ∣ lcm a b
 lcm_second a b = subst (λ (n : ℕ). b ∣ n) (mul_comm b (a / gcd a b)) (dvd-mul_right b (a / gcd a b))
 
 denominators_from : (d : ℕ) (values : List Fraction)
-    → (d ∣ fold (λ d value. least_common_multiple d (unsigned_abs value.denominator)) d values)
-    × AllByRecursion (λ value. unsigned_abs value.denominator ∣ fold (λ d value. least_common_multiple d (unsigned_abs value.denominator)) d values) values
+    → (d ∣ fold (λ d value. lcm d (unsigned_abs value.denominator)) d values)
+    × AllByRecursion (λ value. unsigned_abs value.denominator ∣ fold (λ d value. lcm d (unsigned_abs value.denominator)) d values) values
 denominators_from d [] = (dvd_refl d, tt)
 denominators_from d (value ∷ values) =
     let n = unsigned_abs value.denominator in
-    let rest = denominators_from (least_common_multiple d n) values in
+    let rest = denominators_from (lcm d n) values in
     (dvd_trans _ (lcm_first d n) rest.0, (dvd_trans _ (lcm_second d n) rest.0, rest.1))
 
 denominators : (values : List Fraction) → AllByRecursion (λ value. unsigned_abs value.denominator ∣ common_denominator values) values
 unfolding common_denominator
 denominators values = (denominators_from 1 values).1
 
-lcm_grows : (a b : ℕ) → 0 < b → a ≤ least_common_multiple a b
+lcm_grows : (a b : ℕ) → 0 < b → a ≤ lcm a b
 lcm_grows a b h =
     let g = gcd a b in
     let is = IsGcd-gcd a b in
@@ -90,11 +90,11 @@ common_positive : (values : List Fraction) → AllByRecursion (λ value. pos 0 <
 unfolding common_denominator
 common_positive values h = from 1 values h (omega arith) where
   from : (d : ℕ) (values : List Fraction) → AllByRecursion (λ value. pos 0 <ℤ value.denominator) values → 0 < d
-      → 0 < fold (λ d value. least_common_multiple d (unsigned_abs value.denominator)) d values
+      → 0 < fold (λ d value. lcm d (unsigned_abs value.denominator)) d values
   from d [] h p = p
   from d (value ∷ values) h p =
       let grows = lcm_grows d (unsigned_abs value.denominator) (positive_abs value.denominator h.0) in
-      from (least_common_multiple d (unsigned_abs value.denominator)) values h.1 (omega arith)
+      from (lcm d (unsigned_abs value.denominator)) values h.1 (omega arith)
 
 -- ---- one column
 

@@ -14,7 +14,8 @@ use Rattle.tableau_elim.specs.Tableau.{Line, Pivot, number_at, solved, changed}
 use Rattle.tableau_elim.specs.declared.variable.Variable.{Variable}
 use Rattle.tableau_elim.specs.inside.Held.{lines_of, IsSound, IsPivot}
 use Rattle.tableau_elim.proofs.Changed.{substituted_is, by_change, changed_front}
-use Rattle.tableau_elim.proofs.Combinations.{combination_all_fit, divided_fit}
+use Rattle.farkas_cert.proofs.Combinations.{divided_fit}
+use Rattle.tableau_elim.proofs.Combinations.{combination_all_fit}
 use Rattle.tableau_elim.proofs.Pivots.{solved_fit}
 
 -- ---- with numbers that fit

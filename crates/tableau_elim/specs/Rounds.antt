@@ -1,11 +1,11 @@
 -- How the tableau is used: a line whose slack is out of its row's bound is looked for; where a place can mend it, the line's basic
 -- and the variable there change places, and where none can, the line refutes. Where no line is out, the values are a point.
-use Rattle.std.specs.Prelude.{ℕ, zero, suc, ◌+◌, ◌*◌, ◌/◌, ℤ, pos, neg_ℤ, ◌*ℤ◌, unsigned_abs, Bool, true, false, cond, not, ◌&&◌, int_lt, List, [], ◌∷◌, map, drop, length, filter, find, fold, replicate, slice_set, if◌then◌else◌, Option, Some, None, is_none, unwrap_or}
+use Rattle.std.specs.Prelude.{ℕ, zero, suc, ◌+◌, ◌*◌, ℤ, pos, neg_ℤ, ◌*ℤ◌, unsigned_abs, Bool, true, false, cond, not, ◌&&◌, int_lt, List, [], ◌∷◌, map, drop, length, filter, find, fold, replicate, slice_set, if◌then◌else◌, Option, Some, None, is_none, unwrap_or}
 use Rattle.std.specs.List.{range_with_len}
 use Rattle.std.specs.Option.{option_map}
 use Rattle.thr_base.specs.Number.{fits}
 use Rattle.lin_rows.specs.Exact.{fitting}
-use Rattle.lin_rows.specs.Gcd.{gcd}
+use Rattle.lin_rows.specs.Gcd.{lcm}
 use Rattle.lin_rows.specs.System.{System}
 use Rattle.farkas_cert.specs.Cert.{Pairs}
 use Rattle.farkas_cert.specs.Proof.{overflow_of}
@@ -115,10 +115,6 @@ refuted system side places line =
 
 -- ---- the point
 
--- the least common multiple of two positive numbers
-abbrev pub least_common_multiple : ℕ → ℕ → ℕ
-least_common_multiple a b = a / gcd a b * b
-
 -- a basic's sum over the divisor, reduced; 0 at a place
 abbrev pub basic_value : List Variable → Option Line → Option Fraction
 basic_value places None = Some (whole (pos 0))
@@ -129,7 +125,7 @@ column_value tableau c = basic_value tableau.places (find (λ line. are_same lin
 
 -- the least common multiple of the denominators
 unfoldable pub common_denominator : List Fraction → ℕ
-common_denominator values = fold (λ d value. least_common_multiple d (unsigned_abs value.denominator)) 1 values
+common_denominator values = fold (λ d value. lcm d (unsigned_abs value.denominator)) 1 values
 
 unfoldable pub point_over : List Fraction → Outcome
 point_over values =

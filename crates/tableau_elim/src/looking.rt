@@ -35,7 +35,7 @@ pub fn sum_of_line(tableau: &Tableau, values: &[i128], line: usize) -> Option<i1
 }
 
 /// How a sum stands to its limit.
-fn compared(equal: bool, sum: i128, limit: i128) -> Standing
+fn standing_by_limit(equal: bool, sum: i128, limit: i128) -> Standing
     ensures { result ≡ specs.compared equal sum limit }
 {
     if limit < sum {
@@ -60,7 +60,7 @@ fn standing_of_slack(tableau: &Tableau, values: &[i128], line: usize, slack: Sla
     let Some(limit) = product_if_fits(slack.bound, tableau.divisor_of(line)) else {
         return Standing::Unfit;
     };
-    compared(slack.equal, sum, limit)
+    standing_by_limit(slack.equal, sum, limit)
 }
 
 /// How a line stands. A column has no bound.

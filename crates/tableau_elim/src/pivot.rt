@@ -6,8 +6,9 @@ ghost use Rattle.lin_rows.specs.Row.{scaled};
 ghost use Rattle.tableau_elim.specs.Tableau as specs;
 ghost use Rattle.tableau_elim.specs.inside.Held.{pivot_of, IsPivot};
 
-use crate::numbers::{combine, divide, turn, turned};
+use crate::numbers::{combine, turn, with_other_sign};
 use crate::variable::Variable;
+use farkas_cert::divide;
 use std::alloc::{AllocError, Global};
 
 /// The change of places of a line's basic and the variable at a place.
@@ -25,7 +26,7 @@ pub struct Pivot {
 }
 
 /// A copy of a line's numbers, in which the divisor stands at a place with the other sign.
-fn moved(alloc: Global, numbers: &[i128], place: usize) -> Result<Vec<i128>, AllocError>
+fn moved_numbers(alloc: Global, numbers: &[i128], place: usize) -> Result<Vec<i128>, AllocError>
     requires within { suc place < length numbers.now }
     requires fits { AllByRecursion Fits numbers.now }
     ensures { IfOk result (λ moved. moved.items ≡ slice_set (slice_set numbers.now (suc place) (neg_ℤ (get_or numbers.now 0 (pos 1)))) 0 (pos 0)) }
@@ -53,7 +54,7 @@ impl Pivot {
         ensures pivot { IfOk result (λ pivot. pivot_of pivot ≡ specs.pivot_at place (record { basic = basic; numbers = numbers.now }) (record { lines = []; places = places.now })) }
         ensures known { IfOk result (λ pivot. IsPivot (length numbers.now) (pivot_of pivot)) }
     {
-        let moved = moved(alloc, numbers, place)?;
+        let moved = moved_numbers(alloc, numbers, place)?;
         Ok(Pivot {
             place,
             entering: places[place],
@@ -82,7 +83,7 @@ impl Pivot {
         requires fits { AllByRecursion Fits numbers.old }
         ensures { (basic : Variable) → MatchBool result (specs.substituted (pivot_of self.now) (record { basic = basic; numbers = numbers.old }) ≡ Some (record { basic = basic; numbers = numbers.new })) (specs.substituted (pivot_of self.now) (record { basic = basic; numbers = numbers.old }) ≡ None) }
     {
-        let share = turned(self.number, numbers[self.place + 1]);
+        let share = with_other_sign(self.number, numbers[self.place + 1]);
         numbers[self.place + 1] = 0;
         if !combine(numbers, self.number.abs(), share, self.moved.as_slice()) {
             return false;

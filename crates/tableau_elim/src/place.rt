@@ -50,7 +50,7 @@ fn better(
 
 /// The suitable place whose variable comes first.
 #[tactic(auto, unfolding(crate::specs::Rounds::chosen))]
-pub fn chosen(side: Side, places: &[Variable], numbers: &[i128]) -> Option<usize>
+pub fn chosen_place(side: Side, places: &[Variable], numbers: &[i128]) -> Option<usize>
     requires { length numbers.now ≡ length places.now }
     ensures { result ≡ specs.chosen side places.now numbers.now }
 {

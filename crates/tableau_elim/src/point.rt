@@ -1,10 +1,9 @@
-ghost use Rattle.std.specs.Prelude.{◌≡◌, ◌<◌, ◌/◌, ◌*◌, ◌^◌, ℤ, pos, ◌<ℤ◌, map, find, length, unsigned_abs, IfOk, IfSome};
+ghost use Rattle.std.specs.Prelude.{◌≡◌, ◌<◌, ◌^◌, ℤ, pos, ◌<ℤ◌, map, find, length, IfOk, IfSome};
 ghost use Rattle.std.specs.List.{AllByRecursion, range_with_len};
 ghost use Rattle.std.specs.Option.{option_map};
 ghost use Rattle.std.specs.Global.{Vec};
 ghost use Rattle.thr_base.specs.Number.{Fits};
 ghost use Rattle.lin_rows.specs.Exact.{fitting};
-ghost use Rattle.lin_rows.specs.Gcd.{gcd};
 ghost use Rattle.farkas_cert.specs.BackSubstitution.{fraction};
 ghost use Rattle.farkas_cert.specs.Elimination.{every};
 ghost use Rattle.tableau_elim.specs.Tableau as tableau_specs;
@@ -17,7 +16,8 @@ use crate::looking::sum_of_line;
 use crate::tableau::Tableau;
 use crate::tried::Tried;
 use crate::variable::Variable;
-use lin_rows::{NumberList, divisor_of, floor_of, product_if_fits};
+use farkas_cert::common_divisor;
+use lin_rows::{NumberList, floor_of, multiple_if_fits, product_if_fits};
 use std::alloc::{AllocError, Global};
 
 /// A reduced fraction with a positive denominator.
@@ -27,19 +27,8 @@ pub struct Value {
     pub denominator: i128,
 }
 
-/// The greatest common divisor of a number and a positive one.
-fn common_divisor(number: i128, positive: i128) -> i128
-    requires number { Fits number }
-    requires fits { Fits positive }
-    requires positive { pos 0 <ℤ positive }
-    ensures divisor { result ≡ pos (gcd (unsigned_abs number) (unsigned_abs positive)) }
-    ensures positive { pos 0 <ℤ result }
-{
-    divisor_of(&[positive, number])
-}
-
 /// `sum / divisor`, reduced.
-fn reduced(sum: i128, divisor: i128) -> Value
+fn reduced_value(sum: i128, divisor: i128) -> Value
     requires sum { Fits sum }
     requires fits { Fits divisor }
     requires positive { pos 0 <ℤ divisor }
@@ -82,7 +71,7 @@ fn column_value(tableau: &Tableau, values: &[i128], column: u32) -> Option<Value
         });
     };
     let sum = sum_of_line(tableau, values, line)?;
-    Some(reduced(sum, tableau.divisor_of(line)))
+    Some(reduced_value(sum, tableau.divisor_of(line)))
 }
 
 /// The values of all columns.
@@ -107,17 +96,6 @@ fn column_values(
     Ok(Some(all))
 }
 
-/// The least common multiple of two positive numbers, where it fits.
-fn least_common_multiple(a: i128, b: i128) -> Option<i128>
-    requires fits { Fits a }
-    requires positive { pos 0 <ℤ a }
-    requires other_fits { Fits b }
-    requires other_positive { pos 0 <ℤ b }
-    ensures { result ≡ fitting (pos (specs.least_common_multiple (unsigned_abs a) (unsigned_abs b))) }
-{
-    product_if_fits(floor_of(a, common_divisor(a, b)), b)
-}
-
 /// The least common multiple of the denominators, where it fits.
 #[tactic(auto, unfolding(crate::specs::Rounds::common_denominator))]
 fn common_denominator(values: &[Value]) -> Option<i128>
@@ -126,7 +104,7 @@ fn common_denominator(values: &[Value]) -> Option<i128>
 {
     let mut denominator = 1;
     'values: for place in 0..values.len() {
-        match least_common_multiple(denominator, values[place].denominator) {
+        match multiple_if_fits(denominator, values[place].denominator) {
             Some(multiple) => denominator = multiple,
             None => return None,
         }

@@ -9,12 +9,12 @@ ghost use Rattle.tableau_elim.specs.Rounds as specs;
 ghost use Rattle.tableau_elim.specs.Decision.{outcome_in};
 ghost use Rattle.tableau_elim.specs.inside.Held.{tableau_of, line_at, IsHeld};
 
-use crate::numbers::{divide, is_nonzero, turn};
+use crate::numbers::turn;
 use crate::standing::Side;
 use crate::tableau::Tableau;
 use crate::tried::Tried;
 use crate::variable::Variable;
-use farkas_cert::{Cert, CertAnswer, NamedRows, check_named};
+use farkas_cert::{Cert, CertAnswer, NamedRows, check_named, divide};
 use lin_rows::opposite;
 use std::alloc::{AllocError, Global};
 
@@ -89,21 +89,6 @@ fn weigh(multipliers: &mut [i128], side: Side, tableau: &Tableau, line: usize)
     divide(multipliers);
 }
 
-/// The multipliers that are not 0, with the numbers of their rows.
-fn nonzero_pairs(alloc: Global, multipliers: &[i128]) -> Result<Cert, AllocError>
-    requires few { length multipliers.now < 2 ^ 32 }
-    requires fit { AllByRecursion Fits multipliers.now }
-    ensures { IfOk result (λ cert. cert ≡ nonzero_pairs 1 multipliers.now) }
-{
-    let mut pairs = Vec::new(alloc);
-    for (place, multiplier) in multipliers.iter().enumerate() {
-        if is_nonzero(*multiplier) {
-            pairs.push((place as u32 + 1, *multiplier))?;
-        }
-    }
-    Ok(Cert::of(pairs))
-}
-
 /// The certificate of a line that no place can mend.
 fn certificate(
     alloc: Global,
@@ -118,12 +103,12 @@ fn certificate(
 {
     let mut multipliers = vec![in alloc; 0; rows as usize]?;
     weigh(&mut multipliers, side, tableau, line);
-    let cert = nonzero_pairs(alloc, multipliers.as_slice())?;
+    let cert = Cert::of_multipliers(alloc, multipliers.as_slice())?;
     Ok(cert)
 }
 
 /// The answer where a line refutes the rows, by the check of the products and sums of its certificate.
-pub fn refuted(
+pub fn refutation(
     alloc: Global,
     rows: &NamedRows<'_>,
     side: Side,

@@ -8,9 +8,9 @@ ghost use Rattle.tableau_elim.specs.declared.standing.Standing.{Standing};
 ghost use Rattle.tableau_elim.specs.inside.Held.{tableau_of, line_at, IsHeld, found_of, IsForPivot};
 
 use crate::looking::{first_out, standing_of, values_at_places};
-use crate::place::chosen;
+use crate::place::chosen_place;
 use crate::point::point_of;
-use crate::refuting::refuted;
+use crate::refuting::refutation;
 use crate::standing::{Side, Standing};
 use crate::tableau::Tableau;
 use crate::tried::Tried;
@@ -40,17 +40,17 @@ fn mended_by_place(
     ensures place { IfOk result (IsForPivot tableau.now) }
 {
     let numbers = tableau.numbers_of(line);
-    match chosen(side, tableau.places.as_slice(), &numbers[1..]) {
+    match chosen_place(side, tableau.places.as_slice(), &numbers[1..]) {
         Some(place) => Ok(Found::Pivots(line, place)),
         None => {
-            let tried = refuted(alloc, rows, side, tableau, line)?;
+            let tried = refutation(alloc, rows, side, tableau, line)?;
             Ok(Found::Ends(tried))
         }
     }
 }
 
 /// A line that is not within is mended or refutes, unless a number does not fit.
-fn mended(
+fn mended_by_standing(
     alloc: Global,
     rows: &NamedRows<'_>,
     tableau: &Tableau,
@@ -82,7 +82,7 @@ pub fn round(alloc: Global, rows: &NamedRows<'_>, tableau: &Tableau) -> Result<F
     match first_out(tableau, values.as_slice()) {
         Some(line) => {
             let standing = standing_of(tableau, values.as_slice(), line);
-            mended(alloc, rows, tableau, line, standing)
+            mended_by_standing(alloc, rows, tableau, line, standing)
         }
         None => {
             let tried = point_of(alloc, tableau, values.as_slice(), rows.columns())?;

@@ -80,7 +80,7 @@ impl Tableau {
     }
 
     /// The basic of a line and the variable at a place change places, unless a number does not fit.
-    pub fn pivoted(
+    pub fn after_pivot(
         self,
         alloc: Global,
         line: usize,

@@ -171,6 +171,102 @@ fn a_pivot_or_a_denominator_that_does_not_fit(rt: HostRuntime) -> Result<(), Fai
     Ok(())
 }
 
+#[test]
+fn a_certificate_or_a_point_that_does_not_fit(rt: HostRuntime) -> Result<(), Fail> {
+    let wide = 18446744073709551616;
+    let steep = 9223372036854775809;
+    let mut certificate = Rows::new(rt.alloc(), 1);
+    certificate.push(true, &[-wide - 1], 2)?;
+    certificate.push(false, &[steep], -2)?;
+    let tried = try_decide(rt.alloc(), &certificate.view())?;
+    assert!(rt; gave_up(&tried));
+    let mut coordinate = Rows::new(rt.alloc(), 2);
+    coordinate.push(false, &[-1, steep], -1)?;
+    coordinate.push(false, &[-3, 0], -wide - 1)?;
+    let tried = try_decide(rt.alloc(), &coordinate.view())?;
+    assert!(rt; gave_up(&tried));
+    Ok(())
+}
+
+#[test]
+fn each_number_of_a_pivot_that_does_not_fit(rt: HostRuntime) -> Result<(), Fail> {
+    let half = 85070591730234615865843651857942052864;
+    let mut difference = Rows::new(rt.alloc(), 2);
+    difference.push(false, &[-2, 3], -1)?;
+    difference.push(false, &[3, half - 1], -3)?;
+    let tried = try_decide(rt.alloc(), &difference.view())?;
+    assert!(rt; gave_up(&tried));
+    let mut divisor = Rows::new(rt.alloc(), 1);
+    divisor.push(false, &[-3], 0)?;
+    divisor.push(false, &[-half], -2)?;
+    divisor.push(true, &[-1], -1)?;
+    let tried = try_decide(rt.alloc(), &divisor.view())?;
+    assert!(rt; gave_up(&tried));
+    let mut scaled = Rows::new(rt.alloc(), 2);
+    scaled.push(false, &[-3, 0], -1)?;
+    scaled.push(false, &[-1, half], -3)?;
+    let tried = try_decide(rt.alloc(), &scaled.view())?;
+    assert!(rt; gave_up(&tried));
+    let mut taken = Rows::new(rt.alloc(), 2);
+    taken.push(true, &[1, 3], -3)?;
+    taken.push(false, &[1 - half, 0], -1)?;
+    let tried = try_decide(rt.alloc(), &taken.view())?;
+    assert!(rt; gave_up(&tried));
+    Ok(())
+}
+
+#[test]
+fn each_number_of_a_sum_that_does_not_fit(rt: HostRuntime) -> Result<(), Fail> {
+    let half = 85070591730234615865843651857942052864;
+    let mut product = Rows::new(rt.alloc(), 2);
+    product.push(false, &[-2, 2], 1 - half)?;
+    product.push(false, &[1, -3], -3)?;
+    let tried = try_decide(rt.alloc(), &product.view())?;
+    assert!(rt; gave_up(&tried));
+    let mut sum = Rows::new(rt.alloc(), 2);
+    sum.push(true, &[-1, -2], 2)?;
+    sum.push(true, &[-3, half - 1], 2)?;
+    let tried = try_decide(rt.alloc(), &sum.view())?;
+    assert!(rt; gave_up(&tried));
+    Ok(())
+}
+
+#[test]
+fn the_first_row_that_is_out_decides(rt: HostRuntime) -> Result<(), Fail> {
+    let half = 85070591730234615865843651857942052864;
+    let mut below = Rows::new(rt.alloc(), 1);
+    below.push(false, &[-1], -half)?;
+    below.push(false, &[0], -1)?;
+    below.push(false, &[4], 0)?;
+    let tried = try_decide(rt.alloc(), &below.view())?;
+    assert!(rt; is_refuted(&tried, &[(2, 1)]));
+    let mut lowest = Rows::new(rt.alloc(), 1);
+    lowest.push(false, &[0], -1)?;
+    lowest.push(true, &[0], -1)?;
+    let tried = try_decide(rt.alloc(), &lowest.view())?;
+    assert!(rt; is_refuted(&tried, &[(1, 1)]));
+    let mut opposed = Rows::new(rt.alloc(), 1);
+    opposed.push(true, &[-1], 1)?;
+    opposed.push(true, &[1], 0)?;
+    let tried = try_decide(rt.alloc(), &opposed.view())?;
+    assert!(rt; is_refuted(&tried, &[(1, -1), (2, -1)]));
+    Ok(())
+}
+
+#[test]
+fn points_of_two_columns(rt: HostRuntime) -> Result<(), Fail> {
+    let mut line = Rows::new(rt.alloc(), 2);
+    line.push(true, &[1, 1], 1)?;
+    let tried = try_decide(rt.alloc(), &line.view())?;
+    assert!(rt; is_point(&tried, &[1, 0], 1));
+    let mut halves = Rows::new(rt.alloc(), 2);
+    halves.push(false, &[0, 2], -1)?;
+    halves.push(false, &[1, 1], -2)?;
+    let tried = try_decide(rt.alloc(), &halves.view())?;
+    assert!(rt; is_point(&tried, &[-3, -1], 2));
+    Ok(())
+}
+
 /// A squeezed cube that takes 100 pivots, with rows behind it that say nothing.
 #[test]
 fn the_last_pivots_that_may_be_made(rt: HostRuntime) -> Result<(), Fail> {

@@ -6,7 +6,7 @@ ghost use Rattle.tableau_elim.specs.Rounds as specs;
 ghost use Rattle.tableau_elim.specs.Decision.{outcome_in, IsEvidence};
 ghost use Rattle.tableau_elim.specs.inside.Held.{tableau_of, IsHeld};
 
-use crate::given::given;
+use crate::given::given_tableau;
 use crate::round::{Found, round};
 use crate::tableau::Tableau;
 use farkas_cert::{Cert, NamedRows};
@@ -53,7 +53,7 @@ fn rounds(
         match found {
             Found::Ends(tried) => return Ok(tried),
             Found::Pivots(line, place) => {
-                let next = tableau.pivoted(alloc, line, place)?;
+                let next = tableau.after_pivot(alloc, line, place)?;
                 match next {
                     Some(next) => tableau = next,
                     None => return Ok(Tried::GaveUp),
@@ -71,7 +71,7 @@ pub fn try_decide_named(alloc: Global, rows: &NamedRows<'_>) -> Result<Tried, Al
     ensures evidence { IfOk result (IsEvidence rows.now) }
 {
     let limit = 4 * (u64::from(rows.count()) + u64::from(rows.columns()));
-    let tableau = given(alloc, rows)?;
+    let tableau = given_tableau(alloc, rows)?;
     rounds(alloc, rows, limit, tableau)
 }
 

@@ -105,14 +105,30 @@ fn bad_lines_are_told(rt: HostRuntime) -> Result<(), Fail> {
     Ok(())
 }
 
-/// Two predicates of which the products are above 2^127.
-const GREAT: &str = "s 1 2 : t1.p <= 0, s 1 2 : -t1.p <= 0, \
+/// Two predicates of which the products are above 2^127: the elimination alone would leave, and the tableau decides.
+const STEEP: &str = "s 1 2 : t1.p <= 0, s 1 2 : -t1.p <= 0, \
 s 1 3 : 85070591730234615865843651857942052864*t1.p + t1.q <= 0, \
 s 1 3 : -85070591730234615865843651857942052865*t1.p + t1.q <= 0,";
 
 #[test]
-fn numbers_that_are_too_great_are_left(rt: HostRuntime) -> Result<(), Fail> {
+fn numbers_that_are_too_great_for_the_elimination_are_decided(rt: HostRuntime) -> Result<(), Fail> {
     let text = "void *f(void *a) { int p; int q; p = 0; q = 0; p = 0; } MAIN";
+    let text = spelled(rt.alloc(), text)?;
+    let (status, written) = run_with(rt.alloc(), &text, &lines(rt.alloc(), STEEP)?)?;
+    let facts = "s 1 1 :, s 1 2 : 1 2, s 1 3 : 1 2, s 1 4 :, e 1 1 :, e 1 2 :, e 1 3 :";
+    assert_eq!(rt; written, table(rt.alloc(), facts)?);
+    assert_eq!(rt; status, 0);
+    Ok(())
+}
+
+/// Two predicates of which no sum is within 2^127: both leave.
+const GREAT: &str = "s 1 2 : t1.p <= 0, s 1 2 : -t1.p <= 0, \
+s 1 3 : 85070591730234615865843651857942052864*t1.p + t1.q <= -1, \
+s 1 3 : -85070591730234615865843651857942052865*t1.p + t1.q <= -1,";
+
+#[test]
+fn numbers_that_are_too_great_for_both_are_left(rt: HostRuntime) -> Result<(), Fail> {
+    let text = "void *f(void *a) { int p; int q; p = 0; q = -1; p = 0; } MAIN";
     let text = spelled(rt.alloc(), text)?;
     let (status, written) = run_with(rt.alloc(), &text, &lines(rt.alloc(), GREAT)?)?;
     assert_eq!(rt; written.as_str(), "UNKNOWN leaves\n");

@@ -1,8 +1,9 @@
 use Rattle.std.proofs.Common.{◌≡◌, List, Some, get_or, ap, ap₂, ◌∙◌, arith, to_z, of_z, to_z-of_z}
 use Rattle.std.specs.Prelude.{ℤ, pos}
 use Rattle.std.specs.Int.{w128}
-use Rattle.plain_elim.specs.inside.Combined.{combined_numbers}
-use Rattle.plain_elim.proofs.Combinations.{combined_numbers-more, combined_numbers-stops, combined_numbers-ends, number_fits}
+use Rattle.farkas_cert.specs.Combination.{combined_numbers}
+use Rattle.plain_elim.proofs.Combinations.{combined_numbers-more, combined_numbers-stops, combined_numbers-ends}
+use Rattle.farkas_cert.proofs.Combinations.{number_fits}
 use Rattle.lin_rows.proofs.Numbers.{read_back}
 use Rattle.plain_elim.proofs.combination.combined_numbers.Goals as goal
 

@@ -1,6 +1,6 @@
 use Rattle.std.proofs.Common.{◌≡◌, ◌++◌, drop}
 use Rattle.std.specs.Option.{option_map}
-use Rattle.plain_elim.specs.inside.Combined.{combined_numbers}
+use Rattle.farkas_cert.specs.Combination.{combined_numbers}
 use Rattle.plain_elim.proofs.combination.combined_numbers.Given as goal
 
 abbrev pub invariant-places : goal.invariant-places

@@ -3,7 +3,8 @@ use Rattle.std.specs.Prelude.{ℤ}
 use Rattle.std.specs.List.{AllByRecursion}
 use Rattle.thr_base.specs.Number.{Fits}
 use Rattle.farkas_cert.specs.Divided.{divided}
-use Rattle.plain_elim.proofs.Combinations.{divided_fit, written_back}
+use Rattle.farkas_cert.proofs.Combinations.{divided_fit}
+use Rattle.plain_elim.proofs.Combinations.{written_back}
 use Rattle.plain_elim.proofs.combination.divided_line.Goals as goal
 
 pub of-requires : goal.of-requires

@@ -1,7 +1,8 @@
 use Rattle.std.proofs.Common.{◌∙◌, ap, sym, to_z, of_z, to_z-of_z, Some}
 use Rattle.std.specs.Int.{w128}
 use Rattle.plain_elim.specs.inside.Combined.{numbers_in}
-use Rattle.plain_elim.proofs.Combinations.{combined_fit, made_some, made_none, same_made}
+use Rattle.farkas_cert.proofs.Combinations.{combined_fit}
+use Rattle.plain_elim.proofs.Combinations.{made_some, made_none, same_made}
 use Rattle.plain_elim.proofs.combination.made_line.Goals as goal
 
 pub divided_line-requires : goal.divided_line-requires

@@ -17,4 +17,4 @@ returns c =
     let limit_is : Some limit ≡ fitting (c.args.slack.bound *ℤ divisor_of line) = search rules in
     let sum_read : to_z w128 (of_z w128 sum) ≡ sum = search rules in
     let limit_read : to_z w128 (of_z w128 limit) ≡ limit = search rules in
-    c.compared.ensures ∙ standing_read c.args.slack.equal _ sum _ limit _ _ sum_read limit_read sum_is limit_is
+    c.standing_by_limit.ensures ∙ standing_read c.args.slack.equal _ sum _ limit _ _ sum_read limit_read sum_is limit_is

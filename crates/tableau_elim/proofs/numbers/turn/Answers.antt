@@ -5,7 +5,7 @@ use Rattle.std.proofs.lemmas.List.{take_all}
 use Rattle.thr_base.specs.Number.{Fits}
 use Rattle.lin_rows.proofs.Lists.{AllByRecursion-at}
 use Rattle.lin_rows.proofs.Numbers.{read_back}
-use Rattle.tableau_elim.proofs.Combinations.{mapped-more, get_from_drop}
+use Rattle.farkas_cert.proofs.Combinations.{mapped-more, get_from_drop}
 use Rattle.tableau_elim.proofs.numbers.turn.Goals as goal
 
 pub loop-number-preserved : goal.loop-number-preserved
@@ -17,9 +17,9 @@ loop-number-preserved c =
     let here = get_from_drop numbers given i c.loop-number.invariant.1 in
     let fits = AllByRecursion-at Fits given i (pos 0) c.requires c.loop-number-test.true in
     let read = ap (λ x. to_z w128 (of_z w128 x)) here ∙ read_back (get_or given i (pos 0)) fits in
-    let written : to_z w128 (of_z w128 c.turned.result) ≡ c.turned.result = read_back c.turned.result c.turned.ensures.fits in
-    mapped-more (λ x. neg_ℤ (int_signum p) *ℤ x) numbers given i (to_z w128 (of_z w128 c.turned.result)) c.loop-number-test.true c.loop-number.auto.numbers
-    c.loop-number.invariant.0 c.loop-number.invariant.1 (written ∙ c.turned.ensures.product ∙ ap (λ x. neg_ℤ (int_signum p) *ℤ x) read)
+    let written : to_z w128 (of_z w128 c.with_other_sign.result) ≡ c.with_other_sign.result = read_back c.with_other_sign.result c.with_other_sign.ensures.fits in
+    mapped-more (λ x. neg_ℤ (int_signum p) *ℤ x) numbers given i (to_z w128 (of_z w128 c.with_other_sign.result)) c.loop-number-test.true c.loop-number.auto.numbers
+    c.loop-number.invariant.0 c.loop-number.invariant.1 (written ∙ c.with_other_sign.ensures.product ∙ ap (λ x. neg_ℤ (int_signum p) *ℤ x) read)
 
 pub returns : goal.returns
 returns c =

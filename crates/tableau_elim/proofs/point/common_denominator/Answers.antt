@@ -2,9 +2,9 @@ use Rattle.std.proofs.Common.{◌≡◌, ◌∙◌, pos, Some, None, get_or, to_
 use Rattle.std.specs.Prelude.{unsigned_abs}
 use Rattle.std.specs.Int.{w128}
 use Rattle.lin_rows.specs.Exact.{fitting}
+use Rattle.lin_rows.specs.Gcd.{lcm}
 use Rattle.lin_rows.proofs.Lists.{AllByRecursion-at}
 use Rattle.lin_rows.proofs.Numbers.{read_back}
-use Rattle.tableau_elim.specs.Rounds.{least_common_multiple}
 use Rattle.tableau_elim.specs.inside.Held.{IsValue}
 use Rattle.tableau_elim.specs.declared.point.Value.{Value}
 use Rattle.tableau_elim.proofs.Multiples.{fitting_is, multiple_of_none, multiple_goes_on, multiple_stops, multiple_ends}
@@ -17,21 +17,11 @@ zero_value = record { numerator = pos 0; denominator = pos 0 }
 pub values-init : goal.values-init
 values-init c = multiple_of_none c.args.values.now
 
-pub least_common_multiple-requires-clause-fits : goal.least_common_multiple-requires-clause-fits
-least_common_multiple-requires-clause-fits c = c.values.invariant.fits
+pub multiple_if_fits-requires-clause-first : goal.multiple_if_fits-requires-clause-first
+multiple_if_fits-requires-clause-first c = c.values.invariant.positive
 
-pub least_common_multiple-requires-clause-positive : goal.least_common_multiple-requires-clause-positive
-least_common_multiple-requires-clause-positive c = c.values.invariant.positive
-
-pub least_common_multiple-requires-clause-other_fits : goal.least_common_multiple-requires-clause-other_fits
-least_common_multiple-requires-clause-other_fits c =
-    let k = c.values.place in
-    let value = get_or c.args.values.now k zero_value in
-    let known = AllByRecursion-at IsValue c.args.values.now k zero_value c.requires c.values-test.true in
-    rw (read_back value.denominator known.denominator_fits) known.denominator_fits
-
-pub least_common_multiple-requires-clause-other_positive : goal.least_common_multiple-requires-clause-other_positive
-least_common_multiple-requires-clause-other_positive c =
+pub multiple_if_fits-requires-clause-second : goal.multiple_if_fits-requires-clause-second
+multiple_if_fits-requires-clause-second c =
     let k = c.values.place in
     let value = get_or c.args.values.now k zero_value in
     let known = AllByRecursion-at IsValue c.args.values.now k zero_value c.requires c.values-test.true in
@@ -45,9 +35,9 @@ values-preserved c =
     let value = get_or c.args.values.now k zero_value in
     let known = AllByRecursion-at IsValue c.args.values.now k zero_value c.requires c.values-test.true in
     let read = read_back value.denominator known.denominator_fits in
-    let e : Some z ≡ fitting (pos (least_common_multiple (unsigned_abs d) (unsigned_abs value.denominator))) =
-    c.in-Some.ensures ∙ ap (λ x. fitting (pos (least_common_multiple (unsigned_abs d) (unsigned_abs x)))) read in
-    let is = fitting_is (pos (least_common_multiple (unsigned_abs d) (unsigned_abs value.denominator))) z e in
+    let e : Some z ≡ fitting (pos (lcm (unsigned_abs d) (unsigned_abs value.denominator))) =
+    c.in-Some.ensures ∙ ap (λ x. fitting (pos (lcm (unsigned_abs d) (unsigned_abs x)))) read in
+    let is = fitting_is (pos (lcm (unsigned_abs d) (unsigned_abs value.denominator))) z e in
     rw (read_back z is.1) (multiple_goes_on d z c.args.values.now k value c.values-test.true (get_default c.args.values.now k value zero_value c.values-test.true) known e c.values.invariant)
 
 pub returns-in-None : goal.returns-in-None
@@ -57,8 +47,8 @@ returns-in-None c =
     let value = get_or c.args.values.now k zero_value in
     let known = AllByRecursion-at IsValue c.args.values.now k zero_value c.requires c.values-test.true in
     let read = read_back value.denominator known.denominator_fits in
-    let e : None ≡ fitting (pos (least_common_multiple (unsigned_abs d) (unsigned_abs value.denominator))) =
-    c.in-None.ensures ∙ ap (λ x. fitting (pos (least_common_multiple (unsigned_abs d) (unsigned_abs x)))) read in
+    let e : None ≡ fitting (pos (lcm (unsigned_abs d) (unsigned_abs value.denominator))) =
+    c.in-None.ensures ∙ ap (λ x. fitting (pos (lcm (unsigned_abs d) (unsigned_abs x)))) read in
     multiple_stops d c.args.values.now k value c.values-test.true (get_default c.args.values.now k value zero_value c.values-test.true) c.requires e c.values.invariant
 
 pub returns : goal.returns

@@ -7,7 +7,7 @@ use Rattle.farkas_cert.specs.Divided.{divided}
 use Rattle.farkas_cert.specs.Line.{nonzero_pairs}
 use Rattle.tableau_elim.specs.Rounds.{multipliers}
 use Rattle.tableau_elim.specs.inside.Held.{tableau_of, line_at}
-use Rattle.tableau_elim.proofs.Combinations.{divided_fit}
+use Rattle.farkas_cert.proofs.Combinations.{divided_fit}
 use Rattle.tableau_elim.proofs.Multipliers.{zeros_are, multipliers_fit, held_line, divisor_fit}
 use Rattle.tableau_elim.proofs.refuting.certificate.Goals as goal
 
@@ -16,8 +16,8 @@ weigh-requires-clause-zeros c =
     let zeros : c.in_ok-multipliers.multipliers.items ≡ replicate c.args.rows (pos 0) = search rules in
     zeros_are c.args.rows c.deref_mut.result.now (c.deref_mut.ensures.value ∙ zeros)
 
-pub nonzero_pairs-requires-clause-few : goal.nonzero_pairs-requires-clause-few
-nonzero_pairs-requires-clause-few c =
+pub of_multipliers-requires-clause-few : goal.of_multipliers-requires-clause-few
+of_multipliers-requires-clause-few c =
     let line = line_at c.args.line (tableau_of c.args.tableau.now) in
     let ms = multipliers c.args.side (length c.deref_mut.result.now) c.args.tableau.now.places.items line in
     let long : length c.weigh.new.multipliers ≡ c.in_ok-multipliers.multipliers.len = c.weigh.auto.multipliers ∙ c.deref_mut.ensures.len in
@@ -27,8 +27,8 @@ nonzero_pairs-requires-clause-few c =
     let same = ap length made ∙ long ∙ count in
     omega (arith, same, c.ranges.rows)
 
-pub nonzero_pairs-requires-clause-fit : goal.nonzero_pairs-requires-clause-fit
-nonzero_pairs-requires-clause-fit c =
+pub of_multipliers-requires-clause-fit : goal.of_multipliers-requires-clause-fit
+of_multipliers-requires-clause-fit c =
     let line = line_at c.args.line (tableau_of c.args.tableau.now) in
     let places = c.args.tableau.now.places.items in
     let n = length c.deref_mut.result.now in

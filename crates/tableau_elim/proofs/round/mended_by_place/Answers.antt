@@ -12,6 +12,6 @@ returns-in-Some-clause-place c =
     let place = c.in-Some.place in
     let numbers = take_rest c.numbers_of-numbers.result.now 1 ∙ ap (drop 1) c.numbers_of-numbers.ensures.numbers in
     let e : chosen c.args.side places (drop 1 line.numbers) ≡ Some place =
-    ap₂ (λ ps ts. chosen c.args.side ps ts) (sym c.as_slice.ensures.value) (sym numbers) ∙ sym c.chosen.ensures ∙ c.in-Some.is in
+    ap₂ (λ ps ts. chosen c.args.side ps ts) (sym c.as_slice.ensures.value) (sym numbers) ∙ sym c.chosen_place.ensures ∙ c.in-Some.is in
     let is = chosen_is c.args.side places (drop 1 line.numbers) place e in
     (c.requires.within, is.0, λ z. is.1 (get_rest line.numbers place ∙ z))

@@ -6,8 +6,8 @@ use Rattle.tableau_elim.specs.inside.Held.{tableau_of, line_at, found_of}
 use Rattle.tableau_elim.proofs.Outcomes.{found_refutes, found_line, found_point}
 use Rattle.tableau_elim.proofs.round.round.Goals as goal
 
-pub mended-requires-clause-leads : goal.mended-requires-clause-leads
-mended-requires-clause-leads c = λ side out none.
+pub mended_by_standing-requires-clause-leads : goal.mended_by_standing-requires-clause-leads
+mended_by_standing-requires-clause-leads c = λ side out none.
     let system = c.args.rows.now in
     let tableau = tableau_of c.args.tableau.now in
     let line = line_at c.in-Some.line tableau in
@@ -20,7 +20,7 @@ returns-in-Some-clause-found c =
     let tableau = tableau_of c.args.tableau.now in
     let line = line_at c.in-Some.line tableau in
     let first = sym c.first_out.ensures.line ∙ ap (option_map (λ k. line_at k tableau)) c.in-Some.is in
-    subst (λ (f : Found). IfOk c.mended.result (λ found. found_of tableau found ≡ f)) (found_line system tableau line c.standing_of-standing.result first c.standing_of-standing.ensures) c.mended.ensures.found
+    subst (λ (f : Found). IfOk c.mended_by_standing.result (λ found. found_of tableau found ≡ f)) (found_line system tableau line c.standing_of-standing.result first c.standing_of-standing.ensures) c.mended_by_standing.ensures.found
 
 pub returns-clause-found : goal.returns-clause-found
 returns-clause-found c =

@@ -21,14 +21,14 @@ returns-in-Ends c =
     let found = sym c.in_ok-found.ensures.found ∙ ap (found_of tableau) c.in-Ends.is in
     sym (c.pivots.invariant.leads ∙ ended_at (c.args.limit - c.pivots.made) c.args.rows.now tableau (outcome_in c.in-Ends.tried) found)
 
-pub pivoted-requires-clause-line : goal.pivoted-requires-clause-line
-pivoted-requires-clause-line c = (subst (λ (f : HeldFound). IsForPivot c.pivots.tableau f) c.in-Pivots.is c.in_ok-found.ensures.place).0
+pub after_pivot-requires-clause-line : goal.after_pivot-requires-clause-line
+after_pivot-requires-clause-line c = (subst (λ (f : HeldFound). IsForPivot c.pivots.tableau f) c.in-Pivots.is c.in_ok-found.ensures.place).0
 
-pub pivoted-requires-clause-place : goal.pivoted-requires-clause-place
-pivoted-requires-clause-place c = (subst (λ (f : HeldFound). IsForPivot c.pivots.tableau f) c.in-Pivots.is c.in_ok-found.ensures.place).1
+pub after_pivot-requires-clause-place : goal.after_pivot-requires-clause-place
+after_pivot-requires-clause-place c = (subst (λ (f : HeldFound). IsForPivot c.pivots.tableau f) c.in-Pivots.is c.in_ok-found.ensures.place).1
 
-pub pivoted-requires-clause-number : goal.pivoted-requires-clause-number
-pivoted-requires-clause-number c = (subst (λ (f : HeldFound). IsForPivot c.pivots.tableau f) c.in-Pivots.is c.in_ok-found.ensures.place).2
+pub after_pivot-requires-clause-number : goal.after_pivot-requires-clause-number
+after_pivot-requires-clause-number c = (subst (λ (f : HeldFound). IsForPivot c.pivots.tableau f) c.in-Pivots.is c.in_ok-found.ensures.place).2
 
 pub returns-in-None : goal.returns-in-None
 returns-in-None c =

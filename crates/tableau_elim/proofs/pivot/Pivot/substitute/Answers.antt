@@ -5,7 +5,7 @@ use Rattle.std.specs.List.{AllByRecursion}
 use Rattle.std.proofs.Math.ListN.{length-set}
 use Rattle.thr_base.specs.Number.{Fits}
 use Rattle.farkas_cert.specs.Divided.{divided}
-use Rattle.tableau_elim.specs.inside.Combined.{combined}
+use Rattle.farkas_cert.specs.Combination.{combined_numbers}
 use Rattle.tableau_elim.proofs.Combinations.{made_by, combination_all_fit}
 use Rattle.tableau_elim.proofs.Pivots.{substituted_made, substituted_none}
 use Rattle.tableau_elim.proofs.pivot.Pivot.substitute.Goals as goal
@@ -18,7 +18,7 @@ divide-requires c =
     let b : ℤ = neg_ℤ (int_signum pivot.number) *ℤ get_or numbers (pivot.place + 1) (pos 0) in
     let rest = slice_set numbers (pivot.place + 1) (pos 0) in
     let long : length rest ≡ length pivot.moved.items = simp length-set (sym c.requires.known.size) in
-    let made : combined a rest b pivot.moved.items ≡ Some c.combine.new.numbers = search rules in
+    let made : combined_numbers a rest b pivot.moved.items ≡ Some c.combine.new.numbers = search rules in
     let is = made_by a rest b pivot.moved.items c.combine.new.numbers long made in
     subst (λ (xs : List ℤ). AllByRecursion Fits xs) (sym is.1) (combination_all_fit a rest b pivot.moved.items is.0)
 
@@ -29,7 +29,7 @@ returns c = λ basic.
     let a : ℤ = pos (unsigned_abs pivot.number) in
     let b : ℤ = neg_ℤ (int_signum pivot.number) *ℤ get_or numbers (pivot.place + 1) (pos 0) in
     let rest = slice_set numbers (pivot.place + 1) (pos 0) in
-    let made : combined a rest b pivot.moved.items ≡ Some c.combine.new.numbers = search rules in
+    let made : combined_numbers a rest b pivot.moved.items ≡ Some c.combine.new.numbers = search rules in
     let is : c.divide.new.numbers ≡ divided c.combine.new.numbers = search rules in
     rw is (substituted_made _ basic numbers c.combine.new.numbers a b (sym c.requires.known.size) refl refl made)
 
@@ -40,5 +40,5 @@ returns-then-not-combine c = λ basic.
     let a : ℤ = pos (unsigned_abs pivot.number) in
     let b : ℤ = neg_ℤ (int_signum pivot.number) *ℤ get_or numbers (pivot.place + 1) (pos 0) in
     let rest = slice_set numbers (pivot.place + 1) (pos 0) in
-    let made : combined a rest b pivot.moved.items ≡ None = search rules in
+    let made : combined_numbers a rest b pivot.moved.items ≡ None = search rules in
     substituted_none _ basic numbers a b (sym c.requires.known.size) refl refl made
