@@ -233,7 +233,7 @@ added program lists old new instance one two home (Some held) run is small outco
       (Contains-map (fact_of program) (old.facts ++ record { home = home; held = held } ∷ []) (record { home = home; held = held }) (Contains-push old.facts (record { home = home; held = held }))))),
 )
 
--- ---- an instance on which the elimination leaves
+-- ---- an instance on which the solver leaves
 
 pub found-least : (program : Program) (lists : List (List Row)) (found : FoundFacts) (fact : Fact) → IsRun program lists found → Contains (facts_of program found.facts) fact → Least program Rg (sets_of program lists) fact
 found-least program lists found fact run there = (reverse (facts_of program found.facts), run.derived, Contains-reverse (facts_of program found.facts) fact there)

@@ -23,7 +23,7 @@ pub record AreLeast (program : Program) (lists : List (List Row)) (stored : List
   pub exact : (fact : Fact) → Contains (facts_of program stored) fact ↔ Least program Rg (sets_of program lists) fact
   pub covers : Covers program (LeastSays program Rg (sets_of program lists))
 
--- The elimination leaves on a system that decides an instance over the least set: that of its rows, or it with the negation of a
+-- The solver leaves a system that decides an instance over the least set: that of its rows, or it with the negation of a
 -- predicate of the home of its fact.
 pub record Leaves (program : Program) (lists : List (List Row)) : Type 0 where
   pub instance : Instance Fact

@@ -12,7 +12,7 @@ use std::alloc::{AllocError, Global};
 use thr_base::{Fact, ThreadNo};
 use transition_formula::Program;
 
-/// The least set of facts, or that the elimination left on an instance over it.
+/// The least set of facts, or that the solver left an instance over it.
 #[derive(Drop)]
 pub enum LeastAnswer {
     Facts(Vec<Fact>),

@@ -14,7 +14,7 @@ use std::alloc::{AllocError, Global};
 use thr_base::{Epoch, Fact, HomeNo, Instance};
 use transition_formula::Program;
 
-/// What became of an instance: what it gives is there, or the elimination left.
+/// What became of an instance: what it gives is there, or the solver left it.
 pub(crate) enum Step {
     Done,
     Left,

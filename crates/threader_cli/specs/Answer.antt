@@ -71,7 +71,7 @@ pub data AnswersProgram (program : Program) (lists : List (List Row)) : ℕ → 
   -- The table is that of the least set of rely-guarantee, and what its facts say covers all runs.
   table : (text : List ℕ) → IsTable program Rg (sets_of program lists) text → Covers program (LeastSays program Rg (sets_of program lists))
       → AnswersProgram program lists 0 text
-  -- The elimination leaves a system undecided that the least set asks for.
+  -- The solver leaves a system undecided that the least set asks for.
   leaves : Leaves program lists → AnswersProgram program lists 4 (codes "UNKNOWN leaves\n")
 
 -- The status and the text that follow from a program and the bytes of a file of predicates.

@@ -56,7 +56,7 @@ pub record IsInstance (program : Program) (lists : List (List Row)) (found : Lis
   pub first_is : ArePremises program first
   pub second_is : ArePremises program second
 
--- What a step leaves: a run that has gone on, and whatever else it says of the facts; or a system on which the elimination leaves.
+-- What a step leaves: a run that has gone on, and whatever else it says of the facts; or a system that the solver leaves.
 abbrev pub IsStep : Program → List (List Row) → FoundFacts → FoundFacts → (List StoredFact → Type 0) → Step → Type 0
 IsStep program lists old new Says Done = IsRun program lists new × Extends old.facts new.facts × Says new.facts
 IsStep program lists old new Says Left = Leaves program lists
