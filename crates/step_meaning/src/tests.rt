@@ -1,10 +1,18 @@
-ghost use Rattle.std.specs.Prelude.{◌≡◌, length};
+ghost use Rattle.std.specs.Prelude.{◌≡◌, IfOk};
+ghost use Rattle.std.specs.List.{AllByRecursion};
+ghost use Rattle.thr_base.specs.Number.{Fits};
+ghost use Rattle.lin_rows.specs.System.{IsRowOver};
+ghost use Rattle.transition_formula.specs.Program.{IsFormOver};
+ghost use Rattle.transition_formula.specs.Stored.{edge_of};
 ghost use Rattle.transition_formula.specs.inside.Worked.{worked_program};
 
 use super::*;
+use crate::look::first_stop;
+use lin_rows::Rows;
+use std::alloc::{AllocError, Global};
 use std::test::Fail;
-use thr_base::{EdgeNo, ThreadNo};
-use transition_formula::{Program, two_threads};
+use thr_base::{EdgeNo, Loc, ThreadNo};
+use transition_formula::{Edge, Line, Program, two_threads};
 
 /// The least power of 2 whose double does not fit.
 const HALF: i128 = 85070591730234615865843651857942052864;
@@ -90,5 +98,41 @@ fn steps_whose_numbers_do_not_fit(rt: HostRuntime) -> Result<(), Fail> {
     // The counter is looked at first.
     assert!(rt; is_blocked(first(&program, [HALF, 9, 2, 1], 1)));
     assert!(rt; is_blocked(second(&program, [GREATEST, 9, 1, 2])));
+    Ok(())
+}
+
+/// Where `x <= bound`, it adds 1 to x. The counter is the second column.
+fn adds_one(alloc: Global, bound: i128) -> Result<Edge, AllocError>
+    requires { Fits bound }
+    ensures tests { IfOk result (λ edge. AllByRecursion (IsRowOver 2) (edge_of edge).tests) }
+    ensures sets { IfOk result (λ edge. AllByRecursion (λ set. IsFormOver 2 set.1) (edge_of edge).sets) }
+{
+    let mut tests = Rows::new(alloc, 2);
+    tests.push(false, &[1, 0], bound)?;
+    let coefficients = Vec::from_slice(alloc, &[1, 0])?;
+    let mut sets = Vec::new(alloc);
+    sets.push((
+        0,
+        Line {
+            coefficients,
+            constant: 1,
+        },
+    ))?;
+    Ok(Edge {
+        from: Loc(1),
+        to: Loc(2),
+        inputs: 0,
+        tests,
+        sets,
+    })
+}
+
+#[test]
+fn a_false_test_before_a_set_that_does_not_fit(rt: HostRuntime) -> Result<(), Fail> {
+    let blocked = adds_one(rt.alloc(), 5)?;
+    let overflows = adds_one(rt.alloc(), GREATEST)?;
+    assert!(rt; first_stop(1, &blocked, &[GREATEST, 1], &[]) == Some(false));
+    assert!(rt; first_stop(1, &overflows, &[GREATEST, 1], &[]) == None);
+    assert!(rt; first_stop(1, &blocked, &[5, 1], &[]) == Some(true));
     Ok(())
 }
