@@ -115,7 +115,8 @@ least-closed program rule sets gives instance given z has is all point =
 
 -- ---- where homes have no predicates
 
-no-number : (k : ℕ) (atom : Row) → numbered [] k ≡ Some atom → ⊥
+-- an empty list has no number
+pub no-number : (k : ℕ) (atom : Row) → numbered [] k ≡ Some atom → ⊥
 no-number zero atom e = cc
 no-number (suc k) atom e = cc
 

@@ -81,9 +81,6 @@ counter-is program i thread column e at =
     let here : Some thread.counter ≡ Some column = sym (ap (option_map (λ (found : Thread). found.counter)) at) ∙ e in
     cc
 
-pub length-with_row : (now more : System) (row : Row) → more ≡ with_row now row → length more.rows ≡ length now.rows + 1
-length-with_row now more row is = ap (λ system. length system.rows) is ∙ length-append now.rows (row ∷ [])
-
 -- ---- what a premise says
 
 pub atoms-over : (program : Program) (home : Home) (atoms given : List Row) (n : ℕ) → IsSetOf program home atoms → given ≡ atoms → n ≡ home_width (length program.columns) home
