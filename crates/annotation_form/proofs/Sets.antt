@@ -16,7 +16,6 @@ use Rattle.predicate_sets.proofs.Atoms.{AreDistinct-append}
 use Rattle.predicate_sets.specs.Sets.{set_at, with_set}
 use Rattle.annotation_form.specs.Predicates.{Predicate, IsPredicateOf, AreAllowed, home_atoms, most_atoms_read, lists_of}
 use Rattle.annotation_form.specs.inside.Reading.{HasRoom}
-use Rattle.annotation_form.proofs.Cuts.{AllByRecursion-right}
 
 -- ---- the atoms at a home
 
@@ -154,4 +153,4 @@ allowed-room program before p more allowed =
     }
 
 pub allowed-last : (program : Program) (before : List Predicate) (p : Predicate) (more : List Predicate) → AreAllowed program (before ++ p ∷ more) → IsPredicateOf program p
-allowed-last program before p more allowed = (AllByRecursion-right (IsPredicateOf program) before (p ∷ more) allowed.of_program).0
+allowed-last program before p more allowed = (AllByRecursion-rest (IsPredicateOf program) before (p ∷ more) allowed.of_program).0
