@@ -13,7 +13,7 @@ use Rattle.transition_formula.specs.Program.{Program, IsThreadOf, IsEdgeOf, numb
 use Rattle.transition_formula.specs.inside.Worked.{worked_program, worked_thread, first_edge, second_edge}
 use Rattle.horn_rules.specs.declared.job.Premise.{Premise}
 use Rattle.horn_rules.specs.declared.job.Job.{Job}
-use Rattle.horn_rules.specs.Home.{Home, State, Env, homes, home_width}
+use Rattle.horn_rules.specs.Home.{Home, State, Env, homes, home_width, IsLocationOf}
 use Rattle.horn_rules.specs.Fact.{IsAtomOf, IsSetOf}
 use Rattle.horn_rules.specs.Instance.{Init, Own, Guar, Env as Environment}
 use Rattle.horn_rules.specs.Case.{init_case, own_case, guar_case, env_case, init, own, guar, env}
@@ -121,7 +121,7 @@ env-job program job id told p q worked instance_is first second first_is second_
     let thread = worked_thread 3 second_edge in
     let f = premise_says program p in
     let t = premise_says program q in
-    let there : IsThreadOf program 1 other = rw worked refl in
+    let there : IsLocationOf program 1 1 other = rw worked (record { thread_is = refl; within = omega arith }) in
     let edge_at : IsEdgeOf program 2 1 thread second_edge = rw worked (record { thread_is = refl; edge_is = refl }) in (
       env_case program 1 1 other thread second_edge f t,
       record {

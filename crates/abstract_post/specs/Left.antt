@@ -1,6 +1,8 @@
 -- When a job is left undecided, and what an answer says of a job.
 use Rattle.std.specs.Prelude.{◌≡◌, List, [], ◌∷◌, map, Option, Some, None}
 use Rattle.std.specs.Option.{option_or}
+use Rattle.std.specs.List.{AllByRecursion}
+use Rattle.thr_base.specs.declared.names.RuleName.{RuleName}
 use Rattle.lin_rows.specs.Row.{Row}
 use Rattle.lin_rows.specs.System.{System}
 use Rattle.farkas_cert.specs.Proof.{denying}
@@ -10,7 +12,9 @@ use Rattle.transition_formula.specs.Program.{Program}
 use Rattle.horn_rules.specs.declared.job.Job.{Job}
 use Rattle.horn_rules.specs.declared.posted.PostAnswer.{PostAnswer}
 use Rattle.horn_rules.specs.declared.posted.PostAnswer.TheVariants.{Posted, Left}
-use Rattle.horn_rules.specs.Case.{Case}
+use Rattle.horn_rules.specs.Fact.{Sets, Fact, statement_of}
+use Rattle.horn_rules.specs.Instance.{Instance, HasKind, premises_of, map_instance}
+use Rattle.horn_rules.specs.Case.{Case, IsCaseOf}
 use Rattle.horn_rules.specs.Job.{ComesTo, IsOutcome}
 
 -- the kind with which the first of these systems is left that is left undecided
@@ -25,6 +29,17 @@ systems_of given atoms = given.system ∷ map (λ atom. denying given.system (gi
 -- Some of these is left undecided, and the first one with this kind.
 abbrev pub IsLeft : Case → List Row → LeaveKind → Type 0
 IsLeft given atoms kind = first_leave (systems_of given atoms) ≡ Some kind
+
+-- An instance of the rule leaves, over facts of which this is said: some system that decides it is left undecided, and the first one with
+-- this kind.
+pub record Leaves (program : Program) (rule : RuleName) (sets : Sets) (Stands : Fact → Type 0) : Type 0 where
+  pub instance : Instance Fact
+  pub given : Case
+  pub kind : LeaveKind
+  pub has_kind : HasKind rule instance
+  pub is_case : IsCaseOf program (map_instance (statement_of sets) instance) given
+  pub stand : AllByRecursion Stands (premises_of instance)
+  pub is_left : IsLeft given (sets given.target) kind
 
 -- The job fits, and so it is with its case.
 abbrev pub IsJobLeft : Program → Job → LeaveKind → Type 0

@@ -19,14 +19,6 @@ no_mark m [] (d ∷ y) b p e = cc
 no_mark m (c ∷ x) [] b p e = p.0 (cc)
 no_mark m (c ∷ x) (d ∷ y) b p e = no_mark m x y b p.1 (cc)
 
-pub AllByRecursion-right : {A : Type 0} (P : A → Type 0) (xs ys : List A) → AllByRecursion P (xs ++ ys) → AllByRecursion P ys
-AllByRecursion-right P [] ys all = all
-AllByRecursion-right P (x ∷ xs) ys all = AllByRecursion-right P xs ys all.1
-
-pub AllByRecursion-left : {A : Type 0} (P : A → Type 0) (xs ys : List A) → AllByRecursion P (xs ++ ys) → AllByRecursion P xs
-AllByRecursion-left P [] ys all = tt
-AllByRecursion-left P (x ∷ xs) ys all = (all.0, AllByRecursion-left P xs ys all.1)
-
 pub lines_text-append : (xs ys : List (List ℕ)) (r : List ℕ) → lines_text (xs ++ ys) ++ r ≡ lines_text xs ++ (lines_text ys ++ r)
 lines_text-append [] ys r = refl
 lines_text-append (x ∷ xs) ys r =

@@ -7,3 +7,4 @@ pub mod Sets
 pub mod RoomLemmas
 pub mod LineTexts
 pub mod ReadLines
+pub mod TextsTold

@@ -33,8 +33,8 @@ marked_or_not m (b ∷ text) = elim (eqb_tells b m) [
   ]
 ]
 
-pub unmarked : (m : ℕ) (text : List ℕ) → position (λ b. b == m) text ≡ None → AllByRecursion (λ b. b ≢ m) text
-unmarked m text none = elim (marked_or_not m text) [
+pub position-None : (m : ℕ) (text : List ℕ) → position (λ b. b == m) text ≡ None → AllByRecursion (λ b. b ≢ m) text
+position-None m text none = elim (marked_or_not m text) [
   | inl plain ↦ plain
   | inr marked ↦ absurd (not-both (length marked.front) (sym none ∙ ap (position (λ b. b == m)) marked.split.text_is ∙ position-marked m marked.front marked.behind marked.split.plain))
 ]

@@ -4,23 +4,23 @@ use Rattle.std.specs.List.{AllByRecursion}
 use Rattle.std.proofs.lemmas.Bool.Decides.{leb_tells}
 use Rattle.std.proofs.lemmas.List.{map-append, length-map, append_cancel_right}
 use Rattle.lin_rows.specs.Row.{Row}
-use Rattle.lin_rows.proofs.Lists.{AllByRecursion-append}
+use Rattle.lin_rows.proofs.Lists.{AllByRecursion-append, AllByRecursion-front, AllByRecursion-rest}
 use Rattle.transition_formula.specs.Program.{Program, IsProgram}
 use Rattle.horn_rules.specs.Home.{homes}
 use Rattle.annotation_form.specs.Lines.{IsLine, lines_text}
-use Rattle.annotation_form.specs.Predicates.{Predicate, IsPredicateOf, AreAllowed, IsPredicatesText, predicate_text, predicate_texts, lists_of}
-use Rattle.annotation_form.specs.BadLine.{Begin, IsRefused, Ended, NotEnded, IsBadLine, IsReadAs}
+use Rattle.annotation_form.specs.Predicates.{Predicate, IsPredicateOf, AreAllowed, IsPredicatesText, IsTextOfPredicates, IsReadAs, predicate_text, predicate_texts, lists_of}
+use Rattle.annotation_form.specs.BadLine.{Begin, IsRefused, Ended, NotEnded, IsBadLine}
 use Rattle.annotation_form.specs.inside.Reading.{HasRoom, IsLineOf, IsTaken, IsReadSoFar}
-use Rattle.annotation_form.proofs.Cuts.{AllByRecursion-left, AllByRecursion-right, lines_text-more, length-lines_text, Longer, cut-lines, cut-open}
+use Rattle.annotation_form.proofs.Cuts.{lines_text-more, length-lines_text, Longer, cut-lines, cut-open}
 use Rattle.annotation_form.proofs.Marks.{marked_or_not, Marked}
 use Rattle.annotation_form.proofs.Sets.{allowed-none, allowed-more, allowed-room, allowed-last, lists_of-none}
 use Rattle.annotation_form.proofs.LineTexts.{predicates-lines, predicate-no_end, predicates-no_end, end-line}
 
 -- the lines of a text of predicates
-abbrev all_lines : Program → List Predicate → List (List ℕ)
+abbrev pub all_lines : Program → List Predicate → List (List ℕ)
 all_lines program ps = predicate_texts program ps ++ codes "end" ∷ []
 
-all-lines : (program : Program) (ps : List Predicate) → IsProgram program → AllByRecursion (IsPredicateOf program) ps → AllByRecursion IsLine (all_lines program ps)
+pub all-lines : (program : Program) (ps : List Predicate) → IsProgram program → AllByRecursion (IsPredicateOf program) ps → AllByRecursion IsLine (all_lines program ps)
 all-lines program ps is of = AllByRecursion-append IsLine (predicate_texts program ps) (codes "end" ∷ []) (predicates-lines program ps is of) (end-line, tt)
 
 more-lines : (xs : List (List ℕ)) (x : List ℕ) → AllByRecursion IsLine xs → IsLine x → AllByRecursion IsLine (xs ++ x ∷ [])
@@ -47,7 +47,8 @@ cut-whole xs ys r p q e =
           )
     ]
 
-same-lines : (xs ys : List (List ℕ)) → AllByRecursion IsLine xs → AllByRecursion IsLine ys → lines_text xs ≡ lines_text ys → xs ≡ ys
+-- texts of lines tell these
+pub same-lines : (xs ys : List (List ℕ)) → AllByRecursion IsLine xs → AllByRecursion IsLine ys → lines_text xs ≡ lines_text ys → xs ≡ ys
 same-lines xs ys p q e =
     let cut = cut-whole xs ys [] p q (append-nil (lines_text xs) ∙ e) in
     sym (cut.lines_are ∙ none-equal xs cut.more (no_more cut.more [] cut.rest_is))
@@ -138,8 +139,8 @@ only-more program before others p line only only_line p_text of e =
     let lines = e ∙ texts-more program before p line p_text in
     let on = last-text program others (predicate_texts program before) line lines in
     let all = subst (AllByRecursion (IsPredicateOf program)) on.are of in
-    let front : on.front ≡ before = only on.front (AllByRecursion-left (IsPredicateOf program) on.front (on.next ∷ on.back) all) on.front_texts in
-    let next : on.next ≡ p = only_line on.next (record { of_program = (AllByRecursion-right (IsPredicateOf program) on.front (on.next ∷ on.back) all).0; line_is = sym on.next_text }) in
+    let front : on.front ≡ before = only on.front (AllByRecursion-front (IsPredicateOf program) on.front (on.next ∷ on.back) all) on.front_texts in
+    let next : on.next ≡ p = only_line on.next (record { of_program = (AllByRecursion-rest (IsPredicateOf program) on.front (on.next ∷ on.back) all).0; line_is = sym on.next_text }) in
     let none : on.back ≡ [] = no-back on.back (
     omega (
       arith,
@@ -199,21 +200,22 @@ so_far-only program text sets number left rest is s left_is none predicates is_t
 
 -- ---- a line is bad
 
-begins : (program : Program) (before : List Predicate) → AreAllowed program before → Begin program (predicate_texts program before)
+begins : (program : Program) (before : List Predicate) → AreAllowed program before → Begin (IsTextOfPredicates program) (predicate_texts program before)
 begins program before allowed = record {
-  predicates = before;
   rest = codes "end" ++ (10 ∷ []);
-  is_text = record {
-    allowed = allowed;
-    text_is = sym (lines_text-more (predicate_texts program before) (codes "end") []) ∙ append-nil (lines_text (all_lines program before));
-  };
+  is_text = (
+    before,
+    record {
+      allowed = allowed;
+      text_is = sym (lines_text-more (predicate_texts program before) (codes "end") []) ∙ append-nil (lines_text (all_lines program before));
+    },
+  );
 }
 
-begins-whole : (program : Program) (before : List Predicate) → AreAllowed program before → Begin program (all_lines program before)
+begins-whole : (program : Program) (before : List Predicate) → AreAllowed program before → Begin (IsTextOfPredicates program) (all_lines program before)
 begins-whole program before allowed = record {
-  predicates = before;
   rest = [];
-  is_text = record { allowed = allowed; text_is = append-nil (lines_text (all_lines program before)) };
+  is_text = (before, record { allowed = allowed; text_is = append-nil (lines_text (all_lines program before)) });
 }
 
 -- A predicate with this line has room.
@@ -227,7 +229,7 @@ has-next : (program : Program) (before ps : List Predicate) (line : List ℕ) �
     → GoesOn program ps (predicate_texts program before) line → HasNext program before line
 has-next program before ps line allowed only on =
     let all : AllByRecursion (IsPredicateOf program) (on.front ++ on.next ∷ on.back) = subst (AllByRecursion (IsPredicateOf program)) on.are allowed.of_program in
-    let front : on.front ≡ before = only on.front (AllByRecursion-left (IsPredicateOf program) on.front (on.next ∷ on.back) all) on.front_texts in
+    let front : on.front ≡ before = only on.front (AllByRecursion-front (IsPredicateOf program) on.front (on.next ∷ on.back) all) on.front_texts in
     let here : AreAllowed program (before ++ on.next ∷ on.back) = subst (AreAllowed program) (on.are ∙ ap (λ (f : List Predicate). f ++ on.next ∷ on.back) front) allowed in
     record {
       next = on.next;
@@ -237,17 +239,17 @@ has-next program before ps line allowed only on =
 
 not-begin : (program : Program) (before : List Predicate) (line : List ℕ) → IsProgram program → AllByRecursion (IsPredicateOf program) before
     → ((qs : List Predicate) → AllByRecursion (IsPredicateOf program) qs → predicate_texts program qs ≡ predicate_texts program before → qs ≡ before)
-    → IsLine line → line ≢ codes "end" → ((p : Predicate) → IsLineOf program p line → ¬ HasRoom before p) → ¬ Begin program (predicate_texts program before ++ line ∷ [])
+    → IsLine line → line ≢ codes "end" → ((p : Predicate) → IsLineOf program p line → ¬ HasRoom before p) → ¬ Begin (IsTextOfPredicates program) (predicate_texts program before ++ line ∷ [])
 not-begin program before line is of only is_line other none b =
     let xs = predicate_texts program before in
-    let ps = b.predicates in
-    let cut = cut-whole (xs ++ line ∷ []) (all_lines program ps) b.rest (more-lines xs line (predicates-lines program before is of) is_line) (all-lines program ps is b.is_text.allowed.of_program) b.is_text.text_is in
+    let (ps, is_text) = b.is_text in
+    let cut = cut-whole (xs ++ line ∷ []) (all_lines program ps) b.rest (more-lines xs line (predicates-lines program before is of) is_line) (all-lines program ps is is_text.allowed.of_program) is_text.text_is in
     let on = goes-on program ps xs cut.more line (cut.lines_are ∙ append_assoc xs (line ∷ []) cut.more) (predicates-no_end program before) other in
-    let found = has-next program before ps line b.is_text.allowed only on in
+    let found = has-next program before ps line is_text.allowed only on in
     none found.next found.is_line found.has_room
 
 pub so_far-bad : (program : Program) (text : List ℕ) (sets : List (List Row)) (number : ℕ) (left line rest : List ℕ) → IsProgram program → (s : IsReadSoFar program text sets number left)
-    → left ≡ line ++ (10 ∷ rest) → IsLine line → line ≢ codes "end" → ((p : Predicate) → IsLineOf program p line → ¬ HasRoom s.before p) → IsBadLine program text number
+    → left ≡ line ++ (10 ∷ rest) → IsLine line → line ≢ codes "end" → ((p : Predicate) → IsLineOf program p line → ¬ HasRoom s.before p) → IsBadLine (IsTextOfPredicates program) text number
 so_far-bad program text sets number left line rest is s left_is is_line other none = record {
   before = predicate_texts program s.before;
   rest = left;
@@ -271,10 +273,10 @@ no-whole program before ps left is of of' is_line e =
     let few = cut-open xs ys left [] x_lines y_lines is_line whole in
     let cut = cut-lines ys xs [] left y_lines x_lines (sym whole) few in
     let no_ends : AllByRecursion (λ x. x ≢ codes "end") (ys ++ cut.more) = subst (AllByRecursion (λ x. x ≢ codes "end")) cut.lines_are (predicates-no_end program before) in
-    (AllByRecursion-right (λ x. x ≢ codes "end") (predicate_texts program ps) (codes "end" ∷ []) (AllByRecursion-left (λ x. x ≢ codes "end") ys cut.more no_ends)).0 refl
+    (AllByRecursion-rest (λ x. x ≢ codes "end") (predicate_texts program ps) (codes "end" ∷ []) (AllByRecursion-front (λ x. x ≢ codes "end") ys cut.more no_ends)).0 refl
 
 pub so_far-open : (program : Program) (text : List ℕ) (sets : List (List Row)) (number : ℕ) (left : List ℕ) → IsProgram program → (s : IsReadSoFar program text sets number left) → IsLine left
-    → IsBadLine program text number
+    → IsBadLine (IsTextOfPredicates program) text number
 so_far-open program text sets number left is s is_line = record {
   before = predicate_texts program s.before;
   rest = left;
@@ -282,17 +284,17 @@ so_far-open program text sets number left is s is_line = record {
   text_is = s.text_is;
   number = s.number_is ∙ ap (λ (k : ℕ). k + 1) (sym (length-map s.before (predicate_text program)));
   begin = begins program s.before s.allowed;
-  refused = NotEnded is_line (λ ps is_text. no-whole program s.before ps left is s.allowed.of_program is_text.allowed.of_program is_line is_text.text_is);
+  refused = NotEnded is_line (λ found. no-whole program s.before found.0 left is s.allowed.of_program found.1.allowed.of_program is_line found.1.text_is);
 }
 
 -- something stands behind the last line
 
 not-longer : (program : Program) (before : List Predicate) (line : List ℕ) → IsProgram program → AllByRecursion (IsPredicateOf program) before → IsLine line
-    → ¬ Begin program (all_lines program before ++ line ∷ [])
+    → ¬ Begin (IsTextOfPredicates program) (all_lines program before ++ line ∷ [])
 not-longer program before line is of is_line b =
     let xs = all_lines program before in
-    let ps = b.predicates in
-    let cut = cut-whole (xs ++ line ∷ []) (all_lines program ps) b.rest (more-lines xs line (all-lines program before is of) is_line) (all-lines program ps is b.is_text.allowed.of_program) b.is_text.text_is in
+    let (ps, is_text) = b.is_text in
+    let cut = cut-whole (xs ++ line ∷ []) (all_lines program ps) b.rest (more-lines xs line (all-lines program before is of) is_line) (all-lines program ps is is_text.allowed.of_program) is_text.text_is in
     end-last program ps (predicate_texts program before) cut.more line (cut.lines_are ∙ append_assoc xs (line ∷ []) cut.more ∙ append_assoc (predicate_texts program before) (codes "end" ∷ []) (line ∷ cut.more))
 
 no-longer : (program : Program) (before ps : List Predicate) (rest : List ℕ) → IsProgram program → AllByRecursion (IsPredicateOf program) before → AllByRecursion (IsPredicateOf program) ps → 0 < length rest → IsLine rest
@@ -308,12 +310,12 @@ no-longer program before ps rest is of of' some is_line e =
     omega (arith, ap length cut.rest_is, length-append (lines_text cut.more) rest)
 
 refused-behind : (program : Program) (before : List Predicate) (rest : List ℕ) → IsProgram program → AllByRecursion (IsPredicateOf program) before → 0 < length rest → IsLine rest ⊎ Marked 10 rest
-    → IsRefused program (all_lines program before) rest
-refused-behind program before rest is of some (inl is_line) = NotEnded is_line (λ ps is_text. no-longer program before ps rest is of is_text.allowed.of_program some is_line is_text.text_is)
+    → IsRefused (IsTextOfPredicates program) (all_lines program before) rest
+refused-behind program before rest is of some (inl is_line) = NotEnded is_line (λ found. no-longer program before found.0 rest is of found.1.allowed.of_program some is_line found.1.text_is)
 refused-behind program before rest is of some (inr marked) = Ended marked.front marked.behind marked.split.plain marked.split.text_is (not-longer program before marked.front is of marked.split.plain)
 
 pub so_far-behind : (program : Program) (text : List ℕ) (sets : List (List Row)) (number : ℕ) (left rest : List ℕ) → IsProgram program → (s : IsReadSoFar program text sets number left)
-    → left ≡ codes "end" ++ (10 ∷ rest) → 0 < length rest → IsBadLine program text (number + 1)
+    → left ≡ codes "end" ++ (10 ∷ rest) → 0 < length rest → IsBadLine (IsTextOfPredicates program) text (number + 1)
 so_far-behind program text sets number left rest is s left_is some = record {
   before = all_lines program s.before;
   rest = rest;

@@ -16,7 +16,6 @@ use Rattle.predicate_sets.proofs.Atoms.{AreDistinct-append}
 use Rattle.predicate_sets.specs.Sets.{set_at, with_set}
 use Rattle.annotation_form.specs.Predicates.{Predicate, IsPredicateOf, AreAllowed, home_atoms, most_atoms_read, lists_of}
 use Rattle.annotation_form.specs.inside.Reading.{HasRoom}
-use Rattle.annotation_form.proofs.Cuts.{AllByRecursion-right}
 
 -- ---- the atoms at a home
 
@@ -32,15 +31,15 @@ same_home-tells (Env i l) (Env j m) = elim (eqb_tells i j) [
   | inr p ↦ inr (rw p.0 refl, λ e. p.1 (cc))
 ]
 
-taken : (b : Bool) (a : Row) (r s : List Row) → (if b then a ∷ (r ++ s) else r ++ s) ≡ (if b then a ∷ r else r) ++ s
-taken true a r s = refl
-taken false a r s = refl
+if-append : (b : Bool) (a : Row) (r s : List Row) → (if b then a ∷ (r ++ s) else r ++ s) ≡ (if b then a ∷ r else r) ++ s
+if-append true a r s = refl
+if-append false a r s = refl
 
 pub home_atoms-append : (home : Home) (xs ys : List Predicate) → home_atoms home (xs ++ ys) ≡ home_atoms home xs ++ home_atoms home ys
 home_atoms-append home [] ys = refl
 home_atoms-append home (p ∷ xs) ys =
     ap (λ (r : List Row). if same_home home p.home then p.atom ∷ r else r) (home_atoms-append home xs ys)
-    ∙ taken (same_home home p.home) p.atom (home_atoms home xs) (home_atoms home ys)
+    ∙ if-append (same_home home p.home) p.atom (home_atoms home xs) (home_atoms home ys)
 
 home_atoms-here : (home : Home) (p : Predicate) → home ≡ p.home → home_atoms home (p ∷ []) ≡ p.atom ∷ []
 home_atoms-here home p e = elim (same_home-tells home p.home) [
@@ -154,4 +153,4 @@ allowed-room program before p more allowed =
     }
 
 pub allowed-last : (program : Program) (before : List Predicate) (p : Predicate) (more : List Predicate) → AreAllowed program (before ++ p ∷ more) → IsPredicateOf program p
-allowed-last program before p more allowed = (AllByRecursion-right (IsPredicateOf program) before (p ∷ more) allowed.of_program).0
+allowed-last program before p more allowed = (AllByRecursion-rest (IsPredicateOf program) before (p ∷ more) allowed.of_program).0

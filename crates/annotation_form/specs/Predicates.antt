@@ -49,6 +49,16 @@ pub record IsPredicatesText (program : Program) (predicates : List Predicate) (t
   pub allowed : AreAllowed program predicates
   pub text_is : text ≡ lines_text (predicate_texts program predicates ++ codes "end" ∷ [])
 
+-- The text is that of some predicates.
+abbrev pub IsTextOfPredicates : Program → List ℕ → Type 0
+IsTextOfPredicates program text = (predicates : List Predicate) × IsPredicatesText program predicates text
+
 -- the predicates of each home, in the order of the homes' numbers
 abbrev pub lists_of : Program → List Predicate → List (List Row)
 lists_of program predicates = map (λ home. home_atoms home predicates) (homes program)
+
+-- The text is that of some predicates, and these are their sets.
+pub record IsReadAs (program : Program) (text : List ℕ) (sets : List (List Row)) : Type 0 where
+  pub predicates : List Predicate
+  pub is_text : IsPredicatesText program predicates text
+  pub sets_are : sets ≡ lists_of program predicates

@@ -8,7 +8,7 @@ mod laws;
 mod line;
 mod predicates;
 
-pub use laws::one_line_is_bad_at_most;
+pub use laws::{one_line_is_bad_at_most, texts_tell_predicates};
 pub use predicates::read_predicates;
 
 #[cfg(test)]

@@ -1,8 +1,8 @@
 ghost use Rattle.std.specs.Prelude.{◌≡◌, ◌≤◌, List, length, IfOk};
 ghost use Rattle.thr_base.specs.Limits.{text_limit};
 ghost use Rattle.thr_base.specs.Refusals.{MatchLineStop};
-ghost use Rattle.annotation_form.specs.Predicates.{Predicate, IsPredicatesText, lists_of};
-ghost use Rattle.annotation_form.specs.BadLine.{IsBadLine, IsReadAs};
+ghost use Rattle.annotation_form.specs.Predicates.{Predicate, IsPredicatesText, IsReadAs, IsTextOfPredicates, lists_of};
+ghost use Rattle.annotation_form.specs.BadLine.{IsBadLine};
 ghost use Rattle.annotation_form.specs.inside.Reading.{IsLinesAnswer, IsReadOnly};
 
 use crate::adding::take_line;
@@ -49,7 +49,7 @@ fn read_lines(alloc: Global, program: &Program, text: &[u8]) -> Result<Lines, Al
 /// The predicates of a text: for each home of the program its atoms, in the order of their lines.
 pub fn read_predicates(alloc: Global, program: &Program, text: &[u8]) -> Result<Sets, LineStop>
     requires { length text.now ≤ text_limit }
-    ensures answer { MatchLineStop result (IsReadAs program.now text.now) (IsBadLine program.now text.now) }
+    ensures answer { MatchLineStop result (IsReadAs program.now text.now) (IsBadLine (IsTextOfPredicates program.now) text.now) }
     // A text is read as the sets of its predicates, whatever predicates it is the text of.
     ensures only { (predicates : List Predicate) → IsPredicatesText program.now predicates text.now → IfOk result (λ sets. sets ≡ lists_of program.now predicates) }
 {

@@ -1,93 +1,15 @@
-ghost use Rattle.std.specs.Prelude.{◌≡◌, ◌≤◌, ◌<◌, ◌∷◌, [], map, length, IfOk};
+ghost use Rattle.std.specs.Prelude.{◌≡◌, ◌≤◌, length, IfOk};
 ghost use Rattle.thr_base.specs.Limits.{text_limit};
 ghost use Rattle.predicate_sets.specs.Sets.{HasHome};
-ghost use Rattle.transition_formula.specs.Stored.{column_of, edge_of, thread_of};
-ghost use Rattle.horn_rules.specs.inside.Worked.{bare_edge, counter_column, first_thread, second_thread, worked_columns, worked_program};
+ghost use Rattle.horn_rules.specs.inside.Worked.{worked_program};
 
 use super::*;
-use lin_rows::Rows;
+use horn_rules::two_bare_threads;
 use predicate_sets::Sets;
 use std::alloc::{AllocError, Global};
 use std::test::Fail;
-use thr_base::{HomeNo, LineStop, Loc, ThreadNo};
-use transition_formula::{Column, Edge, Program, ThreadGraph};
-
-fn counter(alloc: Global, thread: ThreadNo, text: &[u8]) -> Result<Column, AllocError>
-    ensures { IfOk result (λ made. column_of made ≡ counter_column thread.0 text.now) }
-{
-    let text = Vec::from_slice(alloc, text)?;
-    Ok(Column {
-        text,
-        owner: Some(thread),
-        start: Some(1),
-    })
-}
-
-fn columns(alloc: Global) -> Result<Vec<Column>, AllocError>
-    ensures { IfOk result (λ made. map column_of made.items ≡ worked_columns) }
-{
-    let mut columns = Vec::new(alloc);
-    columns.push(counter(alloc, ThreadNo(1), b"t1.$pc")?)?;
-    columns.push(counter(alloc, ThreadNo(2), b"t2.$pc")?)?;
-    Ok(columns)
-}
-
-/// An edge that only leads on.
-fn edge(alloc: Global, from: Loc, to: Loc) -> Edge
-    ensures { edge_of result ≡ bare_edge from.0 to.0 }
-{
-    Edge {
-        from,
-        to,
-        inputs: 0,
-        tests: Rows::new(alloc, 2),
-        sets: Vec::new(alloc),
-    }
-}
-
-/// The first thread has 3 locations and 2 edges.
-fn first(alloc: Global) -> Result<ThreadGraph, AllocError>
-    ensures { IfOk result (λ made. thread_of made ≡ first_thread) }
-{
-    let mut edges = Vec::new(alloc);
-    edges.push(edge(alloc, Loc(1), Loc(2)))?;
-    edges.push(edge(alloc, Loc(2), Loc(0)))?;
-    Ok(ThreadGraph {
-        counter: 0,
-        locations: 3,
-        edges,
-    })
-}
-
-/// The second thread has 4 locations and 1 edge.
-fn second(alloc: Global) -> Result<ThreadGraph, AllocError>
-    ensures { IfOk result (λ made. thread_of made ≡ second_thread) }
-{
-    let mut edges = Vec::new(alloc);
-    edges.push(edge(alloc, Loc(1), Loc(3)))?;
-    Ok(ThreadGraph {
-        counter: 1,
-        locations: 4,
-        edges,
-    })
-}
-
-fn threads(alloc: Global) -> Result<Vec<ThreadGraph>, AllocError>
-    ensures { IfOk result (λ made. map thread_of made.items ≡ first_thread ∷ second_thread ∷ []) }
-{
-    let mut threads = Vec::new(alloc);
-    threads.push(first(alloc)?)?;
-    threads.push(second(alloc)?)?;
-    Ok(threads)
-}
-
-fn worked(alloc: Global) -> Result<Program, AllocError>
-    ensures { IfOk result (λ program. program ≡ worked_program) }
-{
-    let columns = columns(alloc)?;
-    let threads = threads(alloc)?;
-    Ok(Program::new(columns, threads))
-}
+use thr_base::{HomeNo, LineStop};
+use transition_formula::Program;
 
 /// What a text of the program is read as; it has 10 homes.
 fn read(alloc: Global, program: &Program, text: &[u8]) -> Result<Sets, LineStop>
@@ -125,7 +47,7 @@ fn count(sets: &Sets, home: u32) -> Option<usize>
 #[test]
 fn predicates_of_homes_in_the_order_of_lines(rt: HostRuntime) -> Result<(), Fail> {
     let alloc = rt.alloc();
-    let program = worked(alloc)?;
+    let program = two_bare_threads(alloc)?;
     let text = b"e 1 2 : t1.$pc - t2.$pc' <= 0
 s 2 0 : t1.$pc <= 3
 s 1 1 : -t2.$pc <= 4
@@ -167,7 +89,7 @@ fn is_bad(alloc: Global, program: &Program, line: &[u8]) -> Result<bool, AllocEr
 
 #[test]
 fn lines_that_cannot_stand(rt: HostRuntime) -> Result<(), Fail> {
-    let program = worked(rt.alloc())?;
+    let program = two_bare_threads(rt.alloc())?;
     let lines = b"s 1 3 : t1.$pc <= 1
 s 0 1 : t1.$pc <= 1
 s 3 1 : t1.$pc <= 1
@@ -211,7 +133,7 @@ s 1 1";
 #[test]
 fn texts_that_end_badly(rt: HostRuntime) -> Result<(), Fail> {
     let alloc = rt.alloc();
-    let program = worked(alloc)?;
+    let program = two_bare_threads(alloc)?;
     assert_eq!(rt; bad_line(alloc, &program, b""), Some(1));
     assert_eq!(rt; bad_line(alloc, &program, b"end"), Some(1));
     assert_eq!(rt; bad_line(alloc, &program, b"\nend\n"), Some(1));
@@ -236,7 +158,7 @@ fn texts_that_end_badly(rt: HostRuntime) -> Result<(), Fail> {
 #[test]
 fn a_third_atom_at_a_home_is_bad(rt: HostRuntime) -> Result<(), Fail> {
     let alloc = rt.alloc();
-    let program = worked(alloc)?;
+    let program = two_bare_threads(alloc)?;
     let text = b"s 1 1 : t1.$pc <= 3
 s 1 1 : t1.$pc <= 4
 s 1 2 : t1.$pc <= 5
@@ -250,4 +172,5 @@ end
 #[test]
 fn laws_are_called() {
     one_line_is_bad_at_most();
+    texts_tell_predicates();
 }

@@ -49,12 +49,12 @@ shape program instance given (init i thread at) = refl
 shape program instance given (own i e thread edge f at home) = (record { i = i; thread = thread; edge = edge; edge_is = at; home_is = home }, refl)
 shape program instance given (guar i e thread edge f at home) = (record { i = i; thread = thread; edge = edge; edge_is = at; home_is = home }, refl)
 shape program instance given (env k l i e other thread edge f t apart there at home_f home_t) = (
-  record { k = k; l = l; thread = other; thread_is = there; home_is = home_f },
+  record { k = k; l = l; thread = other; thread_is = there.thread_is; home_is = home_f },
   record { i = i; e = e; thread = thread; edge = edge; edge_is = at; home_is = home_t },
   refl,
 )
 shape program instance given (inter k l i e other thread edge f g apart there at home_f home_g) = (
-  record { k = k; l = l; thread = other; thread_is = there; home_is = home_f },
+  record { k = k; l = l; thread = other; thread_is = there.thread_is; home_is = home_f },
   record { i = i; thread = thread; edge = edge; edge_is = at; home_is = home_g },
   refl,
 )

@@ -88,23 +88,24 @@ record IsLifted (program : Program) (rule : RuleName) (sets : Sets) (instance : 
   say : map_instance (statement_of sets) facts ≡ instance
   least : AllByRecursion (Least program rule sets) (premises_of facts)
 
-lifted : (program : Program) (rule : RuleName) (sets : Sets) (instance : Instance Statement) → AllByRecursion (LeastSays program rule sets) (premises_of instance)
+-- what the least set says comes from facts of it
+least-premises : (program : Program) (rule : RuleName) (sets : Sets) (instance : Instance Statement) → AllByRecursion (LeastSays program rule sets) (premises_of instance)
     → IsLifted program rule sets instance
-lifted program rule sets (Init i) all = record { facts = Init i; say = refl; least = tt }
-lifted program rule sets (Own f e) all = let (fact, least, says) = all.0 in record { facts = Own fact e; say = ap (λ s. Own s e) (sym says); least = (least, tt) }
-lifted program rule sets (Guar f e) all = let (fact, least, says) = all.0 in record { facts = Guar fact e; say = ap (λ s. Guar s e) (sym says); least = (least, tt) }
-lifted program rule sets (Env f t) all =
+least-premises program rule sets (Init i) all = record { facts = Init i; say = refl; least = tt }
+least-premises program rule sets (Own f e) all = let (fact, least, says) = all.0 in record { facts = Own fact e; say = ap (λ s. Own s e) (sym says); least = (least, tt) }
+least-premises program rule sets (Guar f e) all = let (fact, least, says) = all.0 in record { facts = Guar fact e; say = ap (λ s. Guar s e) (sym says); least = (least, tt) }
+least-premises program rule sets (Env f t) all =
     let (one, least_one, says_one) = all.0 in
     let (other, least_other, says_other) = all.1.0 in
     record { facts = Env one other; say = ap₂ (λ a b. Env a b) (sym says_one) (sym says_other); least = (least_one, (least_other, tt)) }
-lifted program rule sets (Inter f g e) all =
+least-premises program rule sets (Inter f g e) all =
     let (one, least_one, says_one) = all.0 in
     let (other, least_other, says_other) = all.1.0 in
     record { facts = Inter one other e; say = ap₂ (λ a b. Inter a b e) (sym says_one) (sym says_other); least = (least_one, (least_other, tt)) }
 
 pub least-closed : LeastIsClosed
 least-closed program rule sets gives instance given z has is all point =
-    let up = lifted program rule sets instance all in
+    let up = least-premises program rule sets instance all in
     let has_facts = kind-alike rule (statement_of sets) up.facts (subst (HasKind rule) (sym up.say) has) in
     let is_facts : IsCaseOf program (map_instance (statement_of sets) up.facts) given = subst (λ i. IsCaseOf program i given) (sym up.say) is in
     let (fact, posted) = gives up.facts given z has_facts is_facts up.least point in (
@@ -115,7 +116,8 @@ least-closed program rule sets gives instance given z has is all point =
 
 -- ---- where homes have no predicates
 
-no-number : (k : ℕ) (atom : Row) → numbered [] k ≡ Some atom → ⊥
+-- an empty list has no number
+pub no-number : (k : ℕ) (atom : Row) → numbered [] k ≡ Some atom → ⊥
 no-number zero atom e = cc
 no-number (suc k) atom e = cc
 

@@ -1,8 +1,7 @@
 -- Rows of facts at states and steps that the facts describe.
-use Rattle.std.proofs.Common.{◌≡◌, ◌≢◌, ℕ, ◌+◌, ◌<◌, ◌≤◌, ℤ, pos, ◌+ℤ◌, ◌≤ℤ◌, List, [], ◌∷◌, ◌++◌, map, length, get_or, false, cond, Some, refl, sym, ap, subst, ◌∙◌, arith, length-append, get_or-set_same, inl, inr}
+use Rattle.std.proofs.Common.{◌≡◌, ◌≢◌, ℕ, ◌+◌, ◌<◌, ◌≤◌, ℤ, pos, ◌≤ℤ◌, List, [], ◌∷◌, ◌++◌, map, length, get_or, false, cond, Some, refl, sym, ap, subst, ◌∙◌, arith, length-append, get_or-set_same, inl, inr}
 use Rattle.std.specs.List.{AllByRecursion, slice_get}
 use Rattle.std.specs.Prelude.{MatchBool, ◌==◌, ◌||◌}
-use Rattle.std.proofs.lemmas.Int.{ints}
 use Rattle.std.proofs.lemmas.List.{length-replicate, get_or_append_left}
 use Rattle.std.proofs.lemmas.Option.{slice_get-get_or, get_or_from_slice_get}
 use Rattle.std.proofs.lemmas.Bool.Decides.{eqb_tells}
@@ -19,6 +18,7 @@ use Rattle.horn_rules.specs.Home.{Home, State, home_width}
 use Rattle.horn_rules.specs.Fact.{Statement, IsAtomOf, IsStatementOf}
 use Rattle.horn_rules.specs.Case.{widened, moved, state_rows}
 use Rattle.horn_rules.specs.Steps.{Describes}
+use Rattle.lin_rows.proofs.Integers.{add-nothing_ℤ, nothing-add_ℤ}
 
 -- ---- placed rows
 
@@ -29,20 +29,14 @@ meets-alike row xs y z e h = subst (λ v. MatchBool row.equal (v ≡ row.bound) 
 pub meets-back : (row : Row) (xs y z : List ℤ) → product_of xs z ≡ product_of row.coefficients y → Meets (record row { coefficients = xs }) z → Meets row y
 meets-back row xs y z e h = subst (λ v. MatchBool row.equal (v ≡ row.bound) (v ≤ℤ row.bound)) e h
 
-add-nothing : (a b : ℤ) → b ≡ pos 0 → a +ℤ b ≡ a
-add-nothing a b e = omega (arith, ints)
-
-nothing-add : (a b c : ℤ) → a ≡ pos 0 → b ≡ c → a +ℤ b ≡ c
-nothing-add a b c e f = omega (arith, ints)
-
 pub product-widened : (k : ℕ) (xs y rest : List ℤ) → length xs ≡ length y → product_of (xs ++ zeros k) (y ++ rest) ≡ product_of xs y
-product-widened k xs y rest e = product_of-append xs (zeros k) y rest e ∙ add-nothing (product_of xs y) (product_of (zeros k) rest) (product_of-zeros k rest)
+product-widened k xs y rest e = product_of-append xs (zeros k) y rest e ∙ add-nothing_ℤ (product_of xs y) (product_of (zeros k) rest) (product_of-zeros k rest)
 
 product-moved : (n m : ℕ) (xs before after inputs : List ℤ) → length before ≡ n → length xs ≡ length after
     → product_of (zeros n ++ (xs ++ zeros m)) (before ++ (after ++ inputs)) ≡ product_of xs after
 product-moved n m xs before after inputs one e =
     product_of-append (zeros n) (xs ++ zeros m) before (after ++ inputs) (length-replicate n (pos 0) ∙ sym one)
-    ∙ nothing-add _ _ _ (product_of-zeros n before) (product-widened m xs after inputs e)
+    ∙ nothing-add_ℤ _ _ _ (product_of-zeros n before) (product-widened m xs after inputs e)
 
 pub widened-meet : (program : Program) (home : Home) (k : ℕ) (atoms : List Row) (state rest : List ℤ) → length state ≡ home_width (length program.columns) home
     → AllByRecursion (IsAtomOf program home) atoms → AllByRecursion (λ atom. Meets atom state) atoms → AllByRecursion (λ row. Meets row (state ++ rest)) (map (widened k) atoms)

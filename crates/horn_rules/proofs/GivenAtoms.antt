@@ -12,7 +12,7 @@ use Rattle.horn_rules.specs.Home.{Home}
 use Rattle.horn_rules.specs.Fact.{Sets, Fact, Statement, IsAtomOf, AreSetsOf, IsStatementOf, statement_of}
 use Rattle.horn_rules.specs.Instance.{Instance}
 use Rattle.horn_rules.specs.Case.{Case, IsCaseOf, init, own, guar, env, inter}
-use Rattle.horn_rules.specs.Post.{EntailsAt}
+use Rattle.horn_rules.specs.Post.{EntailsAt, IsGiven}
 use Rattle.horn_rules.specs.Laws.{FactsAreGiven, GivenAtomsHold}
 use Rattle.horn_rules.proofs.Lists.{all-picked}
 use Rattle.horn_rules.proofs.WiderAtoms.{IsAtom-widened, IsAtom-moved}
@@ -24,6 +24,10 @@ statement-is program sets fact are = record {
       AllByRecursion-numbered (IsAtomOf program fact.home) (sets fact.home) k atom (are fact.home).are_atoms at);
 }
 
+-- Placed atoms are atoms.
+abbrev pub PlacesAtoms : Case → Type 0
+PlacesAtoms given = (atom : Row) → IsAtom atom → IsAtom (given.place atom)
+
 -- a placed atom is an atom
 placed-is : (program : Program) (instance : Instance Statement) (given : Case) (atom : Row) → IsCaseOf program instance given → IsAtom atom → IsAtom (given.place atom)
 placed-is program instance given atom (init i thread at) is = is
@@ -32,17 +36,23 @@ placed-is program instance given atom (guar i e thread edge f at home) is = IsAt
 placed-is program instance given atom (env k l i e other thread edge f t apart there at home_f home_t) is = IsAtom-moved (length program.columns) 0 atom is
 placed-is program instance given atom (inter k l i e other thread edge f g apart there at home_f home_g) is = IsAtom-moved (length program.columns) edge.inputs atom is
 
-atoms-hold : (program : Program) (instance : Instance Statement) (given : Case) (home : Home) (z : List ℤ) (atoms : List Row) → IsCaseOf program instance given → IsPoint given.system z
+atoms-hold : (program : Program) (given : Case) (home : Home) (z : List ℤ) (atoms : List Row) → PlacesAtoms given → IsPoint given.system z
     → AllByRecursion (IsAtomOf program home) atoms → AllByRecursion (λ atom. Entails given.system (given.place atom)) atoms → AllByRecursion (λ atom. Meets (given.place atom) z) atoms
-atoms-hold program instance given home z [] case point are entailed = tt
-atoms-hold program instance given home z (atom ∷ atoms) case point are entailed = (
-  points-meet-entailed given.system (given.place atom) z (placed-is program instance given atom case are.0.is_atom) entailed.0 point,
-  atoms-hold program instance given home z atoms case point are.1 entailed.1,
+atoms-hold program given home z [] places point are entailed = tt
+atoms-hold program given home z (atom ∷ atoms) places point are entailed = (
+  points-meet-entailed given.system (given.place atom) z (places atom are.0.is_atom) entailed.0 point,
+  atoms-hold program given home z atoms places point are.1 entailed.1,
 )
+
+-- what an instance gives holds where its case places atoms as atoms
+pub placed-atoms-hold : (program : Program) (given : Case) (statement : Statement) (z : List ℤ) → PlacesAtoms given → IsStatementOf program statement → IsGiven given statement
+    → IsPoint given.system z → AllByRecursion (λ atom. Meets (given.place atom) z) statement.atoms
+placed-atoms-hold program given statement z places is gives point =
+    atoms-hold program given statement.home z statement.atoms places point is.are_atoms gives.entailed
 
 pub given-atoms-hold : GivenAtomsHold
 given-atoms-hold program instance given statement z case is gives point =
-    atoms-hold program instance given statement.home z statement.atoms case point is.are_atoms gives.entailed
+    placed-atoms-hold program given statement z (λ atom. placed-is program instance given atom case) is gives point
 
 at-position : (sets : Sets) (given : Case) (home : Home) (k : ℕ) (atom : Row) → home ≡ given.target → EntailsAt given (sets given.target) k → numbered (sets home) k ≡ Some atom
     → Entails given.system (given.place atom)

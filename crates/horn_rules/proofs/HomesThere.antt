@@ -6,10 +6,12 @@ use Rattle.std.specs.List.{slice_get, Contains, range_with_len}
 use Rattle.std.proofs.lemmas.Option.{slice_get_within, slice_get-map, get_or_from_slice_get}
 use Rattle.std.proofs.lemmas.List.{length-map}
 use Rattle.std.proofs.lemmas.List.FromFn.{length-map-range_with_len}
-use Rattle.transition_formula.specs.Program.{Program, Thread, IsThreadOf, numbered}
+use Rattle.transition_formula.specs.Program.{Program, Thread, Edge, IsThreadOf, IsEdgeOf, numbered}
 use Rattle.transition_formula.specs.Stored.{edge_of}
 use Rattle.transition_formula.specs.declared.graph.Edge.{Edge as StoredEdge}
-use Rattle.horn_rules.specs.Home.{Home, State, Env, by_number, state_homes, env_homes, homes, IsHomeOf}
+use Rattle.horn_rules.specs.Home.{Home, State, Env, by_number, state_homes, env_homes, homes, IsHomeOf, IsLocationOf}
+use Rattle.horn_rules.specs.inside.Kinds.{HasPlace}
+use Rattle.horn_rules.specs.declared.homes.Kind.TheVariants.{Location}
 use Rattle.horn_rules.proofs.Places.{slice_get-append_left, slice_get-append_right, range-at, by_number-at}
 use Rattle.horn_rules.proofs.Numbers.{state_home-place, env_home-place}
 
@@ -74,6 +76,24 @@ env-from_place program (suc k) place thread at within =
     let states = by_number state_homes 1 program.threads in
     contains (homes program) (length states + there.0) (Env (suc k) (suc place))
     (slice_get-append_right states (by_number env_homes 1 program.threads) (length states + there.0) there.0 refl ∙ there.1)
+
+-- a location of a thread is a home
+pub location-home : (program : Program) (k l : ℕ) (thread : Thread) → IsLocationOf program k l thread → IsHomeOf program (State k l)
+location-home program k l thread is =
+    state-from_place program k l thread is.thread_is (omega (arith, is.within, length-map-range_with_len (State k) 0 thread.locations))
+
+-- so is an edge
+pub edge-home : (program : Program) (i e : ℕ) (thread : Thread) (edge : Edge) → IsEdgeOf program i e thread edge → IsHomeOf program (Env i e)
+edge-home program i zero thread edge is = let at = is.edge_is in cc
+edge-home program i (suc p) thread edge is =
+    env-from_place program i p thread is.thread_is (omega (arith, slice_get_within thread.edges p edge is.edge_is, length-map-range_with_len (Env i) 1 (length thread.edges)))
+
+-- a place among a thread's locations is one of them
+pub place-location : (program : Program) (k l : ℕ) (place : HasPlace program Location k l) → IsLocationOf program k l place.thread
+place-location program k l place = record {
+  thread_is = place.thread_is;
+  within = omega (arith, place.within, length-map-range_with_len (State k) 0 place.thread.locations);
+}
 
 -- what a thread has, where the thread is known
 pub location-there : (program : Program) (i l n : ℕ) (thread : Option Thread) → numbered program.threads i ≡ thread → option_map (λ thread. thread.locations) thread ≡ Some n → l < n → IsHomeOf program (State i l)

@@ -17,7 +17,8 @@ use Rattle.horn_rules.specs.Laws.{IsInstanceOver}
 use Rattle.horn_rules.proofs.Lists.{Contains-first, first-or-later, contains-nothing, Contains-map, Contains-unmap}
 use Rattle.horn_rules.proofs.ByNumber.{numbered-there, numbered-from, IsOnce, once-by_number}
 use Rattle.horn_rules.proofs.Numbers.{state_home-place, env_home-place}
-use Rattle.horn_rules.proofs.Places.{slice_get-there}
+use Rattle.horn_rules.proofs.HomesThere.{place-location}
+use Rattle.lin_rows.proofs.Lists.{slice_get-there}
 
 -- ---- one element, perhaps
 
@@ -215,7 +216,7 @@ from-env program facts y homes there =
       given = env_case program are.k are.l place.thread thread edge one.x two.x;
       has_kind = tt;
       resolved = ap₂ (λ a b. Environment a b) one.x_is two.x_is;
-      is_case = env are.k are.l are.i are.e place.thread thread edge one.x two.x are.apart place.thread_is edge_is are.home_is are.told_is;
+      is_case = env are.k are.l are.i are.e place.thread thread edge one.x two.x are.apart (place-location program are.k are.l place) edge_is are.home_is are.told_is;
     })
 
 pub from-inter : (program : Program) (facts : List Statement) (y : Instance ℕ) → HaveHomes program facts → Contains (all_inter_instances program facts) y → IsInstanceOver program Og facts y
@@ -233,7 +234,7 @@ from-inter program facts y homes there =
       given = inter_case program are.k are.l place.thread leads.thread leads.edge one.x two.x;
       has_kind = tt;
       resolved = ap₂ (λ a b. Inter a b e) one.x_is two.x_is;
-      is_case = inter are.k are.l leads.i e place.thread leads.thread leads.edge one.x two.x (other-number are.k are.i leads.i are.apart number) place.thread_is leads.edge_is are.home_is leads.home_is;
+      is_case = inter are.k are.l leads.i e place.thread leads.thread leads.edge one.x two.x (other-number are.k are.i leads.i are.apart number) (place-location program are.k are.l place) leads.edge_is are.home_is leads.home_is;
     })
 
 -- ---- and to the list: what the numbers are

@@ -53,44 +53,44 @@ from-list program rule facts y homes there =
 
 -- ---- into the list
 
-listed-init : (program : Program) (rule : RuleName) (facts : List Statement) (y : Instance ℕ) → Contains (init_instances program) y → Contains (instances_over program rule facts) y
-listed-init program rule facts y there = subst (λ l. Contains l y) (sym (over-is program rule facts)) (Contains-append_left (init_instances program) _ y there)
+over-has-init : (program : Program) (rule : RuleName) (facts : List Statement) (y : Instance ℕ) → Contains (init_instances program) y → Contains (instances_over program rule facts) y
+over-has-init program rule facts y there = subst (λ l. Contains l y) (sym (over-is program rule facts)) (Contains-append_left (init_instances program) _ y there)
 
-listed-own : (program : Program) (rule : RuleName) (facts : List Statement) (y : Instance ℕ) → Contains (own_instances program facts) y → Contains (instances_over program rule facts) y
-listed-own program rule facts y there =
+over-has-own : (program : Program) (rule : RuleName) (facts : List Statement) (y : Instance ℕ) → Contains (own_instances program facts) y → Contains (instances_over program rule facts) y
+over-has-own program rule facts y there =
     subst (λ l. Contains l y) (sym (over-is program rule facts))
     (Contains-append_right (init_instances program) (own_instances program facts ++ rest_of program rule facts) y (Contains-append_left (own_instances program facts) (rest_of program rule facts) y there))
 
-listed-rest : (program : Program) (rule : RuleName) (facts : List Statement) (y : Instance ℕ) → Contains (rest_of program rule facts) y → Contains (instances_over program rule facts) y
-listed-rest program rule facts y there =
+over-has-rest : (program : Program) (rule : RuleName) (facts : List Statement) (y : Instance ℕ) → Contains (rest_of program rule facts) y → Contains (instances_over program rule facts) y
+over-has-rest program rule facts y there =
     subst (λ l. Contains l y) (sym (over-is program rule facts))
     (Contains-append_right (init_instances program) (own_instances program facts ++ rest_of program rule facts) y (Contains-append_right (own_instances program facts) (rest_of program rule facts) y there))
 
 to-list : (program : Program) (rule : RuleName) (facts : List Statement) (y : Instance ℕ) (instance : Instance Statement) (given : Case) → IsCaseOf program instance given → HasKind rule instance → IsResolved facts y instance
     → Contains (instances_over program rule facts) y
 to-list program rule facts y instance given (init i thread at) has resolved =
-    subst (Contains (instances_over program rule facts)) (sym (InstanceLists.init-numbers facts y i resolved)) (listed-init program rule facts (Init i) (InstanceLists.to-init program i thread at))
+    subst (Contains (instances_over program rule facts)) (sym (InstanceLists.init-numbers facts y i resolved)) (over-has-init program rule facts (Init i) (InstanceLists.to-init program i thread at))
 to-list program rule facts y instance given (own i e thread edge f at home) has resolved =
     let (n, is, there) = InstanceLists.own-numbers facts y f e resolved in
     subst (Contains (instances_over program rule facts)) (sym is)
-    (listed-own program rule facts (Own n e) (InstanceLists.to-own program facts n e f there (record { i = i; thread = thread; edge = edge; edge_is = at; home_is = home })))
+    (over-has-own program rule facts (Own n e) (InstanceLists.to-own program facts n e f there (record { i = i; thread = thread; edge = edge; edge_is = at; home_is = home })))
 to-list program Rg facts y instance given (guar i e thread edge f at home) has resolved =
     let (n, is, there) = InstanceLists.guar-numbers facts y f e resolved in
     subst (Contains (instances_over program Rg facts)) (sym is)
-    (listed-rest program Rg facts (Guar n e) (Contains-append_left (guar_instances program facts) (env_instances facts) (Guar n e)
+    (over-has-rest program Rg facts (Guar n e) (Contains-append_left (guar_instances program facts) (env_instances facts) (Guar n e)
     (InstanceLists.to-guar program facts n e f there (record { i = i; thread = thread; edge = edge; edge_is = at; home_is = home }))))
 to-list program Og facts y instance given (guar i e thread edge f at home) has resolved = absurd has
 to-list program Rg facts y instance given (env k l i e other thread edge f t apart there at home_f home_t) has resolved =
     let (n, m, is, first, second) = InstanceLists.env-numbers facts y f t resolved in
     subst (Contains (instances_over program Rg facts)) (sym is)
-    (listed-rest program Rg facts (Environment n m) (Contains-append_right (guar_instances program facts) (env_instances facts) (Environment n m)
+    (over-has-rest program Rg facts (Environment n m) (Contains-append_right (guar_instances program facts) (env_instances facts) (Environment n m)
     (InstanceLists.to-env facts n m f t first second (InstanceLists.is-told f.home t.home k l i e apart home_f home_t))))
 to-list program Og facts y instance given (env k l i e other thread edge f t apart there at home_f home_t) has resolved = absurd has
 to-list program Rg facts y instance given (inter k l i e other thread edge f g apart there at home_f home_g) has resolved = absurd has
 to-list program Og facts y instance given (inter k l i e other thread edge f g apart there at home_f home_g) has resolved =
     let (n, m, is, first, second) = InstanceLists.inter-numbers facts y f g e resolved in
     subst (Contains (instances_over program Og facts)) (sym is)
-    (listed-rest program Og facts (Inter n m e) (InstanceLists.to-inter program facts n m e f g first second (InstanceLists.is-apart f.home g.home k l i edge.from apart home_f home_g)
+    (over-has-rest program Og facts (Inter n m e) (InstanceLists.to-inter program facts n m e f g first second (InstanceLists.is-apart f.home g.home k l i edge.from apart home_f home_g)
     (record { i = i; thread = thread; edge = edge; edge_is = at; home_is = home_g })))
 
 -- ---- each once

@@ -23,3 +23,4 @@ pub mod Order
 pub mod Tables
 pub mod PlacedAtoms
 pub mod HomesThere
+pub mod PremiseHomes

@@ -6,10 +6,10 @@ use Rattle.transition_formula.specs.Program.{Program, Thread, Edge, IsThreadOf, 
 use Rattle.transition_formula.specs.Step.{Steps}
 use Rattle.horn_rules.specs.Home.{State, home_width}
 use Rattle.horn_rules.specs.Fact.{Statement, IsStatementOf}
-use Rattle.horn_rules.specs.Instance.{Env as Environment, Inter}
-use Rattle.horn_rules.specs.Case.{moved, env_case, inter_case, env, inter}
+use Rattle.horn_rules.specs.Case.{moved, env_case, inter_case}
 use Rattle.horn_rules.specs.Steps.{Describes, ToldStepsAreDescribed, InterferingStepsAreDescribed}
-use Rattle.horn_rules.proofs.GivenAtoms.{given-atoms-hold}
+use Rattle.horn_rules.proofs.GivenAtoms.{placed-atoms-hold}
+use Rattle.horn_rules.proofs.WiderAtoms.{IsAtom-moved}
 use Rattle.horn_rules.proofs.Described.{moved-meet, described-at, stands-at, other-stays}
 use Rattle.horn_rules.proofs.Points.{length-after, env-point, inter-point}
 
@@ -36,8 +36,8 @@ interfering-steps-described program k l i e other thread edge f g given before i
     let stands_g = stands-at program g before i edge.from thread told_g at.thread_is steps.at_source in
     let point = inter-point program k l i e other thread edge f g before inputs after is are_f are_g there at stands_f stands_g one steps told_f told_g in
     stays program k l i e edge.inputs other thread edge f given before inputs after inputs is apart there at stands_f are one steps told_f gives.at_target
-    (given-atoms-hold program (Inter f g e) (inter_case program k l other thread edge f g) given (before ++ (after ++ inputs))
-    (inter k l i e other thread edge f g apart there at stands_f stands_g) are gives point)
+    (placed-atoms-hold program (inter_case program k l other thread edge f g) given (before ++ (after ++ inputs))
+    (λ atom is. IsAtom-moved (length program.columns) edge.inputs atom is) are gives point)
 
 pub told-steps-described : ToldStepsAreDescribed
 told-steps-described program k l i e other thread edge f t given before inputs after is apart there at stands_f are_f are_t are one told_f told_t gives =
@@ -48,5 +48,5 @@ told-steps-described program k l i e other thread edge f t given before inputs a
     let steps = subst (λ found. Steps found edge before inputs after) one_thread (subst (λ found. Steps told_t.thread found before inputs after) one_edge told_t.steps) in
     let point = env-point program k l i e other thread edge f t before inputs after is are_f there at stands_f one steps told_f told_t.hold in
     stays program k l i e 0 other thread edge f given before inputs after [] is apart there at stands_f are one steps told_f gives.at_target
-    (given-atoms-hold program (Environment f t) (env_case program k l other thread edge f t) given (before ++ (after ++ []))
-    (env k l i e other thread edge f t apart there at stands_f told_t.stands) are gives point)
+    (placed-atoms-hold program (env_case program k l other thread edge f t) given (before ++ (after ++ []))
+    (λ atom is. IsAtom-moved (length program.columns) 0 atom is) are gives point)

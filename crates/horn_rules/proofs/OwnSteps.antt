@@ -2,7 +2,7 @@
 use Rattle.std.proofs.Common.{◌≡◌, ℕ, zero, suc, ◌+◌, ℤ, pos, List, [], ◌∷◌, ◌++◌, length, Some, sym, ap, subst, ◌∙◌, arith, length-append, append_assoc}
 use Rattle.std.specs.List.{AllByRecursion, slice_get}
 use Rattle.lin_rows.specs.Row.{Row, Meets}
-use Rattle.transition_formula.specs.Program.{Column, Program}
+use Rattle.transition_formula.specs.Program.{Column, Program, Thread, IsThreadOf, IsProgram}
 use Rattle.transition_formula.specs.Step.{MayStart, IsInitial}
 use Rattle.transition_formula.proofs.Programs.{counter-within}
 use Rattle.horn_rules.specs.Home.{Home, home_width}
@@ -10,10 +10,10 @@ use Rattle.horn_rules.specs.Fact.{IsAtomOf}
 use Rattle.horn_rules.specs.Instance.{Init, Own, Guar}
 use Rattle.horn_rules.specs.Case.{widened, init_case, own_case, guar_case, init, own, guar}
 use Rattle.horn_rules.specs.Steps.{StartsAreDescribed, OwnStepsAreDescribed, OwnStepsAreTold}
-use Rattle.horn_rules.proofs.Places.{slice_get-there}
 use Rattle.horn_rules.proofs.GivenAtoms.{given-atoms-hold}
 use Rattle.horn_rules.proofs.Described.{meets-back, product-widened, moved-meet, arrives, stands-at}
 use Rattle.horn_rules.proofs.Points.{initial-point, length-after, own-point}
+use Rattle.lin_rows.proofs.Lists.{slice_get-there}
 
 -- ---- the start
 
@@ -30,15 +30,21 @@ initial-at (first ∷ columns) (x ∷ state) zero column v all at starts =
     ap Some there
 initial-at (first ∷ columns) (x ∷ state) (suc c) column v all at starts = initial-at columns state c column v all.1 at starts
 
+-- a counter starts at location 1
+pub counter-starts : (program : Program) (i : ℕ) (thread : Thread) (state : List ℤ) → IsProgram program → IsThreadOf program i thread → IsInitial program.columns state
+    → slice_get state thread.counter ≡ Some (pos 1)
+counter-starts program i thread state is at initial =
+    let (column, there) = slice_get-there program.columns thread.counter (counter-within program i thread is at).1 in
+    initial-at program.columns state thread.counter column (pos 1) initial there ((is.threads_are i thread at).counts column there).starts
+
 pub starts-described : StartsAreDescribed
 starts-described program i thread given state is at are initial gives =
-    let column = slice_get-there program.columns thread.counter (counter-within program i thread is at).1 in
     record {
       l = 1;
       thread = thread;
       thread_is = at;
       stands = gives.at_target;
-      there = initial-at program.columns state thread.counter column.0 (pos 1) initial column.1 ((is.threads_are i thread at).counts column.0 column.1).starts;
+      there = counter-starts program i thread state is at initial;
       hold = given-atoms-hold program (Init i) (init_case program i) given state (init i thread at) are gives (initial-point program state initial);
     }
 

@@ -1,8 +1,7 @@
 -- An atom that is placed is its own normal form.
-use Rattle.std.proofs.Common.{◌≡◌, ℕ, ℤ, pos, negsuc, List, [], ◌∷◌, map, fold, unsigned_abs, Result, Ok, Err, refl, sym, ap, ap₂, ◌∙◌, arith}
+use Rattle.std.proofs.Common.{◌≡◌, ℕ, ℤ, pos, List, [], ◌∷◌, map, fold, unsigned_abs, Result, Ok, Err, refl, sym, ap, ap₂, ◌∙◌, arith}
 use Rattle.std.specs.List.{AllByRecursion}
 use Rattle.std.specs.Int.{int_div_euclid}
-use Rattle.std.proofs.lemmas.Int.{ints}
 use Rattle.lin_rows.specs.Row.{Row}
 use Rattle.lin_rows.specs.Gcd.{gcd}
 use Rattle.lin_rows.specs.Atom.{IsAtom, inequality}
@@ -13,19 +12,12 @@ use Rattle.lin_rows.specs.declared.normal_form.NormalStop.{NormalStop}
 use Rattle.lin_rows.specs.declared.normal_form.NormalStop.TheVariants.{Overflow, Memory}
 use Rattle.horn_rules.proofs.WiderAtoms.{IsAtom-moved}
 use Rattle.horn_rules.specs.Case.{placed_at}
-
-over-one : (x : ℤ) → int_div_euclid x (pos 1) ≡ x
-over-one (pos n) = omega (arith, ints)
-over-one (negsuc n) = omega (arith, ints)
-
-all-over-one : (xs : List ℤ) → map (λ x. int_div_euclid x (pos 1)) xs ≡ xs
-all-over-one [] = refl
-all-over-one (x ∷ xs) = ap₂ (λ (y : ℤ) (ys : List ℤ). y ∷ ys) (over-one x) (all-over-one xs)
+use Rattle.lin_rows.proofs.Integers.{map-over_one, over_one}
 
 pub reduced-atom : (row : Row) → IsAtom row → reduced row ≡ row
 reduced-atom row is =
     ap (λ g. inequality (map (λ a. int_div_euclid a (pos g)) row.coefficients) (int_div_euclid row.bound (pos g))) is.reduced
-    ∙ ap₂ (λ (xs : List ℤ) (b : ℤ). inequality xs b) (all-over-one row.coefficients) (over-one row.bound)
+    ∙ ap₂ (λ (xs : List ℤ) (b : ℤ). inequality xs b) (map-over_one row.coefficients) (over_one row.bound)
     ∙ ap (λ e. record { equal = e; coefficients = row.coefficients; bound = row.bound }) (sym is.no_equality)
 
 -- zeros have the greatest common divisor 0

@@ -20,11 +20,6 @@ slice_get-append_right (x ∷ xs) ys (suc p) q e = slice_get-append_right xs ys 
 
 -- ---- elements by place, and by number
 
-pub slice_get-there : {A : Type 0} (xs : List A) (k : ℕ) → k < length xs → (x : A) × (slice_get xs k ≡ Some x)
-slice_get-there [] k h = absurd (omega arith)
-slice_get-there (x ∷ xs) zero h = (x, refl)
-slice_get-there (x ∷ xs) (suc k) h = slice_get-there xs k (omega arith)
-
 pub numbered-next : {A : Type 0} (xs : List A) (k n : ℕ) → n ≡ suc k → numbered xs n ≡ slice_get xs k
 numbered-next xs k n e = ap (numbered xs) e
 

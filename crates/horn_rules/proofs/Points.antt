@@ -5,7 +5,7 @@ use Rattle.std.proofs.lemmas.List.{append-nil, get_or_append_left, get_or-append
 use Rattle.std.proofs.lemmas.Option.{get_or_from_slice_get}
 use Rattle.lin_rows.specs.Row.{Row, Meets, product_of}
 use Rattle.lin_rows.specs.System.{IsPoint}
-use Rattle.lin_rows.proofs.Lists.{AllByRecursion-append}
+use Rattle.lin_rows.proofs.Lists.{AllByRecursion-append, AllByRecursion-front}
 use Rattle.transition_formula.specs.Program.{Column, Program, Thread, Edge, IsThreadOf, IsEdgeOf, IsProgram}
 use Rattle.transition_formula.specs.Rows.{unit, kept_row, kept_columns, is_kept, edge_rows, edge_width, init_system}
 use Rattle.transition_formula.specs.Step.{Steps, IsInitial}
@@ -38,7 +38,7 @@ initial-point program state initial =
 pub length-after : (thread : Thread) (edge : Edge) (before inputs after : List ℤ) → Steps thread edge before inputs after → length after ≡ length before
 length-after thread edge before inputs after steps = ap length steps.leads ∙ length-after_step thread edge before inputs
 
--- rows in front that hold, and those of the edge
+-- rows in AllByRecursion-front that hold, and those of the edge
 edge-point : (program : Program) (i e : ℕ) (thread : Thread) (edge : Edge) (rows : List Row) (before inputs after : List ℤ)
     → IsProgram program → IsEdgeOf program i e thread edge → length before ≡ length program.columns → Steps thread edge before inputs after
     → AllByRecursion (λ row. Meets row (before ++ (after ++ inputs))) rows → IsPoint (with_edge program thread edge rows) (before ++ (after ++ inputs))
@@ -72,10 +72,6 @@ inter-point program k l i e other thread edge f g before inputs after is are_f a
     (state_rows-meet program f k l b other before (after ++ inputs) is are_f there stands_f one told_f)
     (state_rows-meet program g i edge.from b thread before (after ++ inputs) is are_g at.thread_is stands_g one told_g))
 
-front : (P : Row → Type 0) (xs ys : List Row) → AllByRecursion P (xs ++ ys) → AllByRecursion P xs
-front P [] ys all = tt
-front P (x ∷ xs) ys all = (all.0, front P xs ys all.1)
-
 kept-meet : (n m : ℕ) (columns : List ℕ) (before after inputs : List ℤ) → length before ≡ n → length after ≡ n → AllByRecursion (λ c. c < n) columns
     → AllByRecursion (λ row. Meets row (before ++ (after ++ inputs))) (map (kept_row n m) columns) → AllByRecursion (λ row. Meets row (before ++ (after ++ []))) (map (kept_row n 0) columns)
 kept-meet n m [] before after inputs one two below all = tt
@@ -103,7 +99,7 @@ env_rows-meet program t i e thread edge before inputs after is at one steps hold
     let inside : thread.counter < length before = omega (arith, within.1) in
     let edge_meets = (edge_rows-exact program i e thread edge before after inputs is at one two steps.one_each).1 steps in
     let columns = kept_columns n thread.counter edge in
-    let kept_before = front _ (map (kept_row n edge.inputs) columns) _ edge_meets.1.1 in
+    let kept_before = AllByRecursion-front _ (map (kept_row n edge.inputs) columns) _ edge_meets.1.1 in
     let below = range-from (λ c. c < n) (is_kept thread.counter edge) 0 n (λ c low high pass. omega arith) in
     let kept = kept-meet n edge.inputs columns before after inputs one two below kept_before in
     let arrived = get_or_from_slice_get after thread.counter (pos edge.to) (pos 0) (arrives thread edge before inputs after inside steps) in

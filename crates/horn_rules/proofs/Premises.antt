@@ -81,9 +81,6 @@ counter-is program i thread column e at =
     let here : Some thread.counter ≡ Some column = sym (ap (option_map (λ (found : Thread). found.counter)) at) ∙ e in
     cc
 
-pub length-with_row : (now more : System) (row : Row) → more ≡ with_row now row → length more.rows ≡ length now.rows + 1
-length-with_row now more row is = ap (λ system. length system.rows) is ∙ length-append now.rows (row ∷ [])
-
 -- ---- what a premise says
 
 pub atoms-over : (program : Program) (home : Home) (atoms given : List Row) (n : ℕ) → IsSetOf program home atoms → given ≡ atoms → n ≡ home_width (length program.columns) home
@@ -110,9 +107,10 @@ said_is program f thread l k width is =
     let n = length program.columns in
     ap (λ w. said_rows n w thread l f.atoms) is ∙ ap (λ (j : ℕ). column_is (n + k) thread.counter (pos l) ∷ map (widened j) f.atoms) (omega arith)
 
-glued : (columns : ℕ) (first first' second second' : List Row) (empty said last rows : System) → empty ≡ record { columns = rows.columns; rows = [] } → said ≡ with_rows empty first
+-- two lists of rows behind none
+with_rows-two : (columns : ℕ) (first first' second second' : List Row) (empty said last rows : System) → empty ≡ record { columns = rows.columns; rows = [] } → said ≡ with_rows empty first
     → last ≡ with_rows said second → first ≡ first' → second ≡ second' → rows.columns ≡ columns → last ≡ record { columns = columns; rows = first' ++ second' }
-glued columns first first' second second' empty said last rows empty_is said_is last_is same same' width =
+with_rows-two columns first first' second second' empty said last rows empty_is said_is last_is same same' width =
     last_is
     ∙ ap (λ system. with_rows system second) (said_is ∙ ap (λ system. with_rows system first) empty_is)
     ∙ ap₂ (λ (n : ℕ) (l : List Row). record { columns = n; rows = l ++ second }) width same
@@ -124,7 +122,7 @@ pub step_is : (program : Program) (f : Statement) (thread : Thread) (edge : Edge
     → last ≡ with_edge program thread edge (state_rows program thread edge.from f (behind program edge))
 step_is program f thread edge empty said last rows rows_is empty_is said_is_ last_is =
     let width = ap (λ system. system.columns) rows_is in
-    glued _ _ _ _ _ empty said last rows empty_is said_is_ last_is
+    with_rows-two _ _ _ _ _ empty said last rows empty_is said_is_ last_is
     (said_is program f thread edge.from (behind program edge) empty.columns (ap (λ system. system.columns) empty_is ∙ width))
     (ap (λ system. system.rows) rows_is) width
 
@@ -169,7 +167,7 @@ inter_is program f g l other thread edge empty one two last rows rows_is empty_i
     let after = said_rows n one.columns thread edge.from g.atoms in
     let whole = ap (λ system. system.columns) empty_is ∙ width in
     let both : two ≡ with_rows empty (before ++ after) = two_is ∙ ap (λ system. with_rows system after) one_is ∙ ap (λ (rows : List Row). record { columns = empty.columns; rows = rows }) (append_assoc empty.rows before after) in
-    glued _ _ _ _ _ empty two last rows empty_is both last_is
+    with_rows-two _ _ _ _ _ empty two last rows empty_is both last_is
     (ap₂ (λ (a : List Row) (b : List Row). a ++ b) (said_is program f other l (behind program edge) empty.columns whole)
     (said_is program g thread edge.from (behind program edge) one.columns (ap (λ system. system.columns) one_is ∙ whole)))
     (ap (λ system. system.rows) rows_is) width
@@ -194,7 +192,7 @@ env_is program f t l w other thread edge atoms empty one two last rows rows_is e
     let all : two.columns ≡ w = ap (λ system. system.columns) two_is ∙ ap (λ system. system.columns) one_is ∙ ap (λ system. system.columns) empty_is ∙ sym wide in
     let both : last ≡ with_rows one (rows.rows ++ placed) = last_is ∙ ap (λ system. with_rows system placed) two_is ∙ ap (λ (l : List Row). record { columns = one.columns; rows = l }) (append_assoc one.rows rows.rows placed) in
     let held : placed ≡ t.atoms = widened-same (two.columns - w) atoms (omega (arith, all)) ∙ same in
-    glued _ _ _ _ _ empty one last rows empty_is one_is both
+    with_rows-two _ _ _ _ _ empty one last rows empty_is one_is both
     (said_is program f other l n empty.columns whole)
     (ap₂ (λ (a : List Row) (b : List Row). a ++ b) (ap (λ system. system.rows) rows_is) held) width
 

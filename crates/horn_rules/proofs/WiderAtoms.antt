@@ -1,6 +1,5 @@
 -- An atom that is placed over more columns is an atom.
-use Rattle.std.proofs.Common.{◌≡◌, ℕ, zero, suc, ℤ, pos, List, ◌++◌, fold, unsigned_abs, refl, ◌∙◌, ap, arith}
-use Rattle.std.specs.List.{AllByRecursion}
+use Rattle.std.proofs.Common.{◌≡◌, ℕ, zero, suc, ℤ, List, ◌++◌, fold, unsigned_abs, refl, ◌∙◌, ap, arith}
 use Rattle.std.proofs.Math.Nat.{zero-mod}
 use Rattle.std.proofs.lemmas.List.Sums.{fold-append}
 use Rattle.thr_base.specs.Number.{Fits}
@@ -11,6 +10,7 @@ use Rattle.lin_rows.proofs.Divisors.{gcd-step}
 use Rattle.lin_rows.proofs.Lists.{AllByRecursion-append}
 use Rattle.transition_formula.specs.Rows.{zeros}
 use Rattle.horn_rules.specs.Case.{widened, moved}
+use Rattle.transition_formula.proofs.Numbers.{zeros_fit}
 
 -- ---- zeros change no greatest common divisor
 
@@ -31,18 +31,11 @@ gcd_of-moved n xs =
 
 -- ---- zeros fit
 
-zero-fits : Fits (pos 0)
-zero-fits = omega arith
-
-zeros-fit : (n : ℕ) → AllByRecursion Fits (zeros n)
-zeros-fit zero = tt
-zeros-fit (suc n) = (zero-fits, zeros-fit n)
-
 pub IsAtom-widened : (k : ℕ) (atom : Row) → IsAtom atom → IsAtom (widened k atom)
 IsAtom-widened k atom is = record {
   no_equality = is.no_equality;
   reduced = gcd_of-widened atom.coefficients k ∙ is.reduced;
-  fits = record { coefficients = AllByRecursion-append Fits atom.coefficients (zeros k) is.fits.coefficients (zeros-fit k); bound = is.fits.bound };
+  fits = record { coefficients = AllByRecursion-append Fits atom.coefficients (zeros k) is.fits.coefficients (zeros_fit k); bound = is.fits.bound };
   has_room = is.has_room;
 }
 
@@ -53,7 +46,7 @@ IsAtom-moved n m atom is =
       no_equality = is.no_equality;
       reduced = gcd_of-moved n (atom.coefficients ++ zeros m) ∙ wide.reduced;
       fits = record {
-        coefficients = AllByRecursion-append Fits (zeros n) (atom.coefficients ++ zeros m) (zeros-fit n) wide.fits.coefficients;
+        coefficients = AllByRecursion-append Fits (zeros n) (atom.coefficients ++ zeros m) (zeros_fit n) wide.fits.coefficients;
         bound = is.fits.bound;
       };
       has_room = is.has_room;

@@ -28,7 +28,7 @@ abbrev stays : Case
 stays = env_case worked_program 1 1 first_thread second_thread (bare_edge 1 3) (bare 1 1) (told 2 1)
 
 stays-is : IsCaseOf worked_program (Environment (bare 1 1) (told 2 1)) stays
-stays-is = env 1 1 2 1 first_thread second_thread (bare_edge 1 3) (bare 1 1) (told 2 1) (λ same. omega arith) refl (record { thread_is = refl; edge_is = refl }) refl refl
+stays-is = env 1 1 2 1 first_thread second_thread (bare_edge 1 3) (bare 1 1) (told 2 1) (λ same. omega arith) (record { thread_is = refl; within = omega arith }) (record { thread_is = refl; edge_is = refl }) refl refl
 
 abbrev equation : List ℤ → ℕ → Row
 equation coefficients n = record { equal = true; coefficients = coefficients; bound = pos n }

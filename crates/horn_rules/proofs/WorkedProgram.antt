@@ -1,5 +1,5 @@
 -- The program of the tests is one, and what its tests ask of numbers.
-use Rattle.std.proofs.Common.{◌≡◌, ℕ, zero, suc, ◌<◌, ◌≤◌, [], ◌∷◌, length, pos, Some, None, refl, sym, ap, ◌∙◌, subst, arith}
+use Rattle.std.proofs.Common.{◌≡◌, ℕ, zero, suc, ◌<◌, ◌≤◌, [], ◌∷◌, length, Some, None, refl, sym, ap, ◌∙◌, subst, arith}
 use Rattle.thr_base.specs.declared.names.ThreadNo.{ThreadNo}
 use Rattle.thr_base.specs.declared.names.Instance.TheVariants as stored
 use Rattle.thr_base.specs.declared.names.Fact.{Fact as StoredFact}
@@ -7,7 +7,6 @@ use Rattle.std.specs.List.{IsDistinct}
 use Rattle.std.specs.Str.{bytes_eq}
 use Rattle.std.proofs.lemmas.Slice.Eq.{bytes_eq-Decides}
 use Rattle.std.proofs.lemmas.Map.Made.{AllPairs-from_IsDistinct}
-use Rattle.thr_base.specs.Number.{Fits}
 use Rattle.transition_formula.specs.Program.{Column, Thread, Program, IsThreadOf, IsCounter, IsThread, IsEdge, IsProgram, numbered}
 use Rattle.transition_formula.specs.ColumnText.{counter}
 use Rattle.transition_formula.proofs.OwnTexts.{first-own, second-own, first-counter, second-counter}
@@ -21,6 +20,7 @@ use Rattle.horn_rules.specs.Case.{init_case, init}
 use Rattle.horn_rules.specs.Stored.{HasItsHome, instance_of}
 use Rattle.horn_rules.specs.Job.{IsJob}
 use Rattle.horn_rules.specs.inside.JobRows.{IsPremiseAt, IsAtSource, IsAtLocation, IsAtEdge}
+use Rattle.lin_rows.proofs.Numbers.{one_fits}
 
 first-counts : (column : Column) → Some (counter_column 1 (116 ∷ 49 ∷ 46 ∷ 36 ∷ 112 ∷ 99 ∷ [])) ≡ Some column → IsCounter 1 column
 first-counts column at = let same : counter_column 1 (116 ∷ 49 ∷ 46 ∷ 36 ∷ 112 ∷ 99 ∷ []) ≡ column = cc in subst (λ found. IsCounter 1 found) same (record { owned = refl; named = first-counter; starts = refl })
@@ -73,17 +73,14 @@ texts-differ : IsDistinct bytes_eq ((116 ∷ 49 ∷ 46 ∷ 36 ∷ 112 ∷ 99 ∷
 unfolding IsDistinct
 texts-differ = ((refl, tt), (tt, tt))
 
-one-fits : Fits (pos 1)
-one-fits = omega arith
-
 pub worked-is : IsProgram worked_program
 worked-is = record {
   few_columns = omega arith;
   few_threads = omega arith;
   has_counters = omega arith;
   columns_are = (
-    record { text_is = first-own 2 (36 ∷ 112 ∷ 99 ∷ []) (omega arith) counter; start_fits = one-fits },
-    (record { text_is = second-own 2 (36 ∷ 112 ∷ 99 ∷ []) (omega arith) counter; start_fits = one-fits }, tt),
+    record { text_is = first-own 2 (36 ∷ 112 ∷ 99 ∷ []) (omega arith) counter; start_fits = one_fits },
+    (record { text_is = second-own 2 (36 ∷ 112 ∷ 99 ∷ []) (omega arith) counter; start_fits = one_fits }, tt),
   );
   texts_differ = AllPairs-from_IsDistinct bytes_eq-Decides _ texts-differ;
   others_start = tt;

@@ -4,7 +4,7 @@ use Rattle.lin_rows.specs.Row.{Row}
 use Rattle.lin_rows.specs.System.{System}
 use Rattle.transition_formula.specs.Program.{Program, Thread, Edge, IsThreadOf, IsEdgeOf}
 use Rattle.transition_formula.specs.Rows.{zeros, column_is, kept_row, kept_columns, edge_width, edge_rows, init_system}
-use Rattle.horn_rules.specs.Home.{Home, State, Env}
+use Rattle.horn_rules.specs.Home.{Home, State, Env, IsLocationOf}
 use Rattle.horn_rules.specs.Fact.{Statement}
 use Rattle.horn_rules.specs.Instance.{Instance, Init, Own, Guar, Env as Environment, Inter}
 
@@ -92,16 +92,16 @@ inter_case program k l other thread edge f g =
     }
 
 -- The case of an instance over what its premises say. A thread's own step leads on from a fact at the edge's source; a step of another
--- thread leads on a fact at any location.
+-- thread leads on a fact at any location of the fact's thread.
 pub data IsCaseOf (program : Program) : Instance Statement → Case → Type 0 where
   init : (i : ℕ) (thread : Thread) → IsThreadOf program i thread → IsCaseOf program (Init i) (init_case program i)
   own : (i e : ℕ) (thread : Thread) (edge : Edge) (f : Statement) → IsEdgeOf program i e thread edge → f.home ≡ State i edge.from
       → IsCaseOf program (Own f e) (own_case program i thread edge f)
   guar : (i e : ℕ) (thread : Thread) (edge : Edge) (f : Statement) → IsEdgeOf program i e thread edge → f.home ≡ State i edge.from
       → IsCaseOf program (Guar f e) (guar_case program i e thread edge f)
-  env : (k l i e : ℕ) (other thread : Thread) (edge : Edge) (f t : Statement) → k ≢ i → IsThreadOf program k other → IsEdgeOf program i e thread edge
+  env : (k l i e : ℕ) (other thread : Thread) (edge : Edge) (f t : Statement) → k ≢ i → IsLocationOf program k l other → IsEdgeOf program i e thread edge
       → f.home ≡ State k l → t.home ≡ Env i e → IsCaseOf program (Environment f t) (env_case program k l other thread edge f t)
-  inter : (k l i e : ℕ) (other thread : Thread) (edge : Edge) (f g : Statement) → k ≢ i → IsThreadOf program k other → IsEdgeOf program i e thread edge
+  inter : (k l i e : ℕ) (other thread : Thread) (edge : Edge) (f g : Statement) → k ≢ i → IsLocationOf program k l other → IsEdgeOf program i e thread edge
       → f.home ≡ State k l → g.home ≡ State i edge.from → IsCaseOf program (Inter f g e) (inter_case program k l other thread edge f g)
 
 -- ---- placing an atom by numbers

@@ -1,7 +1,7 @@
 -- Homes: where facts stand.
-use Rattle.std.specs.Prelude.{ℕ, suc, ◌+◌, List, [], ◌∷◌, ◌++◌, length, map}
+use Rattle.std.specs.Prelude.{ℕ, suc, ◌+◌, ◌<◌, List, [], ◌∷◌, ◌++◌, length, map}
 use Rattle.std.specs.List.{range_with_len, Contains}
-use Rattle.transition_formula.specs.Program.{Program, Thread}
+use Rattle.transition_formula.specs.Program.{Program, Thread, IsThreadOf}
 
 -- a home, with the number of its thread
 pub data Home : Type 0 where
@@ -30,6 +30,11 @@ homes program = by_number state_homes 1 program.threads ++ by_number env_homes 1
 -- The program has this home.
 abbrev pub IsHomeOf : Program → Home → Type 0
 IsHomeOf program home = Contains (homes program) home
+
+-- Thread k of the program, which is this one, has location l.
+pub record IsLocationOf (program : Program) (k l : ℕ) (thread : Thread) : Type 0 where
+  pub thread_is : IsThreadOf program k thread
+  pub within : l < thread.locations
 
 -- how many columns the atoms of a home are over, where a state has n
 abbrev pub home_width : ℕ → Home → ℕ

@@ -7,7 +7,7 @@ use Rattle.lin_rows.specs.Row.{Row, Meets}
 use Rattle.lin_rows.specs.System.{IsPoint}
 use Rattle.farkas_cert.specs.Cert.{IsRefuted}
 use Rattle.predicate_sets.specs.Sets.{set_at}
-use Rattle.transition_formula.specs.Program.{Program, numbered}
+use Rattle.transition_formula.specs.Program.{Program, IsProgram, numbered}
 use Rattle.horn_rules.specs.declared.job.Job.{Job}
 use Rattle.horn_rules.specs.Home.{Home, homes, IsHomeOf, home_width}
 use Rattle.horn_rules.specs.Fact.{Sets, Fact, Statement, AreSetsOf, IsStatementOf, statement_of}
@@ -29,6 +29,11 @@ CasesAreUnique = (program : Program) (instance : Instance Statement) (one other 
 -- So does a job.
 abbrev pub JobsHaveOneCase : Type 0
 JobsHaveOneCase = (program : Program) (job : Job) (one other : Case) → ComesTo program job one → ComesTo program job other → one ≡ other
+
+-- The premises of an instance that comes to a case stand at homes of the program.
+abbrev pub PremisesHaveHomes : Type 0
+PremisesHaveHomes = (program : Program) (instance : Instance Statement) (given : Case) → IsProgram program → IsCaseOf program instance given
+    → AllByRecursion (λ statement. IsHomeOf program statement.home) (premises_of instance)
 
 -- An atom of the case's home is placed by numbers, and stands within its system.
 pub record IsPlacedBy (program : Program) (instance : Instance Statement) (given : Case) (atom : Row) : Type 0 where

@@ -1,5 +1,5 @@
 ghost use Rattle.horn_rules.specs.Cover.{ClosedListsCover, ClosedLeastCovers, LeastIsClosed, CoveredListsDoNotFail, CoveredLeastDoesNotFail, CoveredListsAreSafe, CoveredLeastIsSafe};
-ghost use Rattle.horn_rules.specs.Laws.{CasesAreUnique, JobsHaveOneCase, AtomsArePlaced, PostsAreUnique, FactsAreGiven, GivenAtomsHold, EachInstanceGivesItsHome, InstancesAreExact, LeastHasWhatItGives, LeastIsSmallest, HomesAreDistinct, StoredFactsTellFacts, StoredSetsAreByNumber, TablesAreUnique};
+ghost use Rattle.horn_rules.specs.Laws.{CasesAreUnique, JobsHaveOneCase, PremisesHaveHomes, AtomsArePlaced, PostsAreUnique, FactsAreGiven, GivenAtomsHold, EachInstanceGivesItsHome, InstancesAreExact, LeastHasWhatItGives, LeastIsSmallest, HomesAreDistinct, StoredFactsTellFacts, StoredSetsAreByNumber, TablesAreUnique};
 ghost use Rattle.horn_rules.specs.Steps.{StartsAreDescribed, OwnStepsAreDescribed, OwnStepsAreTold, ToldStepsAreDescribed, InterferingStepsAreDescribed};
 
 use thr_base::positions_are_those_held;
@@ -9,6 +9,11 @@ use transition_formula::runs_end_in_reached_states;
 pub fn cases_are_unique()
     ensures instances { CasesAreUnique }
     ensures jobs { JobsHaveOneCase }
+{}
+
+/// The premises of an instance that comes to a case stand at homes of the program: a law, and no code.
+pub fn premises_have_homes()
+    ensures { PremisesHaveHomes }
 {}
 
 /// How many columns stand in front of an atom, and that it stands within its case's system: a law, and no code.

@@ -12,6 +12,7 @@ mod placing;
 mod posted;
 mod premise;
 mod scope;
+mod worked;
 
 pub use home_text::push_home;
 pub use homes::{has_home, home_count, named, number};
@@ -19,7 +20,7 @@ pub use job::{Job, Premise, instance_rows};
 pub use laws::{
     atoms_are_placed, cases_are_unique, closed_sets_cover, facts_are_given, given_atoms_hold,
     instances_are_exact, interfering_steps_are_described, own_steps_are_described,
-    own_steps_are_told, posts_are_unique, starts_are_described,
+    own_steps_are_told, posts_are_unique, premises_have_homes, starts_are_described,
     stored_values_tell_what_they_stand_for, tables_are_unique, the_least_set_is_closed,
     told_steps_are_described, where_nothing_fails_no_run_does,
     without_predicates_each_instance_gives_its_home,
@@ -28,6 +29,7 @@ pub use lines::{push_fact, table};
 pub use placing::{in_front, placed};
 pub use posted::{PostAnswer, Posted};
 pub use scope::is_in_scope;
+pub use worked::two_bare_threads;
 
 #[cfg(test)]
 mod tests;

@@ -1,7 +1,6 @@
-ghost use Rattle.std.specs.Prelude.{◌≡◌, ◌≤◌, ◌∷◌, [], map, IfOk};
+ghost use Rattle.std.specs.Prelude.{◌≡◌, ◌≤◌, [], IfOk};
 ghost use Rattle.horn_rules.specs.inside.JobRows.{AreItsPremises};
-ghost use Rattle.transition_formula.specs.Stored.{column_of, edge_of, thread_of};
-ghost use Rattle.horn_rules.specs.inside.Worked.{bare_edge, counter_column, first_thread, second_thread, worked_columns, worked_program};
+ghost use Rattle.horn_rules.specs.inside.Worked.{worked_program};
 
 use super::*;
 use crate::job::rows_of_kind;
@@ -11,84 +10,7 @@ use std::alloc::{AllocError, Global};
 use std::sync::Arc;
 use std::test::Fail;
 use thr_base::{EdgeNo, Epoch, Fact, FactId, Home, HomeNo, Instance, Loc, ThreadNo};
-use transition_formula::{Column, Edge, Program, ThreadGraph};
-
-fn counter(alloc: Global, thread: ThreadNo, text: &[u8]) -> Result<Column, AllocError>
-    ensures { IfOk result (λ made. column_of made ≡ counter_column thread.0 text.now) }
-{
-    let text = Vec::from_slice(alloc, text)?;
-    Ok(Column {
-        text,
-        owner: Some(thread),
-        start: Some(1),
-    })
-}
-
-fn columns(alloc: Global) -> Result<Vec<Column>, AllocError>
-    ensures { IfOk result (λ made. map column_of made.items ≡ worked_columns) }
-{
-    let mut columns = Vec::new(alloc);
-    columns.push(counter(alloc, ThreadNo(1), b"t1.$pc")?)?;
-    columns.push(counter(alloc, ThreadNo(2), b"t2.$pc")?)?;
-    Ok(columns)
-}
-
-/// An edge that only leads on.
-fn edge(alloc: Global, from: Loc, to: Loc) -> Edge
-    ensures { edge_of result ≡ bare_edge from.0 to.0 }
-{
-    Edge {
-        from,
-        to,
-        inputs: 0,
-        tests: Rows::new(alloc, 2),
-        sets: Vec::new(alloc),
-    }
-}
-
-/// The first thread has 3 locations and 2 edges.
-fn first(alloc: Global) -> Result<ThreadGraph, AllocError>
-    ensures { IfOk result (λ made. thread_of made ≡ first_thread) }
-{
-    let mut edges = Vec::new(alloc);
-    edges.push(edge(alloc, Loc(1), Loc(2)))?;
-    edges.push(edge(alloc, Loc(2), Loc(0)))?;
-    Ok(ThreadGraph {
-        counter: 0,
-        locations: 3,
-        edges,
-    })
-}
-
-/// The second thread has 4 locations and 1 edge.
-fn second(alloc: Global) -> Result<ThreadGraph, AllocError>
-    ensures { IfOk result (λ made. thread_of made ≡ second_thread) }
-{
-    let mut edges = Vec::new(alloc);
-    edges.push(edge(alloc, Loc(1), Loc(3)))?;
-    Ok(ThreadGraph {
-        counter: 1,
-        locations: 4,
-        edges,
-    })
-}
-
-fn threads(alloc: Global) -> Result<Vec<ThreadGraph>, AllocError>
-    ensures { IfOk result (λ made. map thread_of made.items ≡ first_thread ∷ second_thread ∷ []) }
-{
-    let mut threads = Vec::new(alloc);
-    threads.push(first(alloc)?)?;
-    threads.push(second(alloc)?)?;
-    Ok(threads)
-}
-
-fn worked(alloc: Global) -> Result<Program, AllocError>
-    ensures { IfOk result (λ program. program ≡ worked_program) }
-{
-    let columns = columns(alloc)?;
-    let threads = threads(alloc)?;
-    Ok(Program::new(columns, threads))
-}
+use transition_formula::Program;
 
 /// The home of a number, where there is one, and the number of that home.
 fn there_and_back(program: &Program, n: u32) -> Option<(Home, HomeNo)> {
@@ -112,7 +34,7 @@ fn is_env(program: &Program, n: u32, thread: u32, edge: u32) -> bool {
 
 #[test]
 fn homes_of_two_threads_in_order(rt: HostRuntime) -> Result<(), Fail> {
-    let program = worked(rt.alloc())?;
+    let program = two_bare_threads(rt.alloc())?;
     assert_eq!(rt; home_count(&program), 10);
     assert!(rt; is_state(&program, 1, 1, 0));
     assert!(rt; is_state(&program, 3, 1, 2));
@@ -221,7 +143,7 @@ fn is_row(rows: &Rows, place: u32, coefficients: &[i128], bound: i128) -> bool {
 #[test]
 fn a_start_and_a_step_of_a_thread(rt: HostRuntime) -> Result<(), Fail> {
     let alloc = rt.alloc();
-    let program = worked(alloc)?;
+    let program = two_bare_threads(alloc)?;
     let start = start(alloc, &program)?;
     assert_eq!(rt; start.view().count(), 2);
     assert!(rt; is_row(&start, 0, &[1, 0], 1));
@@ -239,7 +161,7 @@ fn a_start_and_a_step_of_a_thread(rt: HostRuntime) -> Result<(), Fail> {
 #[test]
 fn a_thread_that_stays_in_a_step_of_another(rt: HostRuntime) -> Result<(), Fail> {
     let alloc = rt.alloc();
-    let program = worked(alloc)?;
+    let program = two_bare_threads(alloc)?;
     let told = env(alloc, &program)?;
     assert_eq!(rt; told.view().count(), 4);
     assert!(rt; is_row(&told, 0, &[1, 0, 0, 0], 1));
@@ -294,7 +216,7 @@ fn line(alloc: Global, program: &Program) -> Result<Vec<u8>, AllocError>
 #[test]
 fn texts_of_facts(rt: HostRuntime) -> Result<(), Fail> {
     let alloc = rt.alloc();
-    let program = worked(alloc)?;
+    let program = two_bare_threads(alloc)?;
     let text = three(alloc, &program)?;
     assert!(rt; text.as_slice() == b"s 1 0 : 1\ns 1 1 : 1 3\ne 2 1 :\nend\n".as_slice());
     assert!(rt; line(alloc, &program)?.as_slice() == b"s 2 1 : 2 3\n".as_slice());
@@ -312,6 +234,7 @@ fn laws_are_called() {
     given_atoms_hold();
     instances_are_exact();
     posts_are_unique();
+    premises_have_homes();
     starts_are_described();
     own_steps_are_described();
     own_steps_are_told();

@@ -18,7 +18,8 @@ use Rattle.serial_fix.specs.Least.{AreLeast}
 use Rattle.serial_fix.specs.inside.Found.{FoundFacts}
 use Rattle.serial_fix.specs.inside.Run.{IsStored, IsRun, AllAreSettled}
 use Rattle.serial_fix.proofs.Cases.{from-rules}
-use Rattle.serial_fix.proofs.Steps.{all-weaker, found-least}
+use Rattle.serial_fix.proofs.Steps.{found-least}
+use Rattle.lin_rows.proofs.Lists.{AllByRecursion-weaken}
 
 -- the first n facts are all facts
 among-first : (program : Program) (found : List StoredFact) (n : ℕ) (fact : Fact) → length found ≤ n → Contains (facts_of program found) fact → Contains (take n (facts_of program found)) fact
@@ -32,7 +33,7 @@ derived-there program lists found n whole done [] is = tt
 derived-there program lists found n whole done (fact ∷ earlier) is =
     let rest = derived-there program lists found n whole done earlier is.1 in
     let comes = is.0 in
-    let stand = all-weaker (Contains earlier) (Contains (take n (facts_of program found)))
+    let stand = AllByRecursion-weaken (Contains earlier) (Contains (take n (facts_of program found)))
     (λ f there. among-first program found n f whole (all-contained (Contains (facts_of program found)) earlier f rest there)) (premises_of comes.instance) comes.stand_earlier in
     let case = from-rules program (sets_of program lists) comes.instance comes.given comes.has_kind comes.is_case in
     ((done (premises_of comes.instance) comes.given case stand).there fact comes.is_fact, rest)
@@ -43,12 +44,12 @@ least-there program lists found n whole done fact (facts, is, has) = all-contain
 
 pub are-least : (program : Program) (lists : List (List Row)) (found : FoundFacts) (n : ℕ) → IsRun program lists found → length found.facts ≤ n → AllAreSettled program lists n found.facts → AreLeast program lists found.facts
 are-least program lists found n run whole done = record {
-  have_homes = all-weaker (IsStored program lists) (HasItsHome program) (λ stored is. is.has_home) found.facts run.facts_are;
+  have_homes = AllByRecursion-weaken (IsStored program lists) (HasItsHome program) (λ stored is. is.has_home) found.facts run.facts_are;
   none_twice = run.none_twice;
   exact = λ fact. (λ there. found-least program lists found fact run there, λ least. least-there program lists found.facts n whole done fact least);
   covers = closed-least-covers program Rg (sets_of program lists) run.program_is (stored-sets-are program lists run.lists_are)
       (least-closed program Rg (sets_of program lists) (λ instance given z has is least point.
-      let stand = all-weaker (Least program Rg (sets_of program lists)) (Contains (take n (facts_of program found.facts)))
+      let stand = AllByRecursion-weaken (Least program Rg (sets_of program lists)) (Contains (take n (facts_of program found.facts)))
       (λ f of. among-first program found.facts n f whole (least-there program lists found.facts n whole done f of)) (premises_of instance) least in
       (done (premises_of instance) given (from-rules program (sets_of program lists) instance given has is) stand).gives z point));
 }

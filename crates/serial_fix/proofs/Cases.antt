@@ -2,7 +2,7 @@
 use Rattle.std.proofs.Common.{◌≡◌, ◌≢◌, ℕ, List, [], ◌∷◌, refl, sym, subst}
 use Rattle.thr_base.specs.declared.names.RuleName.TheVariants.{Rg}
 use Rattle.transition_formula.specs.Program.{Program, Thread, Edge, IsThreadOf, IsEdgeOf}
-use Rattle.horn_rules.specs.Home.{State, Env}
+use Rattle.horn_rules.specs.Home.{State, Env, IsLocationOf}
 use Rattle.horn_rules.specs.Fact.{Sets, Fact, Statement, statement_of}
 use Rattle.horn_rules.specs.Instance.{Instance, Init, Own, Guar, Env as Environment, Inter, HasKind, premises_of, map_instance}
 use Rattle.horn_rules.specs.Case.{Case, IsCaseOf, init_case, own_case, guar_case, env_case}
@@ -27,7 +27,7 @@ record IsPair (program : Program) (f t : Statement) : Type 0 where
   thread : Thread
   edge : Edge
   apart : k ≢ i
-  thread_is : IsThreadOf program k other
+  location_is : IsLocationOf program k l other
   edge_is : IsEdgeOf program i e thread edge
   home_f : f.home ≡ State k l
   home_t : t.home ≡ Env i e
@@ -45,7 +45,7 @@ shape program instance given (rules.init i thread at) = (thread, at, refl)
 shape program instance given (rules.own i e thread edge f at home) = (record { i = i; thread = thread; edge = edge; edge_is = at; home_is = home }, refl)
 shape program instance given (rules.guar i e thread edge f at home) = (record { i = i; thread = thread; edge = edge; edge_is = at; home_is = home }, refl)
 shape program instance given (rules.env k l i e other thread edge f t apart there at home_f home_t) =
-    (record { k = k; l = l; i = i; e = e; other = other; thread = thread; edge = edge; apart = apart; thread_is = there; edge_is = at; home_f = home_f; home_t = home_t }, refl)
+    (record { k = k; l = l; i = i; e = e; other = other; thread = thread; edge = edge; apart = apart; location_is = there; edge_is = at; home_f = home_f; home_t = home_t }, refl)
 shape program instance given (rules.inter k l i e other thread edge f g apart there at home_f home_g) = tt
 
 of-shape : (program : Program) (sets : Sets) (instance : Instance Fact) (given : Case) → HasKind Rg instance → Shape program (map_instance (statement_of sets) instance) given
@@ -55,7 +55,7 @@ of-shape program sets (Own f e) given has (step, is) = subst (IsCase program set
 of-shape program sets (Guar f e) given has (step, is) = subst (IsCase program sets (f ∷ [])) (sym is) (guar step.i e step.thread step.edge f step.edge_is step.home_is)
 of-shape program sets (Environment f t) given has (pair, is) =
     subst (IsCase program sets (f ∷ t ∷ [])) (sym is)
-    (env pair.k pair.l pair.i pair.e pair.other pair.thread pair.edge f t pair.apart pair.thread_is pair.edge_is pair.home_f pair.home_t)
+    (env pair.k pair.l pair.i pair.e pair.other pair.thread pair.edge f t pair.apart pair.location_is pair.edge_is pair.home_f pair.home_t)
 of-shape program sets (Inter f g e) given has is = absurd has
 
 -- a case of the rules is one of a run

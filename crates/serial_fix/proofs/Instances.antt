@@ -27,7 +27,8 @@ use Rattle.serial_fix.specs.inside.Cases.{own_case, guar_case, env_case}
 use Rattle.serial_fix.specs.inside.Jobs.{Says, init, own, guar, env}
 use Rattle.horn_rules.specs.Stored.{sets_of, fact_of, home_numbered, HasItsHome}
 use Rattle.horn_rules.proofs.Numbers.{state_home-place, env_home-place, home-numbered}
-use Rattle.horn_rules.proofs.Places.{slice_get-there, range-at}
+use Rattle.horn_rules.proofs.Places.{range-at}
+use Rattle.horn_rules.proofs.HomesThere.{location-home, place-location}
 use Rattle.std.proofs.lemmas.List.{length-map}
 use Rattle.serial_fix.specs.inside.Found.{FoundFacts}
 use Rattle.horn_rules.specs.Instances.{tells_another}
@@ -36,6 +37,7 @@ use Rattle.serial_fix.specs.declared.step.Step.{Step}
 use Rattle.serial_fix.specs.declared.step.Step.TheVariants.{Done, Left}
 use Rattle.horn_rules.proofs.Lists.{all-contained, Contains-map, Contains-slice_get}
 use Rattle.serial_fix.proofs.Jobs.{target-set}
+use Rattle.lin_rows.proofs.Lists.{slice_get-there}
 
 -- ---- homes that are there
 
@@ -43,41 +45,15 @@ pub some-is : {A : Type 0} (o : Option A) → IsSome o → (x : A) × (o ≡ Som
 some-is None h = cc
 some-is (Some x) h = (x, refl)
 
-by_number-has : (give : ℕ → Thread → List Home) (i k j : ℕ) (threads : List Thread) (thread : Thread) (home : Home)
-    → slice_get threads k ≡ Some thread → j ≡ i + k → Contains (give j thread) home → Contains (by_number give i threads) home
-by_number-has give i k j [] thread home at e c = cc
-by_number-has give i zero j (t ∷ threads) thread home at e c =
-    let same : thread ≡ t = cc in
-    let number : j ≡ i = omega arith in
-    Contains-append_left (give i t) (by_number give (suc i) threads) home
-    (subst (λ t'. Contains (give i t') home) same (subst (λ j'. Contains (give j' thread) home) number c))
-by_number-has give i (suc k) j (t ∷ threads) thread home at e c =
-    Contains-append_right (give i t) (by_number give (suc i) threads) home (by_number-has give (suc i) k j threads thread home at (omega arith) c)
-
-pub state-home : (program : Program) (i l : ℕ) (thread : Thread) → IsThreadOf program i thread → l < thread.locations → IsHomeOf program (State i l)
-state-home program zero l thread at below = cc
-state-home program (suc k) l thread at below =
-    Contains-append_left (by_number state_homes 1 program.threads) (by_number env_homes 1 program.threads) (State (suc k) l)
-    (by_number-has state_homes 1 k (suc k) program.threads thread (State (suc k) l) at (omega arith)
-    (Contains-slice_get (state_homes (suc k) thread) l (State (suc k) l) (slice_get-map (State (suc k)) (range_with_len 0 thread.locations) l ∙ ap (option_map (State (suc k))) (range-at 0 thread.locations l l below (omega arith)))))
-
-pub env-home : (program : Program) (i e : ℕ) (thread : Thread) (edge : Edge) → IsEdgeOf program i e thread edge → IsHomeOf program (Env i e)
-env-home program zero e thread edge is = let at = is.thread_is in cc
-env-home program (suc k) zero thread edge is = let at = is.edge_is in cc
-env-home program (suc k) (suc p) thread edge is =
-    Contains-append_right (by_number state_homes 1 program.threads) (by_number env_homes 1 program.threads) (Env (suc k) (suc p))
-    (by_number-has env_homes 1 k (suc k) program.threads thread (Env (suc k) (suc p)) is.thread_is (omega arith)
-    (Contains-slice_get (env_homes (suc k) thread) p (Env (suc k) (suc p)) (slice_get-map (Env (suc k)) (range_with_len 1 (length thread.edges)) p ∙ ap (option_map (Env (suc k))) (range-at 1 (length thread.edges) p (suc p) (slice_get_within thread.edges p edge is.edge_is) (omega arith)))))
-
 pub target-home : (program : Program) (i e : ℕ) (thread : Thread) (edge : Edge) → IsProgram program → IsEdgeOf program i e thread edge → IsHomeOf program (State i edge.to)
 target-home program i e thread edge is at =
     let fits : IsEdge program thread edge = AllByRecursion-numbered (IsEdge program thread) thread.edges e edge (is.threads_are i thread at.thread_is).edges_are at.edge_is in
-    state-home program i edge.to thread at.thread_is fits.to_location
+    location-home program i edge.to thread (record { thread_is = at.thread_is; within = fits.to_location })
 
 pub start-home : (program : Program) (i : ℕ) → IsProgram program → IsSome (numbered program.threads i) → IsHomeOf program (State i 1)
 start-home program i is some =
     let (thread, at) = some-is (numbered program.threads i) some in
-    state-home program i 1 thread at (is.threads_are i thread at).has_start
+    location-home program i 1 thread (record { thread_is = at; within = (is.threads_are i thread at).has_start })
 
 -- ---- edges in the code
 
@@ -255,7 +231,7 @@ env-of program lists found one told id other_id first second home_f home_t run t
       premises = fact_of program one ∷ fact_of program told ∷ [];
       given = env_case program (sets_of program lists) k l place.thread edge_place.thread edge (fact_of program one) (fact_of program told);
       is_case = env id other_id first second k l i e place.thread edge_place.thread edge (fact_of program one) (fact_of program told)
-          (says program lists found one id first run there_f is_f) (says program lists found told other_id second run there_t is_t) differ place.thread_is edge_is at_f at_t;
+          (says program lists found one id first run there_f is_f) (says program lists found told other_id second run there_t is_t) differ (place-location program k l place) edge_is at_f at_t;
       home_is = found-number program lists found one run there_f ∙ ap Some at_f;
       stand = (Contains-map (fact_of program) found.facts one there_f, (Contains-map (fact_of program) found.facts told there_t, tt));
       first_is = is-premise program lists found one id first run there_f is_f;

@@ -25,6 +25,7 @@ use Rattle.serial_fix.specs.declared.step.Step.TheVariants.{Done, Left}
 use Rattle.horn_rules.proofs.Lists.{Contains-later as later, first-or-later, contains-nothing}
 use Rattle.serial_fix.proofs.Steps.{Extends-Contains}
 use Rattle.serial_fix.proofs.Instances.{found-number, some-is}
+use Rattle.lin_rows.proofs.Lists.{slice_get-there}
 
 -- ---- what is found stays found, and what is settled stays settled
 
@@ -105,17 +106,12 @@ edges-few program i edges is some got =
     let (thread, at) = some-is (numbered program.threads i) some in
     omega (arith, (is.threads_are i thread at).few_edges, ap length (edges-same program i edges thread got at), length-map edges edge_of)
 
-slice-there : {A : Type 0} (xs : List A) (k : ℕ) → k < length xs → (x : A) × (slice_get xs k ≡ Some x)
-slice-there [] k h = absurd (omega arith)
-slice-there (x ∷ xs) zero h = (x, refl)
-slice-there (x ∷ xs) (suc k) h = slice-there xs k (omega arith)
-
 pub edge-there : (program : Program) (i p n : ℕ) (edges : List StoredEdge) → IsSome (numbered program.threads i) → option_map (λ (t : Thread). t.edges) (numbered program.threads i) ≡ Some (map edge_of edges)
     → n ≡ length edges → p < n → HasEdge program i (p + 1)
 edge-there program i p n edges some got count below =
     let (thread, at) = some-is (numbered program.threads i) some in
     let same = edges-same program i edges thread got at in
-    let (edge, here) = slice-there thread.edges p (omega (arith, ap length same, length-map edges edge_of)) in
+    let (edge, here) = slice_get-there thread.edges p (omega (arith, ap length same, length-map edges edge_of)) in
     let number : p + 1 ≡ suc p = omega arith in
     (thread, edge, record { thread_is = at; edge_is = ap (numbered thread.edges) number ∙ here })
 
@@ -316,7 +312,7 @@ module _ (program : Program) (lists : List (List Row)) (n : ℕ) (old new : List
 pub all-more : (program : Program) (lists : List (List Row)) (n : ℕ) (old new : List StoredFact) → n < length old → Extends old new
     → AllAreSettled program lists n old → IsLookedAt program lists n old new → AllAreSettled program lists (n + 1) new
 all-more program lists n old new within on done looked premises given is all =
-    let (one, at) = slice-there old n within in
+    let (one, at) = slice_get-there old n within in
     settled-case program lists n old new one within at on done looked premises given is all
 
 pub all-none : (program : Program) (lists : List (List Row)) (found : List StoredFact) → StartsAreSettled program lists found → AllAreSettled program lists 0 found
@@ -353,7 +349,7 @@ starts-all program lists n threads found count upto done i thread at = done i th
 
 pub thread-here : (program : Program) (i threads : ℕ) → threads ≡ length program.threads → i < threads → IsSome (numbered program.threads (i + 1))
 thread-here program i threads count below =
-    let (thread, at) = slice-there program.threads i (omega arith) in
+    let (thread, at) = slice_get-there program.threads i (omega arith) in
     subst (λ o. IsSome o) (sym (ap (numbered program.threads) (let number : i + 1 ≡ suc i = omega arith in number) ∙ at)) refl
 
 pub all-done : (program : Program) (lists : List (List Row)) (n : ℕ) (found : List StoredFact) → n ≤ length found → length found ≤ n → AllAreSettled program lists n found → AllAreSettled program lists (length found) found

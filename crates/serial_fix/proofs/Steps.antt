@@ -28,25 +28,22 @@ use Rattle.horn_rules.specs.Least.{Comes, IsDerivation, Least}
 use Rattle.horn_rules.specs.Laws.{bare_at}
 use Rattle.horn_rules.specs.Stored.{fact_of, facts_of, sets_of}
 use Rattle.horn_rules.proofs.Posts.{facts-same}
-use Rattle.horn_rules.proofs.Derivations.{bare-fact}
+use Rattle.horn_rules.proofs.Derivations.{bare-fact, no-number}
 use Rattle.horn_rules.proofs.Lists.{Contains-first, first-or-later, contains-nothing, Contains-map, all-contained}
 use Rattle.abstract_post.specs.Left.{IsLeft}
-use Rattle.serial_fix.specs.Least.{Leaves}
+use Rattle.serial_fix.specs.Least.{LeastLeaves}
 use Rattle.serial_fix.specs.inside.Found.{FoundFacts, IsInserted}
 use Rattle.serial_fix.specs.inside.Run.{IsStored, IsRun, Extends, IsSettled, IsInstance, InstanceIsSettled}
 use Rattle.serial_fix.proofs.Cases.{to-rules}
 use Rattle.serial_fix.proofs.Gives.{not-refuted}
 use Rattle.serial_fix.proofs.Jobs.{job-case, target-set, Outcome}
+use Rattle.lin_rows.proofs.Lists.{AllByRecursion-weaken}
 
 -- ---- lists
 
 all-push : {A : Type 0} (P : A → Type 0) (xs : List A) (x : A) → AllByRecursion P xs → P x → AllByRecursion P (xs ++ x ∷ [])
 all-push P [] x all one = (one, tt)
 all-push P (y ∷ ys) x all one = (all.0, all-push P ys x all.1 one)
-
-pub all-weaker : {A : Type 0} (P Q : A → Type 0) → ((x : A) → P x → Q x) → (xs : List A) → AllByRecursion P xs → AllByRecursion Q xs
-all-weaker P Q then [] all = tt
-all-weaker P Q then (x ∷ xs) all = (then x all.0, all-weaker P Q then xs all.1)
 
 reverse-push : {A : Type 0} (xs : List A) (x : A) → reverse (xs ++ x ∷ []) ≡ x ∷ reverse xs
 reverse-push xs x = reverse-append xs (x ∷ [])
@@ -99,10 +96,6 @@ no-positions = empty (positions 0) (λ k there.
     let small : k ≤ 0 = (words-below 0 0 (omega arith) (omega arith)).0 (omega arith) k there in
     let (from_1, to_128, held) = ((are-positions 0).exact k).0 there in
     absurd (omega (arith, small, from_1)))
-
-no-number : (k : ℕ) (atom : Row) → numbered [] k ≡ Some atom → ⊥
-no-number zero atom e = cc
-no-number (suc k) atom e = cc
 
 nothing-held : (sets : Sets) (given : Case) (fact : Fact) → IsFactOf sets given fact → sets given.target ≡ [] → fact.held ≡ []
 nothing-held sets given fact is none = empty fact.held (λ k there.
@@ -190,7 +183,7 @@ module _ (program : Program) (lists : List (List Row)) (old : FoundFacts) (insta
         has_kind = of_rules.has_kind;
         is_case = of_rules.is_case;
         stand_earlier = subst (AllByRecursion (Contains (reverse (facts_of program old.facts)))) (sym of_rules.premises_are)
-            (all-weaker (Contains (facts_of program old.facts)) (Contains (reverse (facts_of program old.facts))) (Contains-reverse (facts_of program old.facts)) is.premises is.stand);
+            (AllByRecursion-weaken (Contains (facts_of program old.facts)) (Contains (reverse (facts_of program old.facts))) (Contains-reverse (facts_of program old.facts)) is.premises is.stand);
         is_fact = subst (IsFactOf (sets_of program lists) is.given) (sym new-is) of-case;
       }
 
@@ -239,7 +232,7 @@ pub found-least : (program : Program) (lists : List (List Row)) (found : FoundFa
 found-least program lists found fact run there = (reverse (facts_of program found.facts), run.derived, Contains-reverse (facts_of program found.facts) fact there)
 
 pub leaves : (program : Program) (lists : List (List Row)) (found : FoundFacts) (instance : Instance) (one two : Option Premise) (home : ℕ) (atoms : List Row) (kind : LeaveKind)
-    → IsRun program lists found → (is : IsInstance program lists found.facts instance one two home) → atoms ≡ set_at lists home → IsLeft is.given atoms kind → Leaves program lists
+    → IsRun program lists found → (is : IsInstance program lists found.facts instance one two home) → atoms ≡ set_at lists home → IsLeft is.given atoms kind → LeastLeaves program lists
 leaves program lists found instance one two home atoms kind run is are left =
     let of_rules = to-rules program (sets_of program lists) is.premises is.given (job-case program (sets_of program lists) instance one two is.premises is.given is.is_case) in
     record {
@@ -248,7 +241,7 @@ leaves program lists found instance one two home atoms kind run is are left =
       kind = kind;
       has_kind = of_rules.has_kind;
       is_case = of_rules.is_case;
-      are_least = subst (AllByRecursion (Least program Rg (sets_of program lists))) (sym of_rules.premises_are)
-          (all-weaker (Contains (facts_of program found.facts)) (Least program Rg (sets_of program lists)) (λ fact there. found-least program lists found fact run there) is.premises is.stand);
+      stand = subst (AllByRecursion (Least program Rg (sets_of program lists))) (sym of_rules.premises_are)
+          (AllByRecursion-weaken (Contains (facts_of program found.facts)) (Least program Rg (sets_of program lists)) (λ fact there. found-least program lists found fact run there) is.premises is.stand);
       is_left = subst (λ l. IsLeft is.given l kind) (are ∙ sym (target-set program lists home is.given.target run.lists_are is.home_is)) left;
     }

@@ -78,8 +78,5 @@ test-next f initial now more xs k x at made is =
     is ∙ ap (λ system. with_row system (f x)) made ∙ ap (λ l. record { columns = initial.columns; rows = l }) rows
 
 -- ---- how many
-pub length-with_row : (now more : System) (row : Row) → more ≡ with_row now row → length more.rows ≡ length now.rows + 1
-length-with_row now more row is = ap (λ system. length system.rows) is ∙ length-append now.rows (row ∷ [])
-
 pub length-with_rows : {A : Type 0} (f : A → Row) (now more : System) (xs : List A) → more ≡ with_rows now (map f xs) → length more.rows ≡ length now.rows + length xs
 length-with_rows f now more xs is = omega (arith, ap (λ system. length system.rows) is, length-append now.rows (map f xs), length-map xs f)

@@ -93,13 +93,13 @@ set-below ((d, form) ∷ sets) k c below found = elim (eqb_tells d c) [
 ]
 
 -- ---- kept columns
-unmapped : (P : Row → Type 0) (f : ℕ → Row) (xs : List ℕ) → AllByRecursion P (map f xs) → AllByRecursion (λ x. P (f x)) xs
-unmapped P f [] all = tt
-unmapped P f (x ∷ xs) all = (all.0, unmapped P f xs all.1)
+AllByRecursion-from_map : (P : Row → Type 0) (f : ℕ → Row) (xs : List ℕ) → AllByRecursion P (map f xs) → AllByRecursion (λ x. P (f x)) xs
+AllByRecursion-from_map P f [] all = tt
+AllByRecursion-from_map P f (x ∷ xs) all = (all.0, AllByRecursion-from_map P f xs all.1)
 
-mapped : (P : Row → Type 0) (f : ℕ → Row) (xs : List ℕ) → AllByRecursion (λ x. P (f x)) xs → AllByRecursion P (map f xs)
-mapped P f [] all = tt
-mapped P f (x ∷ xs) all = (all.0, mapped P f xs all.1)
+AllByRecursion-to_map : (P : Row → Type 0) (f : ℕ → Row) (xs : List ℕ) → AllByRecursion (λ x. P (f x)) xs → AllByRecursion P (map f xs)
+AllByRecursion-to_map P f [] all = tt
+AllByRecursion-to_map P f (x ∷ xs) all = (all.0, AllByRecursion-to_map P f xs all.1)
 
 appended-to : (xs ys : List Row) (z : List ℤ) → MeetsAll (xs ++ ys) z → MeetsAll xs z × MeetsAll ys z
 appended-to [] ys z all = (tt, all)
@@ -158,7 +158,7 @@ rows-to n thread edge before after inputs one two each counter tests_over within
     let second = appended-to tests sets z first.1 in
     let source = sym (before_is n m thread.counter before after inputs counter one) ∙ all.0 in
     let target = sym (after_is n m thread.counter before after inputs counter one two) ∙ all.1.0 in
-    let kept_all = unmapped (λ row. Meets row z) (kept_row n m) (kept_columns n thread.counter edge) first.0 in
+    let kept_all = AllByRecursion-from_map (λ row. Meets row z) (kept_row n m) (kept_columns n thread.counter edge) first.0 in
     let kept = λ (c : ℕ) (h : c < n) (pass : is_kept thread.counter edge c ≡ true).
     none_left (get_or after c (pos 0)) (get_or before c (pos 0)) (sym (kept_product n m c before after inputs h one two) ∙ range-to (λ k. Meets (kept_row n m k) z) (is_kept thread.counter edge) 0 n c kept_all (omega arith) (omega arith) pass) in
     let are_set = sets-to n m before after inputs one two edge.sets within over second.1 in
@@ -193,7 +193,7 @@ rows-from n k thread edge before after inputs one two last counter tests_over be
     let under = set-below edge.sets k c below found in
     let miss : (thread.counter == c) ≡ false = ne_eqb thread.counter c (λ e. absurd (omega arith)) in
     value c (omega arith) ∙ ap (λ b. cond b (pos edge.to) (next_value edge.sets w before c)) miss) in
-    let kept_all = mapped (λ row. Meets row z) (kept_row n m) (kept_columns n thread.counter edge)
+    let kept_all = AllByRecursion-to_map (λ row. Meets row z) (kept_row n m) (kept_columns n thread.counter edge)
     (range-from (λ c. Meets (kept_row n m c) z) (is_kept thread.counter edge) 0 n (λ c low high pass.
     let h : c < n = omega arith in
     kept_product n m c before after inputs h one two ∙ left_none (get_or after c (pos 0)) (get_or before c (pos 0)) (kept c h pass))) in

@@ -9,6 +9,7 @@ use Rattle.thr_base.specs.ColumnText.{variable, local, counter}
 use Rattle.transition_formula.specs.Program.{Column, Thread, IsThreadOf, IsCounter, IsThread, IsEdge, IsProgram}
 use Rattle.transition_formula.specs.inside.Worked.{first_counter_column, second_counter_column, first_edge, second_edge, worked_thread, worked_program}
 use Rattle.transition_formula.proofs.OwnTexts.{first-own, second-own, first-counter, second-counter}
+use Rattle.lin_rows.proofs.Numbers.{minus_one_fits}
 
 first_counts : (column : Column) → Some first_counter_column ≡ Some column → IsCounter 1 column
 first_counts column at = let same : first_counter_column ≡ column = cc in subst (λ found. IsCounter 1 found) same (record { owned = refl; named = first-counter; starts = refl })
@@ -18,9 +19,6 @@ second_counts column at = let same : second_counter_column ≡ column = cc in su
 
 small : (n : ℕ) → n < 10 → Fits (pos n)
 small n h = omega arith
-
-minus_one : Fits (negsuc 0)
-minus_one = omega arith
 
 first_edge-is : IsEdge worked_program (worked_thread 2 first_edge) first_edge
 unfolding IsDistinct
@@ -40,7 +38,7 @@ first_edge-is = record {
   forms_over = (
     record {
       one_each = refl;
-      coefficients_fit = (small 1 (omega arith), (small 0 (omega arith), (small 0 (omega arith), (small 0 (omega arith), (minus_one, tt)))));
+      coefficients_fit = (small 1 (omega arith), (small 0 (omega arith), (small 0 (omega arith), (small 0 (omega arith), (minus_one_fits, tt)))));
       constant_fits = small 3 (omega arith);
     },
     tt,

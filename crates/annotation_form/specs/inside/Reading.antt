@@ -10,8 +10,8 @@ use Rattle.horn_rules.specs.HomeText.{home_text}
 use Rattle.annotation_form.specs.declared.predicates.Lines.{Lines}
 use Rattle.annotation_form.specs.declared.predicates.Lines.TheVariants.{Sets, Bad}
 use Rattle.annotation_form.specs.Lines.{lines_text}
-use Rattle.annotation_form.specs.BadLine.{IsBadLine, IsReadAs}
-use Rattle.annotation_form.specs.Predicates.{Predicate, IsPredicateOf, IsPredicatesText, AreAllowed, home_atoms, most_atoms_read, predicate_text, predicate_texts, lists_of}
+use Rattle.annotation_form.specs.BadLine.{IsBadLine}
+use Rattle.annotation_form.specs.Predicates.{Predicate, IsPredicateOf, IsPredicatesText, IsTextOfPredicates, IsReadAs, AreAllowed, home_atoms, most_atoms_read, predicate_text, predicate_texts, lists_of}
 
 -- whether a home is an edge
 abbrev pub is_env : Home → Bool
@@ -72,7 +72,7 @@ pub record IsReadSoFar (program : Program) (text : List ℕ) (sets : List (List 
 -- What lines are read as: the sets of the text, or its bad line.
 abbrev pub IsLinesAnswer : Program → List ℕ → Lines → Type 0
 IsLinesAnswer program text (Sets sets) = IsReadAs program text sets
-IsLinesAnswer program text (Bad n) = IsBadLine program text n
+IsLinesAnswer program text (Bad n) = IsBadLine (IsTextOfPredicates program) text n
 
 -- Sets that are read are those of each list of predicates with this text.
 abbrev pub IsReadOnly : Program → List ℕ → Lines → Type 0

@@ -1,4 +1,4 @@
--- The program of the tests. No public clause cites this file.
+-- The program of the tests. No public clause cites this file but that of `two_bare_threads`, which makes it for tests.
 use Rattle.std.specs.Prelude.{ℕ, pos, List, [], ◌∷◌, Some}
 use Rattle.transition_formula.specs.Program.{Column, Edge, Thread, Program}
 

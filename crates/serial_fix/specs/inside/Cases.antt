@@ -1,7 +1,7 @@
 -- The cases of rely-guarantee over facts, as a run goes over them. No public clause cites this file.
 use Rattle.std.specs.Prelude.{◌≡◌, ◌≢◌, ℕ, List, [], ◌∷◌}
 use Rattle.transition_formula.specs.Program.{Program, Thread, Edge, IsThreadOf, IsEdgeOf}
-use Rattle.horn_rules.specs.Home.{State, Env}
+use Rattle.horn_rules.specs.Home.{State, Env, IsLocationOf}
 use Rattle.horn_rules.specs.Fact.{Sets, Fact, statement_of}
 use Rattle.horn_rules.specs.Case.{Case, init_case, own_case as own_case_of, guar_case as guar_case_of, env_case as env_case_of}
 
@@ -24,5 +24,5 @@ pub data IsCase (program : Program) (sets : Sets) : List Fact → Case → Type 
       → IsCase program sets (f ∷ []) (own_case program sets i thread edge f)
   guar : (i e : ℕ) (thread : Thread) (edge : Edge) (f : Fact) → IsEdgeOf program i e thread edge → f.home ≡ State i edge.from
       → IsCase program sets (f ∷ []) (guar_case program sets i e thread edge f)
-  env : (k l i e : ℕ) (other thread : Thread) (edge : Edge) (f t : Fact) → k ≢ i → IsThreadOf program k other → IsEdgeOf program i e thread edge
+  env : (k l i e : ℕ) (other thread : Thread) (edge : Edge) (f t : Fact) → k ≢ i → IsLocationOf program k l other → IsEdgeOf program i e thread edge
       → f.home ≡ State k l → t.home ≡ Env i e → IsCase program sets (f ∷ t ∷ []) (env_case program sets k l other thread edge f t)

@@ -8,7 +8,7 @@ use Rattle.thr_base.specs.declared.names.Instance.{Instance}
 use Rattle.thr_base.specs.declared.names.Instance.TheVariants.{Init, Own, Guar, Env as Environment}
 use Rattle.transition_formula.specs.Program.{Program, Thread, Edge, numbered, IsThreadOf, IsEdgeOf}
 use Rattle.horn_rules.specs.declared.job.Premise.{Premise}
-use Rattle.horn_rules.specs.Home.{State, Env, homes}
+use Rattle.horn_rules.specs.Home.{State, Env, IsLocationOf, homes}
 use Rattle.horn_rules.specs.Fact.{Sets, Fact}
 use Rattle.horn_rules.specs.Case.{Case, init_case}
 use Rattle.horn_rules.specs.Job.{IsPremise}
@@ -33,7 +33,7 @@ pub data IsJobCase (program : Program) (sets : Sets) : Instance → Option Premi
       → IsJobCase program sets (Guar id e) (Some first) None (f ∷ []) (guar_case program sets i e.0 thread edge f)
   env : (id told : FactId) (first second : Premise) (k l i e : ℕ) (other thread : Thread) (edge : Edge) (f t : Fact)
       → Says program sets id first f → Says program sets told second t → k ≢ i
-      → IsThreadOf program k other → IsEdgeOf program i e thread edge → f.home ≡ State k l → t.home ≡ Env i e
+      → IsLocationOf program k l other → IsEdgeOf program i e thread edge → f.home ≡ State k l → t.home ≡ Env i e
       → IsJobCase program sets (Environment id told) (Some first) (Some second) (f ∷ t ∷ []) (env_case program sets k l other thread edge f t)
 
 -- The premise, if it is there, fits the program.

@@ -9,13 +9,13 @@ use Rattle.lin_rows.specs.System.{IsPoint}
 use Rattle.predicate_sets.specs.Sets.{set_at}
 use Rattle.transition_formula.specs.Program.{Program, Thread, Edge, numbered, IsProgram, IsThreadOf, IsEdgeOf}
 use Rattle.horn_rules.specs.declared.job.Premise.{Premise}
-use Rattle.horn_rules.specs.Home.{State, Env, homes}
+use Rattle.horn_rules.specs.Home.{State, Env, IsLocationOf, homes}
 use Rattle.horn_rules.specs.Fact.{Fact}
 use Rattle.horn_rules.specs.Case.{Case, init_case}
 use Rattle.horn_rules.specs.Post.{IsFactOf}
 use Rattle.horn_rules.specs.Least.{IsDerivation}
 use Rattle.horn_rules.specs.Stored.{fact_of, facts_of, sets_of, HasItsHome, AreStoredSetsOf}
-use Rattle.serial_fix.specs.Least.{Leaves}
+use Rattle.serial_fix.specs.Least.{LeastLeaves}
 use Rattle.serial_fix.specs.inside.Cases.{IsCase, own_case, guar_case, env_case}
 use Rattle.serial_fix.specs.inside.Jobs.{IsJobCase, ArePremises}
 use Rattle.serial_fix.specs.inside.Found.{FoundFacts}
@@ -59,7 +59,7 @@ pub record IsInstance (program : Program) (lists : List (List Row)) (found : Lis
 -- What a step leaves: a run that has gone on, and whatever else it says of the facts; or a system that the solver leaves.
 abbrev pub IsStep : Program → List (List Row) → FoundFacts → FoundFacts → (List StoredFact → Type 0) → Step → Type 0
 IsStep program lists old new Says Done = IsRun program lists new × Extends old.facts new.facts × Says new.facts
-IsStep program lists old new Says Left = Leaves program lists
+IsStep program lists old new Says Left = LeastLeaves program lists
 
 -- ---- what is settled, kind by kind
 
@@ -107,7 +107,7 @@ OwnAreSettled program lists f found = (i e : ℕ) → EdgeIsSettled program list
 -- the step of another thread of which t tells, at fact f
 abbrev pub PairIsSettled : Program → List (List Row) → Fact → Fact → List StoredFact → Type 0
 PairIsSettled program lists f t found =
-    (k l i e : ℕ) (other thread : Thread) (edge : Edge) → k ≢ i → IsThreadOf program k other → IsEdgeOf program i e thread edge
+    (k l i e : ℕ) (other thread : Thread) (edge : Edge) → k ≢ i → IsLocationOf program k l other → IsEdgeOf program i e thread edge
     → f.home ≡ State k l → t.home ≡ Env i e → IsSettled program lists found (env_case program (sets_of program lists) k l other thread edge f t)
 
 -- the step of which each of two facts tells, at the other

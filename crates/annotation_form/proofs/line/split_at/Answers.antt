@@ -1,9 +1,9 @@
 use Rattle.std.proofs.Common.{◌∙◌, sym}
-use Rattle.annotation_form.proofs.Marks.{split, unmarked}
+use Rattle.annotation_form.proofs.Marks.{split, position-None}
 use Rattle.annotation_form.proofs.line.split_at.Goals as goal
 
 pub returns-in_err-place-clause-none : goal.returns-in_err-place-clause-none
-returns-in_err-place-clause-none c = rw c.from_residual.ensures (unmarked c.args.mark c.args.text.now (sym c.place_of.ensures.value ∙ c.in_err-place.was))
+returns-in_err-place-clause-none c = rw c.from_residual.ensures (position-None c.args.mark c.args.text.now (sym c.place_of.ensures.value ∙ c.in_err-place.was))
 
 pub returns-clause-plain : goal.returns-clause-plain
 returns-clause-plain c =

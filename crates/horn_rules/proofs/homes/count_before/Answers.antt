@@ -1,8 +1,9 @@
 use Rattle.std.proofs.Common.{◌≡◌, ◌+◌, suc, length, take, ap, ◌∙◌, arith}
 use Rattle.horn_rules.specs.Home.{by_number}
 use Rattle.horn_rules.specs.inside.Kinds.{homes_in}
-use Rattle.horn_rules.proofs.Places.{slice_get-there, numbered-next, length-by_number_more}
+use Rattle.horn_rules.proofs.Places.{numbered-next, length-by_number_more}
 use Rattle.horn_rules.proofs.homes.count_before.Goals as goal
+use Rattle.lin_rows.proofs.Lists.{slice_get-there}
 
 pub loop-i-preserved : goal.loop-i-preserved
 loop-i-preserved c =

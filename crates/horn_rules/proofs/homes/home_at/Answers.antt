@@ -1,8 +1,9 @@
 use Rattle.std.proofs.Common.{◌+◌, ◌-◌, ◌<◌, length, Some, sym, ap, ◌∙◌, arith}
 use Rattle.horn_rules.specs.inside.Kinds.{homes_in}
-use Rattle.horn_rules.proofs.Places.{slice_get-there, numbered-next, by_number-here, by_number-later}
+use Rattle.horn_rules.proofs.Places.{numbered-next, by_number-here, by_number-later}
 use Rattle.horn_rules.proofs.Numbers.{home-at}
 use Rattle.horn_rules.proofs.homes.home_at.Goals as goal
+use Rattle.lin_rows.proofs.Lists.{slice_get-there}
 
 pub returns-then-left-here : goal.returns-then-left-here
 returns-then-left-here c =

@@ -1,8 +1,9 @@
 use Rattle.std.proofs.Common.{◌≡◌, pos, ap, ◌∙◌, rules}
 use Rattle.lin_rows.specs.System.{with_row}
 use Rattle.transition_formula.specs.Rows.{column_is}
-use Rattle.horn_rules.proofs.Premises.{counter-is, length-with_row}
+use Rattle.horn_rules.proofs.Premises.{counter-is}
 use Rattle.horn_rules.proofs.premise.push_location.Goals as goal
+use Rattle.lin_rows.proofs.Systems.{length-with_row}
 
 pub returns-clause-count : goal.returns-clause-count
 returns-clause-count c = length-with_row _ _ _ c.in_ok-push_column_is.ensures.ok

@@ -2,11 +2,12 @@ use Rattle.std.proofs.Common.{Some, None}
 use Rattle.thr_base.specs.declared.names.Instance.TheVariants.{Guar}
 use Rattle.horn_rules.specs.Stored.{fact_of}
 use Rattle.serial_fix.specs.inside.Run.{InstanceIsSettled, GuarIsSettled}
-use Rattle.serial_fix.proofs.Instances.{env-home, found-home, guar-instance, guar-settled, if-step}
+use Rattle.horn_rules.proofs.HomesThere.{edge-home}
+use Rattle.serial_fix.proofs.Instances.{found-home, guar-instance, guar-settled, if-step}
 use Rattle.serial_fix.proofs.run.guarantee.Goals as goal
 
 pub number-home-requires : goal.number-home-requires
-number-home-requires c = env-home c.args.program.now c.args.i.0 c.args.e.0 c.requires.from.thread c.requires.from.edge c.requires.from.edge_is
+number-home-requires c = edge-home c.args.program.now c.args.i.0 c.args.e.0 c.requires.from.thread c.requires.from.edge c.requires.from.edge_is
 
 pub as_premise-requires : goal.as_premise-requires
 as_premise-requires c = found-home c.args.program.now c.args.sets.now c.args.found.now c.args.known.fact c.requires.run c.requires.there

@@ -2,7 +2,7 @@ use Rattle.std.proofs.Common.{◌≡◌, ◌<◌, ◌≤◌, ◌+◌, ◌-◌, �
 use Rattle.std.proofs.lemmas.List.{length-map}
 use Rattle.std.proofs.Math.Nat.{le_trans}
 use Rattle.transition_formula.specs.Rows.{test_row}
-use Rattle.transition_formula.proofs.Pieces.{length-with_row, length-with_rows}
+use Rattle.transition_formula.proofs.Pieces.{length-with_rows}
 use Rattle.std.specs.List.{AllByRecursion}
 use Rattle.transition_formula.specs.Program.{Program, first_counter}
 use Rattle.transition_formula.specs.Stored.{edge_of, set_of}
@@ -10,6 +10,7 @@ use Rattle.transition_formula.specs.declared.graph.Edge.{Edge}
 use Rattle.transition_formula.specs.declared.graph.Line.{Line}
 use Rattle.transition_formula.proofs.Programs.{sets-within, few_sets}
 use Rattle.transition_formula.proofs.edges.rows_of.Goals as goal
+use Rattle.lin_rows.proofs.Systems.{length-with_row}
 
 sets_are : (program : Program) (edge : Edge) (sets : List (ℕ × Line)) (n : ℕ) → n ≡ length program.columns → sets ≡ edge.sets.items
     → AllByRecursion (λ set. set.0 < first_counter program) (map set_of edge.sets.items) → AllByRecursion (λ set. set.0 < n) (map set_of sets)

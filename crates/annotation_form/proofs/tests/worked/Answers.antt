@@ -1,5 +1,0 @@
-use Rattle.horn_rules.proofs.WorkedProgram.{worked-is}
-use Rattle.annotation_form.proofs.tests.worked.Goals as goal
-
-pub new-requires : goal.new-requires
-new-requires c = rw (c.in_ok-columns.ensures, c.in_ok-threads.ensures) worked-is
