@@ -1,10 +1,11 @@
 //! The table that threads share, its rule, and what each step on it tells.
 //! Word 0 is twice the length of the history, and one more while the turn is taken. Slot 0 has the value while it is free.
 //!
-//! There are seven kinds of atomic step. A split gives a new seat what the one has seen. A join keeps the longer history, and the
-//! other seat is spent. A load changes no view: a thread that waits looks so, and after a join it compares. A try to take the turn
-//! goes from an even word to the next, and the winner has seen the history of the value. The value is taken out of the slot and put
-//! back with no step on the word. A give makes the word twice the new length, and the seat has seen all.
+//! A seat takes five kinds of step. A split gives a new seat what the one has seen. A join keeps the longer history, and the other
+//! seat is spent; the load behind it tells that the shorter begins the longer, and changes no view. A try to take the turn goes from
+//! an even word to the next, and the winner has seen the history of the value. A give makes the word twice the new length, and the
+//! seat has seen all. The value is taken out of the slot and put back with no step on the word, and a thread that waits looks
+//! without its seat, which tells it nothing.
 use crate::view::View;
 use atomic_table::{Join, Play, Seat, Shared, Split, Table, TableRule};
 use std::alloc::Global;

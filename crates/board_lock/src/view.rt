@@ -4,7 +4,7 @@ use std::collections::LinkedList;
 pub struct View<E> {
     /// The history that its owner has seen.
     pub seen: LinkedList<E>,
-    /// The shorter history that a seat which it took in had seen.
+    /// The shorter of the histories that it and a seat which it took in had seen.
     pub told: LinkedList<E>,
     pub has_turn: bool,
 }
