@@ -16,15 +16,12 @@ use Rattle.threader_cli.specs.inside.Checks.{allows}
 use Rattle.threader_cli.specs.Form.{at_name, is_called, signed, value_of, term_coefficient, coefficient_in, constant_in, sums_fit_from, has_number}
 use Rattle.threader_cli.specs.Tree.{Term, Number, Named, Multiple, Signed}
 use Rattle.threader_cli.specs.Uses.{Use, Assigns, Tests, Assumes, is_among, reads_among, uses_only, accesses, use_fits, one_if}
-
-pub fits_true : (z : ℤ) → Fits z → fits z ≡ true
-fits_true (pos n) h = lt-ltb n (2 ^ 127) h
-fits_true (negsuc n) h = lt-ltb (suc n) (2 ^ 127) h
+use Rattle.lin_rows.proofs.Numbers.{true-fits}
 
 fits_signed : (negative : Bool) (n : ℕ) → Fits (pos n) → fits (signed negative (pos n)) ≡ true
-fits_signed false n h = fits_true (pos n) h
+fits_signed false n h = true-fits (pos n) h
 fits_signed true zero h = refl
-fits_signed true (suc n) h = fits_true (negsuc n) h
+fits_signed true (suc n) h = true-fits (negsuc n) h
 
 fits_at : (name : List ℕ) (k : ℤ) (column : Option (List ℕ)) → fits k ≡ true → fits (at_name name k column) ≡ true
 fits_at name k column h = by_test (is_called name column)

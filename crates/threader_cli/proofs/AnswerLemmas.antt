@@ -17,8 +17,7 @@ use Rattle.transition_formula.specs.Program.{Program, numbered}
 use Rattle.predicate_sets.specs.Sets.{set_at}
 use Rattle.horn_rules.specs.Home.{Home, homes}
 use Rattle.horn_rules.specs.Stored.{facts_of, sets_of, AreStoredSetsOf}
-use Rattle.annotation_form.specs.BadLine.{IsReadAs}
-use Rattle.annotation_form.specs.Predicates.{home_atoms}
+use Rattle.annotation_form.specs.Predicates.{IsReadAs, home_atoms}
 use Rattle.horn_rules.specs.Fact.{Sets, Fact, IsSetOf}
 use Rattle.horn_rules.specs.Least.{Least}
 use Rattle.horn_rules.specs.Table.{IsTable}

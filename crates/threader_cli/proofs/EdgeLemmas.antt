@@ -5,7 +5,7 @@ use Rattle.std.proofs.lemmas.List.{length-map, length-append}
 use Rattle.std.proofs.lemmas.Bool.Decides.{nat_tests}
 use Rattle.lin_rows.specs.System.{IsRowOver}
 use Rattle.lin_rows.proofs.Lists.{AllByRecursion-append}
-use Rattle.lin_rows.proofs.Numbers.{Fits-neg}
+use Rattle.lin_rows.proofs.Numbers.{Fits-neg, fits-true}
 use Rattle.thr_base.specs.Number.{Fits, fits}
 use Rattle.transition_formula.specs.Program.{Edge, Thread, Program, IsEdge, first_counter}
 use Rattle.threader_cli.proofs.FormLemmas.{Fits-multiple}
@@ -21,12 +21,8 @@ use Rattle.threader_cli.specs.declared.limit.Limit.{Limit}
 use Rattle.threader_cli.specs.declared.limit.Limit.TheVariants.{Is, AtMost, AtLeast}
 use Rattle.threader_cli.specs.Word.{is_number}
 
-pub Fits-true : (z : ℤ) → fits z ≡ true → Fits z
-Fits-true (pos n) e = below_from n (2 ^ 127) e
-Fits-true (negsuc n) e = below_from (suc n) (2 ^ 127) e
-
 sum-Fits : (adds : Signed → ℤ) (sum : ℤ) (terms : List Signed) → fits sum ≡ true → sums_fit_from adds sum terms ≡ true → Fits (sum_from adds sum terms)
-sum-Fits adds sum [] fit all = Fits-true sum fit
+sum-Fits adds sum [] fit all = fits-true sum fit
 sum-Fits adds sum (s ∷ terms) fit all = sum-Fits adds (sum +ℤ adds s) terms (left_true (fits (sum +ℤ adds s)) _ all) (right_true (fits (sum +ℤ adds s)) _ all)
 
 sums-Fit : (columns : Columns) (terms : List Signed) → list_all (λ column. sums_fit_from (coefficient_in column) (pos 0) terms) columns ≡ true
@@ -85,7 +81,7 @@ module _ (program : Program) (thread : Thread) (columns : Columns) (names : List
   limits-are : (name : List ℕ) (from to : ℕ) (sides : List Limit) → 0 < from → from < bound → to < bound → limits_fit sides ≡ true → AreEdges (map (limit_edge columns name from to) sides)
   limits-are name from to [] some below target all = tt
   limits-are name from to (limit ∷ sides) some below target all =
-      (limit-is name from to limit some below target (Fits-true (number_in limit) (left_true (fits (number_in limit)) _ all)), limits-are name from to sides some below target (right_true (fits (number_in limit)) _ all))
+      (limit-is name from to limit some below target (fits-true (number_in limit) (left_true (fits (number_in limit)) _ all)), limits-are name from to sides some below target (right_true (fits (number_in limit)) _ all))
 
   assign-is : (name : List ℕ) (terms : List Signed) (from to : ℕ) → 0 < from → from < bound → to < bound → is_among names name ≡ true → sums_fit columns terms ≡ true
       → IsEdge program thread (edge from to [] ((place_of columns name, form_of columns terms) ∷ []))

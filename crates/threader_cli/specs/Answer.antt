@@ -14,8 +14,9 @@ use Rattle.horn_rules.specs.Cover.{Covers}
 use Rattle.horn_rules.specs.Least.{LeastSays}
 use Rattle.horn_rules.specs.Stored.{sets_of}
 use Rattle.horn_rules.specs.Table.{IsTable}
-use Rattle.annotation_form.specs.BadLine.{IsReadAs, IsBadLine}
-use Rattle.serial_fix.specs.Least.{Leaves}
+use Rattle.annotation_form.specs.BadLine.{IsBadLine}
+use Rattle.annotation_form.specs.Predicates.{IsReadAs, IsTextOfPredicates}
+use Rattle.serial_fix.specs.Least.{LeastLeaves}
 use Rattle.threader_cli.specs.ProgramText.{IsProgramText, Refuses}
 use Rattle.threader_cli.specs.Refusals.{not_built_text}
 
@@ -71,12 +72,12 @@ pub data AnswersProgram (program : Program) (lists : List (List Row)) : ℕ → 
   -- The table is that of the least set of rely-guarantee, and what its facts say covers all runs.
   table : (text : List ℕ) → IsTable program Rg (sets_of program lists) text → Covers program (LeastSays program Rg (sets_of program lists))
       → AnswersProgram program lists 0 text
-  -- The solver leaves a system undecided that the least set asks for.
-  leaves : Leaves program lists → AnswersProgram program lists 4 (codes "UNKNOWN leaves\n")
+  -- A system that decides an instance over the least set is left undecided.
+  leaves : LeastLeaves program lists → AnswersProgram program lists 4 (codes "UNKNOWN leaves\n")
 
 -- The status and the text that follow from a program and the bytes of a file of predicates.
 pub data AnswersPredicates (program : Program) (bytes : List ℕ) : ℕ → List ℕ → Type 0 where
-  bad_line : (n : ℕ) → IsBadLine program bytes n → AnswersPredicates program bytes 3 (bad_line_text predicates_text n)
+  bad_line : (n : ℕ) → IsBadLine (IsTextOfPredicates program) bytes n → AnswersPredicates program bytes 3 (bad_line_text predicates_text n)
   read : (lists : List (List Row)) (status : ℕ) (text : List ℕ) → IsReadAs program bytes lists → AnswersProgram program lists status text
       → AnswersPredicates program bytes status text
 
