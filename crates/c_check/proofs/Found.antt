@@ -9,7 +9,7 @@ use Rattle.c_check.specs.declared.body.Body.{Body}
 use Rattle.c_check.specs.declared.instruction.Instruction.{Instruction}
 use Rattle.c_check.specs.Plan.{Stmt, Stmts, code, joined, one, stmt_code}
 use Rattle.c_check.specs.Temporaries.{need, stmt_need}
-use Rattle.c_check.specs.inside.First.{earlier, first_of}
+use Rattle.c_check.specs.First.{earlier, first_of}
 use Rattle.c_check.specs.inside.Found.{found, named, nothing, refused, together, written}
 use Rattle.c_check.proofs.FirstOf.{earlier-earlier, earlier-none, first_of-append}
 

@@ -7,7 +7,7 @@ ghost use Rattle.c_check.specs.Plan as plan;
 ghost use Rattle.c_check.specs.Resolve as resolve;
 ghost use Rattle.c_check.specs.Temporaries as temporaries;
 ghost use Rattle.c_check.specs.Broken as broken;
-ghost use Rattle.c_check.specs.inside.First.{first_of};
+ghost use Rattle.c_check.specs.First.{first_of};
 ghost use Rattle.c_check.specs.inside.Found.{refused, stmt_found, stmts_found, together};
 
 use crate::body::Body;

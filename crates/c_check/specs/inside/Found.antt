@@ -16,7 +16,7 @@ use Rattle.c_check.specs.Plan.{Condition, Stmts, code, stored_condition_of}
 use Rattle.c_check.specs.Resolve.{assign_if, first, first_locals, locals, set_if, stmt, stmt_locals, stmts, stmts_locals}
 use Rattle.c_check.specs.Temporaries.{condition_need, need}
 use Rattle.c_check.specs.Broken.{first_broken, locals_broken, not_in_atomic, stmt_broken, stmts_broken, twice, value_if_broken}
-use Rattle.c_check.specs.inside.First.{earlier, first_of}
+use Rattle.c_check.specs.First.{earlier, first_of}
 
 abbrev pub nothing : Body
 nothing = record { locals = []; temporaries = 0; code = []; refusal = None }

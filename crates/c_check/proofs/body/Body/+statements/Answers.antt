@@ -9,7 +9,7 @@ use Rattle.c_check.specs.declared.instruction.Instruction.TheVariants as instruc
 use Rattle.c_check.specs.Scope.{open_scope}
 use Rattle.c_check.specs.Resolve as resolve
 use Rattle.c_check.specs.Broken as broken
-use Rattle.c_check.specs.inside.First.{first_of}
+use Rattle.c_check.specs.First.{first_of}
 use Rattle.c_check.specs.inside.Found.{first_found, found, loop_end, refused, stmt_found, stmts_found, tested, together}
 use Rattle.c_check.proofs.Found.{together-none}
 use Rattle.c_check.proofs.Compound.{exit_found, jump_found, simple_done}
