@@ -1,5 +1,5 @@
 -- What is found of each compound statement, from the steps of the walk over it.
-use Rattle.std.proofs.Common.{◌≡◌, ℕ, ◌+◌, List, [], ◌∷◌, ◌++◌, length, Option, None, refl, sym, ap, ◌∙◌, append-nil}
+use Rattle.std.proofs.Common.{◌≡◌, ℕ, ◌+◌, List, [], ◌∷◌, ◌++◌, length, Option, None, refl, ap, ◌∙◌, append-nil}
 use Rattle.thr_base.specs.declared.stops.Refusal.{Refusal}
 use Rattle.c_tree.specs.Plain as plain
 use Rattle.c_check.specs.declared.body.Body.{Body}
@@ -10,10 +10,10 @@ use Rattle.c_check.specs.declared.instruction.Instruction.{Instruction}
 use Rattle.c_check.specs.declared.instruction.Instruction.TheVariants as instruction
 use Rattle.c_check.specs.Scope.{Scopes, open_scope}
 use Rattle.c_check.specs.Broken.{assign_if_broken, first_broken, in_atomic, not_in_atomic, stmt_broken, stmts_broken, value_broken, value_if_broken}
-use Rattle.c_check.specs.Plan.{Condition, Stmts}
-use Rattle.c_check.specs.Resolve.{assign_if, behind, behind_all, condition, condition_if, first, first_locals, past, past_first, stmt, stmt_locals, stmts, stmts_locals, with_first}
+use Rattle.c_check.specs.Plan.{Condition}
+use Rattle.c_check.specs.Resolve.{behind, behind_all, condition, condition_if, first, first_locals, past, past_first, stmt, stmt_locals, stmts, stmts_locals, with_first}
 use Rattle.c_check.specs.First.{first_of}
-use Rattle.c_check.specs.inside.Found.{atomic_end, first_found, found, locals_found, loop_end, nothing, outside_atomic, refused, stmt_found, stmts_found, tested, together, written}
+use Rattle.c_check.specs.inside.Found.{atomic_end, first_found, locals_found, loop_end, nothing, outside_atomic, refused, stmt_found, stmts_found, tested, together, written}
 use Rattle.c_check.proofs.Found.{after_two, after_three, after_four, length-found, length-refused, length-written, nothing-together, together_assoc, together-found, together-none}
 use Rattle.c_check.proofs.Compound.{atomic_found, for_found, if_alone_found, if_found, loop_found}
 

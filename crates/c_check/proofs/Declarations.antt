@@ -1,7 +1,6 @@
 -- Locals, one after another.
-use Rattle.std.proofs.Common.{◌≡◌, ◌+◌, List, [], ◌∷◌, ◌++◌, length, Option, refl, ap, ◌∙◌, append-nil}
+use Rattle.std.proofs.Common.{◌≡◌, ◌+◌, List, [], ◌∷◌, ◌++◌, length, Option, ap, ◌∙◌, append-nil}
 use Rattle.thr_base.specs.declared.stops.Refusal.{Refusal}
-use Rattle.c_tree.specs.declared.expr.Name.{Name}
 use Rattle.c_tree.specs.Plain as plain
 use Rattle.c_check.specs.declared.body.Body.{Body}
 use Rattle.c_check.specs.declared.meaning.Variable.TheVariants as variable

@@ -3,7 +3,6 @@ use Rattle.std.proofs.Common.{◌≡◌, ℕ, ◌+◌, ◌<◌, ◌≤◌, Bool,
 use Rattle.std.proofs.lemmas.Bool.Decides.{nat_tests}
 use Rattle.std.specs.List.{AllByRecursion}
 use Rattle.std.specs.Option.{option_or}
-use Rattle.thr_base.specs.declared.stops.Refusal.{Refusal}
 use Rattle.c_tree.specs.declared.expr.Name.{Name}
 use Rattle.c_tree.specs.Plain as plain
 use Rattle.c_check.specs.declared.meaning.Meaning.{Meaning}
@@ -11,8 +10,8 @@ use Rattle.c_check.specs.declared.meaning.Meaning.TheVariants as meaning
 use Rattle.c_check.specs.declared.meaning.Variable.TheVariants as variable
 use Rattle.c_check.specs.declared.uses.Kind.{Kind}
 use Rattle.c_check.specs.declared.uses.Kind.TheVariants as kind
-use Rattle.c_check.specs.Scope.{Binding, Scope, Scopes, as_function, as_lock, as_variable, declare, function_of, in_scope, lock_of, meaning_of, open_scope, variable_of, with_name}
-use Rattle.c_check.specs.Broken.{broken_at, broken_if, is_in_innermost, is_of_kind, twice, unknown_as}
+use Rattle.c_check.specs.Scope.{Binding, Scope, Scopes, as_function, as_lock, as_variable, declare, function_of, in_scope, lock_of, meaning_of, open_scope, variable_of}
+use Rattle.c_check.specs.Broken.{broken_if, is_of_kind, twice, unknown_as}
 use Rattle.c_check.specs.Resolve.{behind, behind_all, first_locals, past, stmt_locals, stmts_locals, with_first, with_handles, with_locals}
 use Rattle.c_check.specs.WellFormed.{Counts, HasVariable}
 use Rattle.c_check.proofs.ScopeLemmas.{with_name-new}

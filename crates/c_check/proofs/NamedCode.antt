@@ -1,6 +1,5 @@
 -- What the statements of a function name is there, and their numbers fit, where the function breaks no rule.
-use Rattle.std.proofs.Common.{◌≡◌, ℕ, ◌+◌, ◌<◌, ◌≤◌, ℤ, pos, ◌&&◌, List, [], ◌∷◌, ◌++◌, length, Option, Some, None, refl, sym, ap, subst, ◌∙◌, arith, append_assoc, length-append}
-use Rattle.std.specs.List.{AllByRecursion}
+use Rattle.std.proofs.Common.{◌≡◌, ℕ, ◌+◌, ◌≤◌, pos, ◌&&◌, List, [], ◌∷◌, ◌++◌, length, Option, Some, None, refl, sym, ap, subst, ◌∙◌, arith, append_assoc, length-append}
 use Rattle.c_tree.specs.declared.expr.Name.{Name}
 use Rattle.c_tree.specs.declared.expr.UnaryKind.{UnaryKind}
 use Rattle.c_tree.specs.declared.expr.UnaryKind.TheVariants as unary
@@ -17,8 +16,8 @@ use Rattle.c_check.specs.declared.uses.Kind.TheVariants as kind
 use Rattle.c_check.specs.declared.uses.Use.{Use}
 use Rattle.c_check.specs.declared.uses.Use.TheVariants as use_as
 use Rattle.c_check.specs.Scope.{Scopes, declare, open_scope, variable_of}
-use Rattle.c_check.specs.Plan.{Arithmetic, Condition, Stmt, Stmts, Test, code, joined, one, postfix, stmt_code, stored_condition_of, test_postfix}
-use Rattle.c_check.specs.Broken.{assign_broken, assign_if_broken, call_broken, expr_broken, first_broken, has_name, in_atomic, locals_broken, mark_broken, not_in_atomic, only_in_main, operand_use, sign_broken, sign_use, stmt_broken, stmts_broken, twice, unknown_as, value_broken, value_if_broken}
+use Rattle.c_check.specs.Plan.{Arithmetic, Stmt, Stmts, code, joined, one, postfix, stmt_code, stored_condition_of, test_postfix}
+use Rattle.c_check.specs.Broken.{assign_broken, assign_if_broken, call_broken, expr_broken, first_broken, has_name, in_atomic, locals_broken, mark_broken, not_in_atomic, operand_use, sign_broken, sign_use, stmt_broken, stmts_broken, twice, unknown_as, value_broken, value_if_broken}
 use Rattle.c_check.specs.Resolve.{arithmetic, assign, assign_if, behind, binary, call, changed, condition, condition_if, first, first_locals, locals, not_zero, past, past_first, prefixed, set, set_if, stmt, stmt_locals, stmts, stmts_locals, test, with_first}
 use Rattle.c_check.specs.WellFormed.{Counts, HasCode, HasCondition, HasOperation, HasOperations, HasInstruction, HasTest, HasTests, HasVariable}
 use Rattle.c_check.proofs.Named.{HasScopes, all-append, append-none, has-around, has-behind, has-declare, has-declared, has-lock_of, has-open_scope, has-variable_of, has-with_first, three-none}

@@ -1,11 +1,11 @@
 -- What a text declares is there for its functions and for the creations of `main`, where the text breaks no rule.
-use Rattle.std.proofs.Common.{◌≡◌, ℕ, zero, suc, ◌+◌, ◌-◌, ◌<◌, ◌≤◌, ℤ, Bool, true, false, List, [], ◌∷◌, ◌++◌, length, map, drop, Option, Some, None, refl, sym, ap, subst, ◌∙◌, arith, length-append, length-drop}
+use Rattle.std.proofs.Common.{◌≡◌, ℕ, ◌+◌, ◌<◌, ◌≤◌, ℤ, Bool, true, false, List, [], ◌∷◌, length, map, drop, Option, Some, None, refl, sym, subst, arith, length-append, length-drop}
 use Rattle.std.specs.List.{AllByRecursion}
 use Rattle.thr_base.specs.Limits.{most_threads}
 use Rattle.thr_base.specs.Refusals.{bad_main}
 use Rattle.thr_base.specs.Number.{Fits}
 use Rattle.c_tree.specs.declared.expr.Name.{Name}
-use Rattle.c_tree.specs.Leaves.{NumbersFit, global_leaves, item_leaves, items_leaves, start_leaves, stmts_leaves}
+use Rattle.c_tree.specs.Leaves.{NumbersFit, global_leaves, item_leaves, items_leaves, start_leaves}
 use Rattle.c_tree.specs.Plain as plain
 use Rattle.c_check.specs.declared.meaning.Meaning.TheVariants as meaning
 use Rattle.c_check.specs.declared.meaning.Variable.TheVariants as variable
@@ -15,8 +15,8 @@ use Rattle.c_check.specs.declared.uses.Kind.TheVariants as kind
 use Rattle.c_check.specs.Scope.{Scopes, declare, open_scope}
 use Rattle.c_check.specs.Plan.{code}
 use Rattle.c_check.specs.Broken.{broken_if, only_in_main, stmt_broken, stmts_broken, twice, unknown_as}
-use Rattle.c_check.specs.Resolve.{behind, past, stmt_locals, stmts_locals, with_handles}
-use Rattle.c_check.specs.Program.{Next, behind_item, body_scopes, created_from, created_in, first_next, first_scopes, form_broken, functions_from, functions_in, globals_in, item_broken, items_broken, locks_in, main_broken, or_main, past_item, too_many_created, with_functions, with_globals, with_locks}
+use Rattle.c_check.specs.Resolve.{behind, past, stmt_locals, stmts_locals}
+use Rattle.c_check.specs.Program.{Next, behind_item, body_scopes, created_from, created_in, first_scopes, form_broken, functions_from, functions_in, globals_in, item_broken, items_broken, locks_in, main_broken, or_main, past_item, too_many_created, with_functions, with_globals, with_locks}
 use Rattle.c_check.specs.Columns.{start_of}
 use Rattle.c_check.specs.inside.Main.{creation_in}
 use Rattle.c_check.specs.WellFormed.{Counts, HasCode}

@@ -3,26 +3,22 @@ use Rattle.std.proofs.Common.{◌≡◌, ℕ, zero, suc, ◌+◌, ◌-◌, ◌<�
 use Rattle.std.proofs.lemmas.List.{length-map}
 use Rattle.std.proofs.lemmas.List.Elements.{filter-append}
 use Rattle.std.specs.List.{AllByRecursion}
-use Rattle.thr_base.specs.Limits.{most_threads}
 use Rattle.thr_base.specs.Number.{Fits}
 use Rattle.thr_base.specs.declared.names.ThreadNo.{ThreadNo}
 use Rattle.c_tree.specs.declared.expr.Name.{Name}
-use Rattle.c_tree.specs.declared.item.Tree.{Tree}
-use Rattle.c_tree.specs.GrammarItem.{IsTreeOf}
 use Rattle.c_tree.specs.Leaves.{NumbersFit, tree_leaves}
 use Rattle.c_tree.specs.Plain as plain
 use Rattle.c_tree.specs.Seen.{plain_tree}
 use Rattle.c_tree.proofs.SittingText.{tree_fits}
 use Rattle.c_check.specs.declared.columns.OwnVariables.{OwnVariables}
 use Rattle.c_check.specs.declared.plan.Column.{Column}
-use Rattle.c_check.specs.declared.plan.Function as stored
 use Rattle.c_check.specs.declared.plan.Thread.{Thread}
 use Rattle.c_check.specs.declared.plan.Plan.{Plan}
 use Rattle.c_check.specs.Plan.{code}
 use Rattle.c_check.specs.Scope.{Scopes}
 use Rattle.c_check.specs.Program.{Function, Next, behind_item, created_in, created_of, first_next, first_scopes, functions_from, functions_in, functions_of, globals_in, locks_in, past_item}
-use Rattle.c_check.specs.Columns.{columns_if, columns_of, counters_from, local_columns, lock_column, own_columns_from, own_count, own_variables, owns_of, shared_columns, start_of, temporary_columns, threads_from, threads_of, variable_column}
-use Rattle.c_check.specs.Check.{IsAccepted, IsPlanOf, stored_function}
+use Rattle.c_check.specs.Columns.{columns_if, columns_of, counters_from, local_columns, lock_column, own_columns_from, own_count, own_variables, owns_of, shared_columns, temporary_columns, threads_from, threads_of, variable_column}
+use Rattle.c_check.specs.Check.{IsAccepted, stored_function}
 use Rattle.c_check.specs.WellFormed.{AcceptedPlansAreWellFormed, Counts, HasCode, HasThread, IsWellFormedPlan, StartFits, counts_in, is_lock, is_variable}
 use Rattle.c_check.proofs.CheckLemmas.{length-counters_from}
 use Rattle.c_check.proofs.ColumnLemmas.{length-columns_if}

@@ -17,7 +17,6 @@ use Rattle.c_check.specs.declared.test.Condition.{Condition}
 use Rattle.c_check.specs.declared.test.Condition.TheVariants as condition
 use Rattle.c_check.specs.declared.instruction.Instruction.{Instruction}
 use Rattle.c_check.specs.declared.instruction.Instruction.TheVariants as instruction
-use Rattle.c_check.specs.declared.plan.Column.{Column}
 use Rattle.c_check.specs.declared.plan.ColumnKind.{ColumnKind}
 use Rattle.c_check.specs.declared.plan.ColumnKind.TheVariants as kind
 use Rattle.c_check.specs.declared.plan.Function.{Function}

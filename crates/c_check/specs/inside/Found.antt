@@ -11,7 +11,7 @@ use Rattle.c_check.specs.declared.meaning.Meaning.TheVariants as meaning
 use Rattle.c_check.specs.declared.test.Condition as stored_condition
 use Rattle.c_check.specs.declared.instruction.Instruction.{Instruction}
 use Rattle.c_check.specs.declared.instruction.Instruction.TheVariants as instruction
-use Rattle.c_check.specs.Scope.{Scopes, declare, open_scope}
+use Rattle.c_check.specs.Scope.{Scopes, declare}
 use Rattle.c_check.specs.Plan.{Condition, Stmts, code, stored_condition_of}
 use Rattle.c_check.specs.Resolve.{assign_if, first, first_locals, locals, set_if, stmt, stmt_locals, stmts, stmts_locals}
 use Rattle.c_check.specs.Temporaries.{condition_need, need}

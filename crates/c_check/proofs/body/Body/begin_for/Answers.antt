@@ -1,4 +1,4 @@
-use Rattle.std.proofs.Common.{◌++◌, option_map, sym, ap, ap₂, ◌∙◌}
+use Rattle.std.proofs.Common.{option_map, sym, ap, ap₂, ◌∙◌}
 use Rattle.std.proofs.lemmas.Result.{on_ok_weaker}
 use Rattle.c_tree.specs.Seen.{plain_assign, plain_cond}
 use Rattle.c_check.specs.declared.instruction.Instruction.TheVariants as instruction
