@@ -1,7 +1,8 @@
 -- What is found of each compound statement, from the steps of the walk over it.
-use Rattle.std.proofs.Common.{◌≡◌, ℕ, ◌+◌, List, [], ◌∷◌, ◌++◌, length, Option, None, refl, sym, ap, ◌∙◌, append-nil}
+use Rattle.std.proofs.Common.{◌≡◌, ℕ, ◌+◌, List, [], ◌∷◌, ◌++◌, length, Option, Some, None, refl, ap, ◌∙◌, append-nil}
 use Rattle.thr_base.specs.declared.stops.Refusal.{Refusal}
 use Rattle.c_tree.specs.Plain as plain
+use Rattle.c_tree.specs.Seen.{if_layer}
 use Rattle.c_check.specs.declared.body.Body.{Body}
 use Rattle.c_check.specs.declared.place.Place.{Place}
 use Rattle.c_check.specs.declared.uses.Use.TheVariants as use_as
@@ -10,10 +11,10 @@ use Rattle.c_check.specs.declared.instruction.Instruction.{Instruction}
 use Rattle.c_check.specs.declared.instruction.Instruction.TheVariants as instruction
 use Rattle.c_check.specs.Scope.{Scopes, open_scope}
 use Rattle.c_check.specs.Broken.{assign_if_broken, first_broken, in_atomic, not_in_atomic, stmt_broken, stmts_broken, value_broken, value_if_broken}
-use Rattle.c_check.specs.Plan.{Condition, Stmts}
-use Rattle.c_check.specs.Resolve.{assign_if, behind, behind_all, condition, condition_if, first, first_locals, past, past_first, stmt, stmt_locals, stmts, stmts_locals, with_first}
-use Rattle.c_check.specs.inside.First.{first_of}
-use Rattle.c_check.specs.inside.Found.{atomic_end, first_found, found, locals_found, loop_end, nothing, outside_atomic, refused, stmt_found, stmts_found, tested, together, written}
+use Rattle.c_check.specs.Plan.{Condition}
+use Rattle.c_check.specs.Resolve.{behind, behind_all, condition, condition_if, first, first_locals, past, past_first, stmt, stmt_locals, stmts, stmts_locals, with_first}
+use Rattle.c_check.specs.First.{first_of}
+use Rattle.c_check.specs.inside.Found.{atomic_end, first_found, found, locals_found, loop_end, nothing, other_found, outside_atomic, refused, stmt_found, stmts_found, tested, together, written}
 use Rattle.c_check.proofs.Found.{after_two, after_three, after_four, length-found, length-refused, length-written, nothing-together, together_assoc, together-found, together-none}
 use Rattle.c_check.proofs.Compound.{atomic_found, for_found, if_alone_found, if_found, loop_found}
 
@@ -70,6 +71,23 @@ if_else_done p ss b0 from v s t {b1 = b1} {b2 = b2} {b3 = b3} e1 e2 e3 e4 e5 =
     after_two b0 _ _ (after_four b0 _ inner _ other e1' e2' e3 e4') e5
     ∙ ap (together b0) (if_found from (condition ss v) (stmt_locals s) (stmt_locals t) (stmt (open_scope ss) n s) (stmt (open_scope ss) (past n s) t)
     (value_broken ss use_as.Condition v) (stmt_broken p (open_scope ss) n s) (stmt_broken p (open_scope ss) (past n s) t))
+
+-- an `if`, perhaps with an `else`
+pub if_layer_done : (p : Place) (ss : Scopes) (b0 : Body) (from : ℕ) (v : plain.Value) (s : plain.Stmt) (other : Option plain.Stmt) {b1 b2 b3 b4 b5 : Body}
+    → b1 ≡ together (together b0 (refused (first_of (value_broken ss use_as.Condition v)))) (tested (instruction.If from) (condition ss v))
+    → b2 ≡ together b1 (stmt_found p (open_scope ss) (length b1.locals) s)
+    → b3 ≡ together b2 (written 0 (instruction.Else ∷ []))
+    → b4 ≡ together b3 (other_found p (open_scope ss) (length b3.locals) other)
+    → b5 ≡ together b4 (written 0 (instruction.EndIf ∷ []))
+    → b5 ≡ together b0 (stmt_found p ss (length b0.locals) (if_layer from v s other))
+unfolding found
+if_layer_done p ss b0 from v s None {b3 = b3} e1 e2 e3 e4 e5 =
+    if_done p ss b0 from v s e1 e2 e3 (e5 ∙ ap (λ b. together b (written 0 (instruction.EndIf ∷ []))) (e4 ∙ together-none b3))
+if_layer_done p ss b0 from v s (Some t) e1 e2 e3 e4 e5 = if_else_done p ss b0 from v s t e1 e2 e3 e4 e5
+
+pub behind-if_layer : (ss : Scopes) (next from : ℕ) (v : plain.Value) (s : plain.Stmt) (other : Option plain.Stmt) → behind ss next (if_layer from v s other) ≡ ss
+behind-if_layer ss next from v s None = refl
+behind-if_layer ss next from v s (Some t) = refl
 
 pub while_done : (p : Place) (ss : Scopes) (b0 : Body) (from : ℕ) (v : plain.Value) (s : plain.Stmt) {b1 b2 b3 : Body}
     → b1 ≡ together (together b0 (refused (first_of (not_in_atomic p from ++ value_broken ss use_as.Condition v)))) (tested (instruction.Loop from) (condition ss v))

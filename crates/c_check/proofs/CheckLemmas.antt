@@ -19,7 +19,7 @@ plan-is tree w found = record {
   threads_are = λ i. threads_from (found.owns i) (length (found.variables i ++ found.locks i)) (found.created i);
 }
 
-length-counters_from : (i : ℕ) (ns : List ℕ) → length (counters_from i ns) ≡ length ns
+pub length-counters_from : (i : ℕ) (ns : List ℕ) → length (counters_from i ns) ≡ length ns
 length-counters_from i [] = refl
 length-counters_from i (n ∷ ns) = ap suc (length-counters_from (i + 1) ns)
 

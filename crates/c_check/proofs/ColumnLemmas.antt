@@ -25,7 +25,7 @@ length-temporary_columns : (i : ThreadNo) (earlier n : ℕ) → length (temporar
 length-temporary_columns i earlier zero = refl
 length-temporary_columns i earlier (suc n) = ap suc (length-temporary_columns i (earlier + 1) n)
 
-length-columns_if : (i : ThreadNo) (own : Option OwnVariables) → length (columns_if i own) ≡ count_if own
+pub length-columns_if : (i : ThreadNo) (own : Option OwnVariables) → length (columns_if i own) ≡ count_if own
 length-columns_if i None = refl
 length-columns_if i (Some own) =
     length-append (local_columns i [] own.locals) (temporary_columns i 0 own.temporaries)

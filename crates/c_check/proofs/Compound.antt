@@ -12,7 +12,7 @@ use Rattle.c_check.specs.Scope.{Scopes}
 use Rattle.c_check.specs.Broken.{not_in_atomic}
 use Rattle.c_check.specs.Plan.{Condition, Stmt, Stmts, joined, one}
 use Rattle.c_check.specs.Resolve.{assign_if}
-use Rattle.c_check.specs.inside.First.{first_of}
+use Rattle.c_check.specs.First.{first_of}
 use Rattle.c_check.specs.inside.Found.{atomic_end, found, loop_end, outside_atomic, refused, tested, together, written}
 use Rattle.c_check.proofs.FirstOf.{earlier-earlier, earlier-none, first_of-append}
 use Rattle.c_check.proofs.Found.{after_two, code-joined, max_assoc, need-joined}

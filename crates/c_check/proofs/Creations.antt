@@ -1,5 +1,5 @@
 -- The form of `main`, and the threads that it creates, statement by statement.
-use Rattle.std.proofs.Common.{◌≡◌, ℕ, ◌+◌, Bool, true, false, List, [], ◌∷◌, ◌++◌, length, map, drop, Option, Some, None, if◌then◌else◌, refl, sym, ap, ◌∙◌, add-zero}
+use Rattle.std.proofs.Common.{◌≡◌, ℕ, Bool, true, false, List, [], ◌∷◌, ◌++◌, length, map, drop, Option, Some, None, if◌then◌else◌, refl, sym, ap, add-zero}
 use Rattle.std.proofs.lemmas.List.{drop-map}
 use Rattle.std.proofs.lemmas.Simd.{map-map}
 use Rattle.thr_base.specs.declared.stops.Refusal.{Refusal}
@@ -15,7 +15,7 @@ use Rattle.c_check.specs.Scope.{Scopes, function_of}
 use Rattle.c_check.specs.Broken.{broken_at}
 use Rattle.c_check.specs.Resolve.{behind, past}
 use Rattle.c_check.specs.Program.{created_from, form_broken, may_follow, phase_behind, phase_of, too_many_created}
-use Rattle.c_check.specs.inside.Found.{found, stmt_found, together}
+use Rattle.c_check.specs.inside.Found.{stmt_found, together}
 use Rattle.c_check.specs.inside.Main.{creation_in, stored_creation, too_many_of}
 use Rattle.c_check.proofs.Found.{length-found}
 

@@ -1,7 +1,6 @@
 -- Locals, one after another.
-use Rattle.std.proofs.Common.{◌≡◌, ◌+◌, List, [], ◌∷◌, ◌++◌, length, Option, refl, ap, ◌∙◌, append-nil}
+use Rattle.std.proofs.Common.{◌≡◌, ◌+◌, List, [], ◌∷◌, ◌++◌, length, Option, ap, ◌∙◌, append-nil}
 use Rattle.thr_base.specs.declared.stops.Refusal.{Refusal}
-use Rattle.c_tree.specs.declared.expr.Name.{Name}
 use Rattle.c_tree.specs.Plain as plain
 use Rattle.c_check.specs.declared.body.Body.{Body}
 use Rattle.c_check.specs.declared.meaning.Variable.TheVariants as variable
@@ -9,7 +8,7 @@ use Rattle.c_check.specs.declared.meaning.Meaning.TheVariants as meaning
 use Rattle.c_check.specs.Scope.{Scopes, declare}
 use Rattle.c_check.specs.Plan.{Stmts}
 use Rattle.c_check.specs.Resolve.{with_locals}
-use Rattle.c_check.specs.inside.First.{first_of}
+use Rattle.c_check.specs.First.{first_of}
 use Rattle.c_check.specs.inside.Found.{found, local_found, locals_found, named, refused, together}
 use Rattle.std.proofs.Math.Nat.{max-zero, zero-max}
 use Rattle.c_check.proofs.FirstOf.{earlier-none, first_of-append}

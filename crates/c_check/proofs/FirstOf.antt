@@ -3,7 +3,7 @@ use Rattle.std.specs.Prelude.{◌≡◌, zero, suc, ◌⊎◌, List, [], ◌∷�
 use Rattle.std.proofs.Common.{arith, sym, ◌∙◌, ap, subst, inl, inr}
 use Rattle.thr_base.specs.declared.stops.Refusal.{Refusal}
 use Rattle.thr_base.specs.Refusals.{Precedes, IsFirst}
-use Rattle.c_check.specs.inside.First.{of_two, earlier, first_of}
+use Rattle.c_check.specs.First.{FirstsAreFirst, earlier, first_of, of_two}
 
 -- ---- of two
 
@@ -83,3 +83,6 @@ first_of-is (e ∷ f ∷ fs) d is = by_rest (first_of (f ∷ fs)) refl (first_of
     by_rest : (rest : Option Refusal) → first_of (f ∷ fs) ≡ rest → ((g : Refusal) → first_of (f ∷ fs) ≡ Some g → IsFirst (Contains (f ∷ fs)) g) → earlier (Some e) rest ≡ Some d → IsFirst (Contains (e ∷ f ∷ fs)) d
     by_rest None none first same = absurd (some-first f (first_of fs) none)
     by_rest (Some g) found first same = let it : of_two e g ≡ d = cc in subst (IsFirst (Contains (e ∷ f ∷ fs))) it (is_first-of_two e (f ∷ fs) g (first g found))
+
+pub firsts-first : FirstsAreFirst
+firsts-first = record { is_first = first_of-is; none_where_empty = first_of-none; of_both = first_of-append }

@@ -1,5 +1,5 @@
 -- What is found of parts, one after another.
-use Rattle.std.proofs.Common.{◌≡◌, ℕ, zero, suc, ◌+◌, max, [], ◌∷◌, ◌++◌, List, map, length, Option, refl, sym, ap, ◌∙◌, append_assoc, append-nil, length-append}
+use Rattle.std.proofs.Common.{◌≡◌, ℕ, zero, suc, ◌+◌, max, [], ◌∷◌, ◌++◌, List, length, Option, refl, sym, ap, ◌∙◌, append_assoc, append-nil, length-append}
 use Rattle.std.proofs.Math.Nat.{max-zero, zero-max, suc-max-suc}
 use Rattle.std.proofs.lemmas.List.{length-map, map-append}
 use Rattle.thr_base.specs.declared.stops.Refusal.{Refusal}
@@ -9,7 +9,7 @@ use Rattle.c_check.specs.declared.body.Body.{Body}
 use Rattle.c_check.specs.declared.instruction.Instruction.{Instruction}
 use Rattle.c_check.specs.Plan.{Stmt, Stmts, code, joined, one, stmt_code}
 use Rattle.c_check.specs.Temporaries.{need, stmt_need}
-use Rattle.c_check.specs.inside.First.{earlier, first_of}
+use Rattle.c_check.specs.First.{earlier}
 use Rattle.c_check.specs.inside.Found.{found, named, nothing, refused, together, written}
 use Rattle.c_check.proofs.FirstOf.{earlier-earlier, earlier-none, first_of-append}
 

@@ -19,7 +19,7 @@ use Rattle.c_check.specs.declared.uses.Use.{Use}
 use Rattle.c_check.specs.declared.uses.Use.TheVariants as use_as
 use Rattle.c_check.specs.Scope.{Scopes}
 use Rattle.c_check.specs.Broken.{broken_if, expr_broken, has_name, no_number, sign_broken, sign_use}
-use Rattle.c_check.specs.inside.First.{earlier, first_of}
+use Rattle.c_check.specs.First.{earlier, first_of}
 use Rattle.c_check.specs.inside.Used.{beside, found_in, use_before}
 use Rattle.c_check.proofs.FirstOf.{earlier-earlier, first_of-append}
 use Rattle.c_check.proofs.Front.{front, front-end, front-next}

@@ -1,16 +1,21 @@
 mod Arms
 mod CheckLemmas
-mod CodeLemmas
+pub mod CodeLemmas
 mod ColumnLemmas
 mod Compound
 mod Creations
 mod Declarations
-mod FirstOf
+pub mod FirstOf
 mod Found
 mod FoundIn
 mod Front
+mod Named
+mod NamedCode
+mod NamedText
+pub mod PlanLemmas
 mod Postfix
 mod ScopeLemmas
 mod Scoped
 mod TestPostfix
 mod WalkLemmas
+mod WorkedItems

@@ -17,7 +17,7 @@ use Rattle.c_check.specs.Broken.{broken_if, twice}
 use Rattle.c_check.specs.Check.{stored_function}
 use Rattle.c_check.specs.Columns.{lock_column, own_variables, variable_column}
 use Rattle.c_check.specs.Program.{first_next, functions_in, globals_broken, globals_in, item_broken, items_broken, locks_broken, locks_in, past_item, with_globals, with_locks}
-use Rattle.c_check.specs.inside.First.{earlier, first_of}
+use Rattle.c_check.specs.First.{earlier, first_of}
 use Rattle.c_check.specs.inside.Walked.{IsSoFar, IsWalked, first_walk, item_functions, next_of, with_item, with_refusal}
 use Rattle.c_check.proofs.FirstOf.{earlier-earlier, earlier-none, first_of-append}
 

@@ -66,3 +66,7 @@ pub record AreItemsOf (locals : ℕ) (instructions : List Instruction) (is : Ite
 -- The items of a plan's function are those of the text's, and no others.
 abbrev pub PlansHaveItemsOfTexts : Type 0
 PlansHaveItemsOfTexts = (f : Function) (is : Items) → AreItemsOf (length f.locals) (code f.body) is ↔ (is ≡ function_items f)
+
+-- Code stands for one list of statements.
+abbrev pub CodeTellsStatements : Type 0
+CodeTellsStatements = (statements others : Stmts) → code statements ≡ code others → statements ≡ others

@@ -2,9 +2,11 @@ pub mod inside
 pub mod Scope
 pub mod Plan
 pub mod Resolve
+pub mod First
 pub mod Items
 pub mod Temporaries
 pub mod Broken
 pub mod Program
 pub mod Columns
 pub mod Check
+pub mod WellFormed

@@ -42,35 +42,38 @@ declare name m (s ∷ ss) = with_name name.text m s ∷ ss
 abbrev pub open_scope : Scopes → Scopes
 open_scope ss = [] ∷ ss
 
--- the variable that a name stands for; where it stands for none the text is refused, and the first shared one is given
+-- ---- names that are used as something of their kind; where a name stands for none of it the text is refused, and the first of
+-- its kind is given
+
+abbrev pub as_variable : Option Meaning → Variable
+as_variable (Some (meaning.Integer v)) = v
+as_variable (Some (meaning.Lock n)) = variable.Shared 0
+as_variable (Some meaning.Handle) = variable.Shared 0
+as_variable (Some (meaning.Function n)) = variable.Shared 0
+as_variable None = variable.Shared 0
+
+abbrev pub as_lock : Option Meaning → ℕ
+as_lock (Some (meaning.Lock n)) = n
+as_lock (Some (meaning.Integer v)) = 0
+as_lock (Some meaning.Handle) = 0
+as_lock (Some (meaning.Function n)) = 0
+as_lock None = 0
+
+abbrev pub as_function : Option Meaning → ℕ
+as_function (Some (meaning.Function n)) = n
+as_function (Some (meaning.Integer v)) = 0
+as_function (Some (meaning.Lock n)) = 0
+as_function (Some meaning.Handle) = 0
+as_function None = 0
+
+-- the variable that a name stands for
 abbrev pub variable_of : Scopes → Name → Variable
-variable_of ss name = chosen (meaning_of name.text ss)
-  where
-    chosen : Option Meaning → Variable
-    chosen (Some (meaning.Integer v)) = v
-    chosen (Some (meaning.Lock n)) = variable.Shared 0
-    chosen (Some meaning.Handle) = variable.Shared 0
-    chosen (Some (meaning.Function n)) = variable.Shared 0
-    chosen None = variable.Shared 0
+variable_of ss name = as_variable (meaning_of name.text ss)
 
--- the number of the lock that a name stands for; where it stands for none, as above
+-- the number of the lock that a name stands for
 abbrev pub lock_of : Scopes → Name → ℕ
-lock_of ss name = chosen (meaning_of name.text ss)
-  where
-    chosen : Option Meaning → ℕ
-    chosen (Some (meaning.Lock n)) = n
-    chosen (Some (meaning.Integer v)) = 0
-    chosen (Some meaning.Handle) = 0
-    chosen (Some (meaning.Function n)) = 0
-    chosen None = 0
+lock_of ss name = as_lock (meaning_of name.text ss)
 
--- the number of the thread function that a name stands for; where it stands for none, as above
+-- the number of the thread function that a name stands for
 abbrev pub function_of : Scopes → Name → ℕ
-function_of ss name = chosen (meaning_of name.text ss)
-  where
-    chosen : Option Meaning → ℕ
-    chosen (Some (meaning.Function n)) = n
-    chosen (Some (meaning.Integer v)) = 0
-    chosen (Some (meaning.Lock n)) = 0
-    chosen (Some meaning.Handle) = 0
-    chosen None = 0
+function_of ss name = as_function (meaning_of name.text ss)

@@ -1,4 +1,3 @@
-pub mod First
 pub mod Found
 pub mod Main
 pub mod Operations

@@ -5,13 +5,13 @@ ghost use Rattle.c_tree.specs.Seen.{plain_expr, plain_product, plain_sum, plain_
 ghost use Rattle.c_check.specs.Items.{shared_in};
 ghost use Rattle.c_check.specs.Plan.{Arithmetic, postfix};
 ghost use Rattle.c_check.specs.Resolve.{arithmetic};
-ghost use Rattle.c_check.specs.Scope.{variable_of};
 ghost use Rattle.c_check.specs.inside.Operations.{is_shared, shared_operations, sign_operations, sum_operation};
 
-use crate::meaning::{Meaning, Variable};
+use crate::lookups::variable;
+use crate::meaning::Variable;
 use crate::operation::Operation;
 use crate::scopes::Scopes;
-use c_tree::{Expr, Name, Product, Sum, SumKind, Unary, UnaryKind};
+use c_tree::{Expr, Product, Sum, SumKind, Unary, UnaryKind};
 use sqlite_items::Items;
 use std::alloc::{AllocError, Global};
 
@@ -68,16 +68,6 @@ fn is_shared(operation: Operation) -> bool
     match operation {
         Operation::Value(Variable::Shared(_)) => true,
         _ => false,
-    }
-}
-
-// The variable that a name stands for; the first shared one where it stands for none.
-fn variable(scopes: &Scopes, name: &Name) -> Variable
-    ensures { result ≡ variable_of scopes.now name.now }
-{
-    match scopes.meaning(name) {
-        Some(Meaning::Integer(variable)) => variable,
-        _ => Variable::Shared(0),
     }
 }
 
@@ -146,7 +136,7 @@ fn push_unary(
             &inner.get().first.first.first.first,
             operations,
         ),
-        Unary::Number(_, value) => operations.push(Operation::Number(*value)),
+        Unary::Number(_, value) => operations.push(Operation::Number(value.number())),
         Unary::Name(name) => operations.push(Operation::Value(variable(scopes, name))),
     }
 }

@@ -5,7 +5,7 @@ ghost use Rattle.c_tree.specs.Seen.{plain_assign, plain_call, plain_cond, plain_
 ghost use Rattle.c_check.specs.Broken as broken;
 ghost use Rattle.c_check.specs.declared.uses.Kind.TheVariants.{Integer};
 ghost use Rattle.c_check.specs.declared.uses.Use.TheVariants.{Condition, Number};
-ghost use Rattle.c_check.specs.inside.First.{first_of};
+ghost use Rattle.c_check.specs.First.{first_of};
 
 use crate::first::earlier;
 use crate::place::Place;

@@ -4,7 +4,7 @@ ghost use Rattle.std.specs.Prelude.{◌≡◌, ◌+◌, ◌-◌, ◌^◌, ◌≤
 ghost use Rattle.thr_base.specs.Limits.{most_columns};
 ghost use Rattle.c_tree.specs.Plain as plain;
 ghost use Rattle.c_tree.specs.Seen.{plain_tree};
-ghost use Rattle.c_check.specs.Check.{IsAccepted, IsCheckAnswer, IsPlanOf, IsRefused, PlansHaveItemsOfTexts};
+ghost use Rattle.c_check.specs.Check.{IsAccepted, IsCheckAnswer, IsPlanOf, IsRefused};
 ghost use Rattle.c_check.specs.inside.Walked.{IsWalked, plan_from};
 
 use crate::columns::{count_columns, push_counters, push_threads, threads};
@@ -26,11 +26,6 @@ pub fn check(alloc: Global, tree: &Tree) -> Result<Plan, Stop>
     }
     Ok(plan(alloc, found)?)
 }
-
-/// Different statements have different code, so a plan tells what its functions do.
-pub fn plans_have_items_of_texts()
-    ensures { PlansHaveItemsOfTexts }
-{}
 
 /// How many columns there are, or the greatest number, where there are more.
 fn column_count(found: &Walk) -> usize

@@ -3,11 +3,11 @@
 ghost use Rattle.std.specs.Prelude.{◌≡◌, ◌+◌, ◌-◌, ◌^◌, ◌≤◌, ◌++◌, ◌∷◌, [], pos, length, filter, slice_get, min, bytes_eq, IfOk, OnOk};
 ghost use Rattle.thr_base.specs.Limits.{most_columns};
 ghost use Rattle.thr_base.specs.Number.{number_text};
-ghost use Rattle.c_tree.specs.Seen.{plain_gname, start_value as start_number};
+ghost use Rattle.c_tree.specs.Seen.{plain_gname};
 ghost use Rattle.c_check.specs.Columns as specs;
 
 use crate::plan::{Column, ColumnKind, Thread};
-use c_tree::{Gname, Name, Start};
+use c_tree::{Gname, Name};
 use sqlite_items::{Items, at};
 use std::alloc::{AllocError, Global};
 use thr_base::{ThreadNo, push_number};
@@ -22,22 +22,11 @@ pub struct OwnVariables {
 
 // ---- what all threads share
 
-/// The number that a variable starts with; no text writes one that is not there.
-fn start_value(start: &Start) -> Result<i128, AllocError>
-    ensures { IfOk result (λ value. value ≡ start_number start.now) }
-{
-    if start.is_negative {
-        start.value.checked_neg().ok_or(AllocError)
-    } else {
-        Ok(start.value)
-    }
-}
-
 pub fn variable_column(alloc: Global, variable: &Gname) -> Result<Column, AllocError>
     ensures { IfOk result (λ column. column ≡ specs.variable_column (plain_gname variable.now)) }
 {
     let start = match &variable.start {
-        Some(start) => start_value(start)?,
+        Some(start) => start.number(),
         None => 0,
     };
     Ok(Column {

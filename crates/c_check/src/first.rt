@@ -1,11 +1,11 @@
-//! The first of refusals, as they are found.
+//! The first of refusals, as they are found in turn.
 
 ghost use Rattle.std.specs.Prelude.{◌≡◌};
-ghost use Rattle.c_check.specs.inside.First.{earlier, of_two};
+ghost use Rattle.c_check.specs.First.{FirstsAreFirst, earlier, of_two};
 
 use thr_base::{Refusal, is_earlier};
 
-/// The earlier of two refusals that there may be.
+/// The earlier of two refusals that there may be: that at the lower place, at one place that with the lower code.
 pub fn earlier(one: Option<Refusal>, other: Option<Refusal>) -> Option<Refusal>
     ensures { result ≡ earlier one other }
 {
@@ -22,3 +22,8 @@ fn of_two(one: Refusal, other: Refusal) -> Refusal
 {
     if is_earlier(other, one) { other } else { one }
 }
+
+/// What is kept by `earlier`, of lists of refusals that are made in turn, is the first of all of them.
+pub fn firsts_are_first()
+    ensures { FirstsAreFirst }
+{}

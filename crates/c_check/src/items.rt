@@ -6,7 +6,7 @@ ghost use Rattle.thr_base.specs.Refusals.{bad_main};
 ghost use Rattle.c_tree.specs.Plain as plain;
 ghost use Rattle.c_tree.specs.Seen.{plain_block, plain_body, plain_gname, plain_items, plain_names, plain_typed, plain_untyped};
 ghost use Rattle.c_check.specs.Program as program;
-ghost use Rattle.c_check.specs.inside.First.{first_of};
+ghost use Rattle.c_check.specs.First.{first_of};
 ghost use Rattle.c_check.specs.inside.Walked.{IsWalked, with_item, with_refusal};
 
 use crate::breaks::{refusal_if, twice};

@@ -7,7 +7,7 @@ ghost use Rattle.c_check.specs.Broken as broken;
 ghost use Rattle.c_check.specs.Resolve as resolve;
 ghost use Rattle.c_check.specs.declared.meaning.Variable.TheVariants as variable;
 ghost use Rattle.c_check.specs.declared.meaning.Meaning.TheVariants as meaning;
-ghost use Rattle.c_check.specs.inside.First.{first_of};
+ghost use Rattle.c_check.specs.First.{first_of};
 ghost use Rattle.c_check.specs.inside.Found.{first_found, local_found, locals_found, named, together};
 
 use crate::body::Body;

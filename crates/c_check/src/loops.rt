@@ -9,7 +9,7 @@ ghost use Rattle.c_check.specs.Resolve as resolve;
 ghost use Rattle.c_check.specs.Temporaries as temporaries;
 ghost use Rattle.c_check.specs.declared.instruction.Instruction.TheVariants as instruction;
 ghost use Rattle.c_check.specs.declared.uses.Use.TheVariants.{Condition as AsCondition};
-ghost use Rattle.c_check.specs.inside.First.{first_of};
+ghost use Rattle.c_check.specs.First.{first_of};
 ghost use Rattle.c_check.specs.inside.Found.{first_found, loop_end, outside_atomic, refused, tested, together};
 
 use crate::body::Body;

@@ -8,7 +8,7 @@ ghost use Rattle.c_check.specs.Scope.{open_scope};
 ghost use Rattle.c_check.specs.Resolve as resolve;
 ghost use Rattle.c_check.specs.Program as program;
 ghost use Rattle.c_check.specs.declared.main_form.Phase.TheVariants.{Creating};
-ghost use Rattle.c_check.specs.inside.First.{first_of};
+ghost use Rattle.c_check.specs.First.{first_of};
 ghost use Rattle.c_check.specs.inside.Found.{stmts_found, together};
 ghost use Rattle.c_check.specs.inside.Main.{creation_in, stored_creation, too_many_of};
 

@@ -57,6 +57,45 @@ const TEXTS: &str = "\
 12 47  void *f(void *a) { __VERIFIER_atomic_begin(); __VERIFIER_atomic_begin(); __VERIFIER_atomic_end(); __VERIFIER_atomic_end(); } int main() { pthread_t t; pthread_create(&t, 0, f, 0); return 0; }\n\
 12 59  void *f(void *a) { while (1) { __VERIFIER_atomic_begin(); break; __VERIFIER_atomic_end(); } } int main() { pthread_t t; pthread_create(&t, 0, f, 0); return 0; }\n\
 0 0 int x; void *f(void *a) { __VERIFIER_atomic_begin(); if (x < 1) x = 2; else ; { x = 3; } __VERIFIER_atomic_end(); } int main() { pthread_t t; pthread_create(&t, 0, f, 0); return 0; }\n\
+4 37 int x, y; void *f(void *a) { while (x++ < y) ; } int main() { pthread_t t; pthread_create(&t, 0, f, 0); return 0; }\n\
+6 49 pthread_mutex_t m; int x; void *f(void *a) { x = m; } int main() { pthread_t t; pthread_create(&t, 0, f, 0); return 0; }\n\
+6 39 void *f(void *a) { pthread_mutex_lock(&f); } int main() { pthread_t t; pthread_create(&t, 0, f, 0); return 0; }\n\
+6 34 int x; void *f(void *a) { for (;; y++) x = 1; } int main() { pthread_t t; pthread_create(&t, 0, f, 0); return 0; }\n\
+6 49 int x; void *f(void *a) { if (x) { int y; } else y = 1; } int main() { pthread_t t; pthread_create(&t, 0, f, 0); return 0; }\n\
+6 60 int x; void *f(void *a) { for (int k = 0; k < 1; k++) ; x = k; } int main() { pthread_t t; pthread_create(&t, 0, f, 0); return 0; }\n\
+6 50 void *f(void *a) { } int main() { pthread_create(&t, 0, f, 0); pthread_t t; }\n\
+6 69 void *f(void *a) { } int main() { pthread_t t; pthread_create(&t, 0, g, 0); }\n\
+6 76 int x; void *f(void *a) { } int main() { pthread_t t; pthread_create(&t, 0, x, 0); }\n\
+6 89 void *f(void *a) { } int main() { pthread_t t; pthread_create(&t, 0, f, 0); pthread_join(u, 0); }\n\
+6 106 int x; void *f(void *a) { } int main() { pthread_t t; pthread_create(&t, 0, f, 0); pthread_mutex_destroy(&x); }\n\
+7 19 pthread_mutex_t m, m; void *f(void *a) {  } int main() { pthread_t t; pthread_create(&t, 0, f, 0); return 0; }\n\
+7 13 pthread_t t, t; void *f(void *a) { } int main() { pthread_create(&t, 0, f, 0); }\n\
+7 27 void *f(void *a) { } void *f(void *a) { } int main() { pthread_t t; pthread_create(&t, 0, f, 0); }\n\
+7 60 void *f(void *a) { } int main() { pthread_t t; pthread_t u, t; pthread_create(&t, 0, f, 0); }\n\
+8 32 int x; void *f(void *a) { x = x < 1; } int main() { pthread_t t; pthread_create(&t, 0, f, 0); return 0; }\n\
+8 32 int x; void *f(void *a) { x = x || x; } int main() { pthread_t t; pthread_create(&t, 0, f, 0); return 0; }\n\
+8 34 int x; void *f(void *a) { x = -(x == 1); } int main() { pthread_t t; pthread_create(&t, 0, f, 0); return 0; }\n\
+8 35 int x; void *f(void *a) { assert(x * x); } int main() { pthread_t t; pthread_create(&t, 0, f, 0); return 0; }\n\
+8 31 int x; void *f(void *a) { x += !x; } int main() { pthread_t t; pthread_create(&t, 0, f, 0); return 0; }\n\
+8 36 int x; void *f(void *a) { int k = 0 != x; } int main() { pthread_t t; pthread_create(&t, 0, f, 0); return 0; }\n\
+9 19 void *f(void *a) { pthread_t h; pthread_join(h, 0); } int main() { pthread_t t; pthread_create(&t, 0, f, 0); return 0; }\n\
+9 32 pthread_t h; void *f(void *a) { pthread_join(h, 0); } int main() { pthread_t t; pthread_create(&t, 0, f, 0); return 0; }\n\
+9 32 pthread_t h; void *f(void *a) { pthread_create(&h, 0, f, 0); } int main() { pthread_t t; pthread_create(&t, 0, f, 0); return 0; }\n\
+9 38 pthread_mutex_t m; void *f(void *a) { pthread_mutex_destroy(&m); } int main() { pthread_t t; pthread_create(&t, 0, f, 0); return 0; }\n\
+9 102 int x; pthread_mutex_t m; void *f(void *a) { } int main() { pthread_t t; pthread_create(&t, 0, f, 0); x = 1; return 0; }\n\
+9 102 int x; pthread_mutex_t m; void *f(void *a) { } int main() { pthread_t t; pthread_create(&t, 0, f, 0); if (x) ; return 0; }\n\
+9 102 int x; pthread_mutex_t m; void *f(void *a) { } int main() { pthread_t t; pthread_create(&t, 0, f, 0); while (x) ; return 0; }\n\
+9 102 int x; pthread_mutex_t m; void *f(void *a) { } int main() { pthread_t t; pthread_create(&t, 0, f, 0); { } return 0; }\n\
+9 102 int x; pthread_mutex_t m; void *f(void *a) { } int main() { pthread_t t; pthread_create(&t, 0, f, 0); assert(x); return 0; }\n\
+9 102 int x; pthread_mutex_t m; void *f(void *a) { } int main() { pthread_t t; pthread_create(&t, 0, f, 0); pthread_mutex_lock(&m); return 0; }\n\
+9 102 int x; pthread_mutex_t m; void *f(void *a) { } int main() { pthread_t t; pthread_create(&t, 0, f, 0); __VERIFIER_atomic_begin(); __VERIFIER_atomic_end(); return 0; }\n\
+9 96 void *f(void *a) { } int main() { pthread_t t; pthread_create(&t, 0, f, 0); pthread_join(t, 0); pthread_t u; }\n\
+9 115 pthread_mutex_t m; void *f(void *a) { } int main() { pthread_t t; pthread_create(&t, 0, f, 0); pthread_join(t, 0); pthread_mutex_init(&m, 0); }\n\
+9 86 void *f(void *a) { } int main() { pthread_t t; pthread_create(&t, 0, f, 0); return 0; pthread_join(t, 0); }\n\
+0 0 pthread_mutex_t m; void *f(void *a) { } int main() { pthread_mutex_init(&m, 0); pthread_t t; pthread_create(&t, 0, f, 0); pthread_mutex_destroy(&m); pthread_join(t, 0); pthread_exit(0); }\n\
+12 65 pthread_mutex_t m; void *f(void *a) { __VERIFIER_atomic_begin(); pthread_mutex_unlock(&m); __VERIFIER_atomic_end(); } int main() { pthread_t t; pthread_create(&t, 0, f, 0); return 0; }\n\
+12 62 int x; void *f(void *a) { __VERIFIER_atomic_begin(); if (x) { while (x) ; } __VERIFIER_atomic_end(); } int main() { pthread_t t; pthread_create(&t, 0, f, 0); return 0; }\n\
+12 53 int x; void *f(void *a) { __VERIFIER_atomic_begin(); return; __VERIFIER_atomic_end(); y = 1; } int main() { pthread_t t; pthread_create(&t, 0, f, 0); return 0; }\n\
 6 30 int x; void *f(void *a) { x = y * x; } int main() { pthread_t t; pthread_create(&t, 0, f, 0); return 0; }\n\
 8 32 int x; void *f(void *a) { x = x * y; } int main() { pthread_t t; pthread_create(&t, 0, f, 0); return 0; }";
 

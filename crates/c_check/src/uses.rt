@@ -3,7 +3,7 @@
 ghost use Rattle.std.specs.Prelude.{◌≡◌, ◌&&◌};
 ghost use Rattle.c_tree.specs.Seen.{plain_conjunction, plain_equality, plain_expr, plain_product, plain_relation, plain_sum, plain_unary};
 ghost use Rattle.c_check.specs.Broken.{broken_if, expr_broken, is_of_kind, no_number, sign_broken, sign_use, unknown_as};
-ghost use Rattle.c_check.specs.inside.First.{first_of};
+ghost use Rattle.c_check.specs.First.{first_of};
 ghost use Rattle.c_check.specs.inside.Used.{beside, found_in, use_before};
 ghost use Rattle.thr_base.specs.Refusals.{not_linear};
 

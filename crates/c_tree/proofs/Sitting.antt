@@ -1,23 +1,17 @@
 -- What a tree says stands in its tokens, in their order.
 use Rattle.std.proofs.Common.{◌≡◌, ℕ, zero, suc, ◌+◌, ◌^◌, ◌<◌, ◌≤◌, ℤ, pos, neg_ℤ, Bool, true, false, List, [], ◌∷◌, ◌++◌, map, length, nat_lt, cond, not, ◌&&◌, ◌==◌, Option, Some, None, option_map, refl, sym, ap, subst, ◌∙◌, arith, append_assoc, append-nil, take, drop, length-drop, length-take}
-use Rattle.std.proofs.Math.Logic.{◌⊎◌, inl, inr}
-use Rattle.std.proofs.lemmas.Bool.{ltb-true}
-use Rattle.std.specs.Char.{is_ascii_digit}
-use Rattle.std.specs.List.{list_all}
-use Rattle.std.specs.Str.Parse.{digits_value}
+use Rattle.thr_base.specs.Number.{Fits}
 use Rattle.c_lex.specs.Tokens.{Lexeme, StandIn}
 use Rattle.c_tree.specs.declared.term.Term.{Term}
-use Rattle.c_tree.specs.inside.Input.{bytes_at}
-use Rattle.c_tree.specs.inside.Expr.{number_value}
 use Rattle.c_tree.specs.Grammar.{Is, Stands, StartsAt}
 use Rattle.c_tree.specs.Sequence.{Part}
-use Rattle.c_tree.specs.Leaves.{Leaf, PlacesRise, IsWithin, NumbersFit}
+use Rattle.c_tree.specs.Leaves.{Leaf, PlacesRise, NumbersFit}
 
 -- the leaves are those of these tokens, with others between
 abbrev pub AreLeaves : List Leaf → List Lexeme → Type 0
 AreLeaves [] front = Unit {0}
 AreLeaves (Leaf.Token place ∷ leaves) front = (before : List Lexeme) × (t : Lexeme) × (after : List Lexeme) × (front ≡ before ++ t ∷ after) × (t.from ≡ place) × AreLeaves leaves after
-AreLeaves (Leaf.Number value ∷ leaves) front = IsWithin value × AreLeaves leaves front
+AreLeaves (Leaf.Number value ∷ leaves) front = Fits value × AreLeaves leaves front
 
 pub record Sits (leaves : List Leaf) (ts rest : List Lexeme) : Type 0 where
   pub front : List Lexeme
@@ -68,34 +62,13 @@ sits_skip k from (t ∷ ts) rest is = record { front = t ∷ []; splits = ap (λ
 pub sits_stands : (k : Term) (ts rest : List Lexeme) → Stands k ts rest → Sits [] ts rest
 sits_stands k ts rest is = sits_skip k is.0 ts rest is.1
 
-pub sits_number : {ts rest : List Lexeme} (value : ℤ) → IsWithin value → Sits [] ts rest → Sits (Leaf.Number value ∷ []) ts rest
+pub sits_number : {ts rest : List Lexeme} (value : ℤ) → Fits value → Sits [] ts rest → Sits (Leaf.Number value ∷ []) ts rest
 sits_number {ts} {rest} value fits sits = record { front = sits.front; splits = sits.splits; are = (fits, tt) }
 
 -- the first token, where another says what it is
 pub starts_same : (k : Term) (from other : ℕ) (ts rest : List Lexeme) → Is k other ts rest → StartsAt from ts → other ≡ from
 starts_same k from other [] rest is starts = absurd is
 starts_same k from other (t ∷ ts) rest is starts = sym is.1 ∙ starts
-
--- ---- numbers
-
-abbrev IsNatural : ℤ → Type 0
-IsNatural value = (n : ℕ) × (n < 2 ^ 127) × (value ≡ pos n)
-
-number_is_by : (text : List ℕ) (b : Bool) (value : ℤ) → (b ≡ true → digits_value 10 text < 2 ^ 127) → cond b (Some (pos (digits_value 10 text))) None ≡ Some value → IsNatural value
-number_is_by text true value lt e = (digits_value 10 text, lt refl, sym cc)
-number_is_by text false value lt e = absurd cc
-
-last_true : (a b : Bool) → (a && b) ≡ true → b ≡ true
-last_true true b e = e
-last_true false b e = absurd cc
-
-pub number_is : (text : List ℕ) (value : ℤ) → number_value text ≡ Some value → IsNatural value
-number_is text value e =
-    number_is_by text (not (length text == 0) && list_all is_ascii_digit text && nat_lt (digits_value 10 text) (2 ^ 127)) value
-    (λ so. ltb-true (digits_value 10 text) (2 ^ 127) (last_true (not (length text == 0) && list_all is_ascii_digit text) _ so)) e
-
-pub number_fits : (text : List ℕ) (value : ℤ) → number_value text ≡ Some value → IsWithin value
-number_fits text value e = (let is = number_is text value e in (is.0, is.1, inl is.2))
 
 -- ---- what follows
 

@@ -41,7 +41,8 @@ use Rattle.c_tree.specs.Sequence.{Part, NoToken, ◌then◌, Headed, Perhaps, Ar
 use Rattle.c_tree.specs.GrammarSimple.{qual_term, IsQual, IsItype, IsNondet, IsNil, IsAddress, IsRight, IsCond, IsAssign, IsCall, IsLname, IsLocal, IsHandles}
 use Rattle.c_tree.specs.Leaves.{Leaf, expr_leaves, value_leaves, value_if_leaves, name_leaves, assign_leaves, call_leaves, local_leaves}
 use Rattle.c_tree.proofs.View.{behind, unary_seen, unary_out, product_out, sum_out, relation_out, equality_out, conjunction_out, expr_out}
-use Rattle.c_tree.proofs.Sitting.{Sits, sits_then, sits_after, sits_before, sits_same, sits_as, sits_token, sits_skip, sits_stands, sits_number, starts_same, number_fits}
+use Rattle.c_tree.proofs.Sitting.{Sits, sits_then, sits_after, sits_before, sits_same, sits_as, sits_token, sits_skip, sits_stands, sits_number, starts_same}
+use Rattle.c_tree.proofs.Numbers.{number_fits}
 
 -- Each part says what is said of it.
 abbrev pub AllSit : {A : Type 0} → (A → Part) → (A → List Leaf) → Type 0

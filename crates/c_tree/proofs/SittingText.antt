@@ -1,6 +1,7 @@
 -- Statements, items and whole texts say what their tokens say, in their order.
 use Rattle.std.proofs.Common.{◌≡◌, ℕ, zero, suc, ◌≤◌, ℤ, neg_ℤ, Bool, true, false, List, [], ◌∷◌, ◌++◌, length, drop, map, Option, Some, None, option_map, Ok, refl, sym, ap, subst, ◌∙◌, arith, append-nil}
 use Rattle.std.proofs.Math.Logic.{◌⊎◌, inl, inr}
+use Rattle.thr_base.specs.Number.{Fits}
 use Rattle.c_lex.specs.Tokens.{Lexeme, lexed, StandIn}
 use Rattle.c_lex.proofs.Places.{stand_from}
 use Rattle.c_tree.specs.declared.term.Term.TheVariants as terms
@@ -38,9 +39,10 @@ use Rattle.c_tree.specs.Sequence.{Part, ◌then◌, Perhaps, AreAll, InParens}
 use Rattle.c_tree.specs.GrammarSimple.{IsNil, IsCond, IsAssign}
 use Rattle.c_tree.specs.GrammarStmt.{IsWordEnd, IsBreak, IsElse, IsFirst, IsBlock, IsLayer, IsStmt}
 use Rattle.c_tree.specs.GrammarItem.{IfAny, Nesting, IsPlain, IsNesting, IsSkipped, IsSign, IsNumber, IsStart, IsGname, IsStarted, IsMname, IsProto, IsErrfn, IsParameter, IsBody, IsMainfn, IsThreadBody, IsTyped, IsUntyped, IsItemBody, IsItem, IsTreeWithin, IsTree}
-use Rattle.c_tree.specs.Leaves.{Leaf, value_if_leaves, name_leaves, assign_if_leaves, first_leaves, stmt_leaves, stmts_leaves, start_leaves, global_leaves, item_leaves, items_leaves, PlacesRise, IsWithin, NumbersFit}
+use Rattle.c_tree.specs.Leaves.{Leaf, value_if_leaves, name_leaves, assign_if_leaves, first_leaves, stmt_leaves, stmts_leaves, start_leaves, global_leaves, item_leaves, items_leaves, PlacesRise, NumbersFit}
 use Rattle.c_tree.proofs.View.{stmt_seen, stmt_out}
-use Rattle.c_tree.proofs.Sitting.{Sits, sits_then, sits_after, sits_before, sits_same, sits_as, sits_token, sits_skip, sits_stands, sits_number, number_is, leaves_fit, leaves_rise}
+use Rattle.c_tree.proofs.Sitting.{Sits, sits_then, sits_after, sits_before, sits_same, sits_as, sits_token, sits_skip, sits_stands, sits_number, leaves_fit, leaves_rise}
+use Rattle.c_tree.proofs.Numbers.{Fits-negated, IsMagnitude-number_value, number_fits}
 use Rattle.c_tree.proofs.SittingParts.{AllSit, name_sits, empty_parens_sits, parens_sit, nil_sits, cond_sits, assign_sits, call_sits, local_sits, list_sits, quals_sit, itype_sits, names_sit, handles_sit}
 
 -- ---- statements
@@ -140,12 +142,12 @@ sign_sits : (b : Bool) (ts rest : List Lexeme) → IsSign b ts rest → Sits [] 
 sign_sits true ts rest is = sits_stands terms.Minus ts rest is
 sign_sits false ts rest is = sits_same is
 
-start_within : (from : ℕ) (b : Bool) (value : ℤ) (text : List ℕ) → number_value text ≡ Some value → IsWithin (start_value (record { from = from; is_negative = b; value = value }))
-start_within from true value text e = (let is = number_is text value e in (is.0, is.1, inr (ap neg_ℤ is.2)))
-start_within from false value text e = (let is = number_is text value e in (is.0, is.1, inl is.2))
+start_fits : (from : ℕ) (b : Bool) (value : ℤ) (text : List ℕ) → number_value text ≡ Some value → Fits (start_value (record { from = from; is_negative = b; value = value }))
+start_fits from true value text e = Fits-negated value (IsMagnitude-number_value text value e)
+start_fits from false value text e = number_fits text value e
 
 start_sits : AllSit IsStart (λ s. Leaf.Number (start_value s) ∷ [])
-start_sits s ts rest is = sits_after (sign_sits s.is_negative ts is.1.0 is.1.1) (sits_number (start_value s) (start_within s.from s.is_negative s.value (bytes_at is.1.0) is.1.2.1) (sits_stands terms.Number is.1.0 rest is.1.2.0))
+start_sits s ts rest is = sits_after (sign_sits s.is_negative ts is.1.0 is.1.1) (sits_number (start_value s) (start_fits s.from s.is_negative s.value (bytes_at is.1.0) is.1.2.1) (sits_stands terms.Number is.1.0 rest is.1.2.0))
 
 start_if_sits : (s : Option Start) (ts rest : List Lexeme) → Perhaps (λ s. Stands terms.Assign then IsStart s) s ts rest → Sits (start_leaves (option_map start_value s)) ts rest
 start_if_sits None ts rest is = sits_same is

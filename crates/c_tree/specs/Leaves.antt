@@ -1,5 +1,6 @@
 -- What a tree says in the order of its text: the places of its tokens, as far as it has them, and the values of its numbers.
-use Rattle.std.specs.Prelude.{◌≡◌, ◌⊎◌, ℕ, ◌+◌, ◌^◌, ◌<◌, ◌≤◌, ℤ, pos, neg_ℤ, List, [], ◌∷◌, ◌++◌, Option, Some, None}
+use Rattle.std.specs.Prelude.{ℕ, ◌+◌, ◌<◌, ◌≤◌, ℤ, List, [], ◌∷◌, ◌++◌, Option, Some, None}
+use Rattle.thr_base.specs.Number.{Fits}
 use Rattle.c_tree.specs.declared.expr.Name.{Name}
 use Rattle.c_tree.specs.Plain.{Expr, Value, Assign, Call, Local, First, Stmt, Stmts, Global, Item, Tree}
 
@@ -121,11 +122,7 @@ PlacesRise first end [] = Unit {0}
 PlacesRise first end (Leaf.Token place ∷ leaves) = (first ≤ place) × (place < end) × PlacesRise (place + 1) end leaves
 PlacesRise first end (Leaf.Number value ∷ leaves) = PlacesRise first end leaves
 
--- The number, or that without its sign, is below 2^127.
-abbrev pub IsWithin : ℤ → Type 0
-IsWithin value = (n : ℕ) × (n < 2 ^ 127) × ((value ≡ pos n) ⊎ (value ≡ neg_ℤ (pos n)))
-
 abbrev pub NumbersFit : List Leaf → Type 0
 NumbersFit [] = Unit {0}
 NumbersFit (Leaf.Token place ∷ leaves) = NumbersFit leaves
-NumbersFit (Leaf.Number value ∷ leaves) = IsWithin value × NumbersFit leaves
+NumbersFit (Leaf.Number value ∷ leaves) = Fits value × NumbersFit leaves

@@ -6,6 +6,7 @@ pub mod Grammar
 pub mod GrammarSimple
 pub mod GrammarStmt
 pub mod GrammarItem
+pub mod Magnitude
 pub mod Plain
 pub mod Marks
 pub mod Seen

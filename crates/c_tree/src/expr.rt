@@ -4,6 +4,7 @@ ghost use Rattle.std.specs.Prelude.{◌≡◌};
 ghost use Rattle.c_tree.specs.Plain.{expr_place};
 ghost use Rattle.c_tree.specs.Seen.{plain_expr, plain_unary};
 
+use crate::magnitude::Magnitude;
 use sqlite_items::{Boxed, Items};
 
 /// A name, where it stands.
@@ -121,7 +122,7 @@ pub enum UnaryKind {
 pub enum Unary {
     Operator(u32, UnaryKind, Boxed<Unary>),
     Paren(u32, Boxed<Expr>),
-    Number(u32, i128),
+    Number(u32, Magnitude),
     Name(Name),
 }
 

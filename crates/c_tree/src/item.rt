@@ -1,6 +1,11 @@
 //! A whole text, as it is written.
 
+ghost use Rattle.std.specs.Prelude.{◌≡◌};
+ghost use Rattle.thr_base.specs.Number.{Fits};
+ghost use Rattle.c_tree.specs.Seen.{start_value};
+
 use crate::expr::Name;
+use crate::magnitude::Magnitude;
 use crate::simple::{Handles, Itype, Qual};
 use crate::stmt::Block;
 use sqlite_items::Items;
@@ -11,7 +16,21 @@ pub struct Start {
     pub from: u32,
     pub is_negative: bool,
     /// Without its sign.
-    pub value: i128,
+    pub value: Magnitude,
+}
+
+impl Start {
+    /// The number that it is.
+    pub fn number(&self) -> i128
+        ensures number { result ≡ start_value self.now }
+        ensures fits { Fits result }
+    {
+        if self.is_negative {
+            self.value.negative()
+        } else {
+            self.value.number()
+        }
+    }
 }
 
 /// A global variable, perhaps with what it starts with.

@@ -8,6 +8,7 @@ mod items;
 mod laws;
 mod levels;
 mod lists;
+mod magnitude;
 mod operand;
 mod parts;
 mod reader;
@@ -31,6 +32,7 @@ pub use laws::{
     expressions_are_unique, marks_are_tokens, places_are_those_of_first_tokens,
     trees_are_read_exactly, trees_follow_their_texts,
 };
+pub use magnitude::Magnitude;
 pub use reader::{parse, parse_tokens};
 pub use simple::{
     Assign, Call, Cond, Handles, Itype, Lname, Local, Nil, Nondet, Qual, QualKind, Right,

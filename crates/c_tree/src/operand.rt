@@ -1,40 +1,23 @@
 //! Operands: names, numbers, and what operators and parentheses stand before.
 
 ghost use Rattle.std.specs.Prelude.{◌≡◌, None};
-ghost use Rattle.std.specs.Char.{is_ascii_digit};
-ghost use Rattle.std.specs.List.{list_all};
 ghost use Rattle.c_tree.specs.inside.Expr as spec;
 ghost use Rattle.c_tree.specs.inside.Input.{Reads};
 
 use crate::expr::{Name, Unary};
 use crate::levels::Levels;
+use crate::magnitude::Magnitude;
 use crate::term::Term;
 use crate::tokens::Tokens;
 use sqlite_items::Items;
 use std::alloc::Global;
 use thr_base::Stop;
 
-fn are_digits(text: &str) -> bool
-    ensures { result ≡ list_all is_ascii_digit text.now }
-{
-    text.as_bytes().iter().all(|b| b.is_ascii_digit())
-}
-
-// The value of digits, where it is below 2^127.
-fn number_value(text: &str) -> Option<i128>
-    ensures { result ≡ spec.number_value text.now }
-{
-    if text.is_empty() || !are_digits(text) {
-        return None;
-    }
-    text.parse::<i128>().ok()
-}
-
 #[tactic(auto, unfolding(crate::specs::inside::Expr::number))]
-pub fn number(tokens: &mut Tokens<'_, '_>) -> Result<i128, Stop>
+pub fn number(tokens: &mut Tokens<'_, '_>) -> Result<Magnitude, Stop>
     ensures { Reads (spec.number tokens.old) result tokens.new }
 {
-    match number_value(tokens.text()) {
+    match Magnitude::of_digits(tokens.text()) {
         None => Err(tokens.refuse()),
         Some(value) => {
             tokens.expect(Term::Number)?;

@@ -1,5 +1,5 @@
 -- What is found of the statements of a function: its locals, what they do, and the first rule that they break.
-use Rattle.std.specs.Prelude.{ℕ, max, List, [], ◌∷◌, ◌++◌, map, Option, None}
+use Rattle.std.specs.Prelude.{ℕ, max, List, [], ◌∷◌, ◌++◌, map, Option, Some, None}
 use Rattle.thr_base.specs.declared.stops.Refusal.{Refusal}
 use Rattle.c_tree.specs.declared.expr.Name.{Name}
 use Rattle.c_tree.specs.Plain as plain
@@ -11,12 +11,12 @@ use Rattle.c_check.specs.declared.meaning.Meaning.TheVariants as meaning
 use Rattle.c_check.specs.declared.test.Condition as stored_condition
 use Rattle.c_check.specs.declared.instruction.Instruction.{Instruction}
 use Rattle.c_check.specs.declared.instruction.Instruction.TheVariants as instruction
-use Rattle.c_check.specs.Scope.{Scopes, declare, open_scope}
+use Rattle.c_check.specs.Scope.{Scopes, declare}
 use Rattle.c_check.specs.Plan.{Condition, Stmts, code, stored_condition_of}
 use Rattle.c_check.specs.Resolve.{assign_if, first, first_locals, locals, set_if, stmt, stmt_locals, stmts, stmts_locals}
 use Rattle.c_check.specs.Temporaries.{condition_need, need}
 use Rattle.c_check.specs.Broken.{first_broken, locals_broken, not_in_atomic, stmt_broken, stmts_broken, twice, value_if_broken}
-use Rattle.c_check.specs.inside.First.{earlier, first_of}
+use Rattle.c_check.specs.First.{earlier, first_of}
 
 abbrev pub nothing : Body
 nothing = record { locals = []; temporaries = 0; code = []; refusal = None }
@@ -45,6 +45,11 @@ found ls ss broken = record { locals = map (λ l. l.name.text) ls; temporaries =
 
 unfoldable pub stmt_found : Place → Scopes → ℕ → plain.Stmt → Body
 stmt_found p ss next s = found (stmt_locals s) (stmt ss next s) (stmt_broken p ss next s)
+
+-- what stands behind an `else`, if there is one
+abbrev pub other_found : Place → Scopes → ℕ → Option plain.Stmt → Body
+other_found p ss next None = nothing
+other_found p ss next (Some s) = stmt_found p ss next s
 
 unfoldable pub stmts_found : Place → Scopes → ℕ → plain.Stmts → Body
 stmts_found p ss next body = found (stmts_locals body) (stmts ss next body) (stmts_broken p ss next body)

@@ -6,7 +6,7 @@ use Rattle.c_check.specs.declared.uses.Found.{Found}
 use Rattle.c_check.specs.declared.uses.Use.{Use}
 use Rattle.c_check.specs.Scope.{Scopes}
 use Rattle.c_check.specs.Broken.{expr_broken, has_name}
-use Rattle.c_check.specs.inside.First.{earlier, first_of}
+use Rattle.c_check.specs.First.{earlier, first_of}
 
 abbrev pub found_in : Scopes → Use → plain.Expr → Found
 found_in ss used e = record { refusal = first_of (expr_broken ss used e); has_name = has_name e }

@@ -13,7 +13,7 @@ use Rattle.c_check.specs.Program.{Function, Next, broken_in, created_from, creat
 use Rattle.c_check.specs.declared.plan.Plan.{Plan}
 use Rattle.c_check.specs.Columns.{counters_from, lock_column, own_columns_from, own_variables, owns_of, threads_from, variable_column}
 use Rattle.c_check.specs.Check.{stored_function}
-use Rattle.c_check.specs.inside.First.{earlier, first_of}
+use Rattle.c_check.specs.First.{earlier, first_of}
 
 -- the numbers of the next variable, lock and thread function
 abbrev pub next_of : Walk → Next

@@ -1,7 +1,7 @@
 use Rattle.std.proofs.Common.{◌≡◌, map, drop}
 use Rattle.c_check.specs.Broken.{handles_broken}
 use Rattle.c_check.specs.Resolve.{with_handles}
-use Rattle.c_check.specs.inside.First.{earlier, first_of}
+use Rattle.c_check.specs.First.{earlier, first_of}
 use Rattle.c_check.proofs.locals.more_handles.Given as goal
 
 abbrev pub invariant-loop-m : goal.invariant-loop-m

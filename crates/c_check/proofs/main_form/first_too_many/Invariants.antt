@@ -1,5 +1,5 @@
 use Rattle.std.proofs.Common.{◌≡◌, map, drop}
-use Rattle.c_check.specs.inside.First.{earlier, first_of}
+use Rattle.c_check.specs.First.{earlier, first_of}
 use Rattle.c_check.specs.inside.Main.{too_many_of}
 use Rattle.c_check.proofs.main_form.first_too_many.Given as goal
 

@@ -6,7 +6,7 @@ use Rattle.c_check.specs.declared.main_form.Phase.TheVariants as phase
 use Rattle.c_check.specs.Scope.{Scopes, open_scope}
 use Rattle.c_check.specs.Broken.{stmts_broken}
 use Rattle.c_check.specs.Program.{created_from, form_broken, too_many_created}
-use Rattle.c_check.specs.inside.First.{earlier, first_of}
+use Rattle.c_check.specs.First.{earlier, first_of}
 use Rattle.c_check.specs.inside.Found.{found, stmts_found}
 use Rattle.c_check.specs.inside.Main.{stored_creation, too_many_of}
 use Rattle.c_check.proofs.FirstOf.{first_of-append}

@@ -11,7 +11,7 @@ use Rattle.c_tree.proofs.View.{conjunction_out, equality_out, expr_out, product_
 use Rattle.c_check.specs.declared.uses.Use.TheVariants as use_as
 use Rattle.c_check.specs.declared.uses.Found.{Found}
 use Rattle.c_check.specs.Broken.{broken_if, has_name, no_number, sign_broken, sign_use}
-use Rattle.c_check.specs.inside.First.{first_of}
+use Rattle.c_check.specs.First.{first_of}
 use Rattle.c_check.specs.inside.Used.{beside, found_in}
 use Rattle.c_check.proofs.Front.{front}
 use Rattle.c_check.proofs.FoundIn.{found_in-next, found_in-all, found_in-or, found_in-and, found_in-equality, found_in-relation, found_in-sum, found_in-product, found_in-prefixed, nothing}

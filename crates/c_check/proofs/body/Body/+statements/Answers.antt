@@ -9,11 +9,11 @@ use Rattle.c_check.specs.declared.instruction.Instruction.TheVariants as instruc
 use Rattle.c_check.specs.Scope.{open_scope}
 use Rattle.c_check.specs.Resolve as resolve
 use Rattle.c_check.specs.Broken as broken
-use Rattle.c_check.specs.inside.First.{first_of}
-use Rattle.c_check.specs.inside.Found.{first_found, found, loop_end, refused, stmt_found, stmts_found, tested, together}
+use Rattle.c_check.specs.First.{first_of}
+use Rattle.c_check.specs.inside.Found.{first_found, found, loop_end, other_found, refused, stmt_found, stmts_found, tested, together}
 use Rattle.c_check.proofs.Found.{together-none}
 use Rattle.c_check.proofs.Compound.{exit_found, jump_found, simple_done}
-use Rattle.c_check.proofs.Arms.{atomic_done, block_found, declares_found, for_done, if_done, if_else_done, length-outside, stmts_body, stmts_scopes, together-no_stmts, while_done}
+use Rattle.c_check.proofs.Arms.{atomic_done, behind-if_layer, block_found, declares_found, for_done, if_layer_done, length-outside, stmts_body, stmts_scopes, together-no_stmts, while_done}
 use Rattle.c_check.proofs.Scoped.{drop-behind, drop-behind_all, drop-with_first}
 use Rattle.c_check.proofs.body.Body.+statements.Goals as goal
 
@@ -46,70 +46,6 @@ pub statement-returns-in-Local-clause-body : goal.statement-returns-in-Local-cla
 statement-returns-in-Local-clause-body t c =
     rw (c.in-Local.is, local_is, ← c.get.ensures) (on_ok_weaker c.locals.result (λ e. e ∙ ap (together c.args.self.now) (declares_found _ _ _ _ _)) c.locals.ensures.body)
 
-pub statement-returns-in-Assign-clause-scopes : goal.statement-returns-in-Assign-clause-scopes
-statement-returns-in-Assign-clause-scopes t c = rw (c.in-Assign.is, assign_is) (on_ok_weaker c.assign-in-Assign.result (λ e. refl) c.assign-in-Assign.ensures)
-
-pub statement-returns-in-Assign-clause-body : goal.statement-returns-in-Assign-clause-body
-unfolding stmt_found
-statement-returns-in-Assign-clause-body t c =
-    let a = plain_assign c.in-Assign.a in
-    let ss = c.args.scopes.now in
-    let first_is : c.assign.result ≡ first_of (broken.assign_broken ss a) = search rules in
-    rw (c.in-Assign.is, assign_is) (on_ok_weaker c.assign-in-Assign.result (λ e. simple_done c.args.self.now (resolve.assign ss a) (broken.assign_broken ss a) c.note.ensures first_is
-    (e ∙ ap (λ x. together c.note.new.self (found [] (resolve.assign ss (plain_assign x)) [])) c.get-in-Assign-2.ensures)) c.assign-in-Assign.ensures)
-
-pub statement-returns-in-None-clause-scopes : goal.statement-returns-in-None-clause-scopes
-statement-returns-in-None-clause-scopes t c =
-    rw (c.in-If.is, c.in-None.is, if_is) (on_ok_weaker c.push-in-None.result (λ e. c.in_ok-inside-in-If.ensures.scopes) c.push-in-None.ensures)
-
-pub statement-returns-in-None-clause-body : goal.statement-returns-in-None-clause-body
-statement-returns-in-None-clause-body t c =
-    let ss = c.args.scopes.now in
-    let p = c.args.place in
-    let from = c.in-If.from in
-    let v = plain_cond c.in-If.c in
-    let s = plain_stmt c.in-If.s in
-    let e1 : c.begin_if.new.self ≡ together (together c.args.self.now (refused (first_of (broken.value_broken ss use_as.Condition v)))) (tested (instruction.If from) (resolve.condition ss v)) =
-    search rules in
-    let e2 : c.inside.new.self ≡ together c.begin_if.new.self (stmt_found p (open_scope ss) (length c.begin_if.new.self.locals) s) = search rules in
-    rw (c.in-If.is, c.in-None.is, if_is) (on_ok_weaker c.push-in-None.result (if_done p ss c.args.self.now from v s e1 e2 c.in_ok-push-in-If.ensures) c.push-in-None.ensures)
-
-pub statement-returns-in_ok-inside-in-Some-clause-scopes : goal.statement-returns-in_ok-inside-in-Some-clause-scopes
-statement-returns-in_ok-inside-in-Some-clause-scopes t c =
-    rw (c.in-If.is, c.in-Some.is, if_is) (on_ok_weaker c.push-in-Some.result (λ e. c.in_ok-inside-in-Some.ensures.scopes ∙ c.in_ok-inside-in-If.ensures.scopes) c.push-in-Some.ensures)
-
-pub statement-returns-in_ok-inside-in-Some-clause-body : goal.statement-returns-in_ok-inside-in-Some-clause-body
-statement-returns-in_ok-inside-in-Some-clause-body t c =
-    let ss = c.args.scopes.now in
-    let p = c.args.place in
-    let from = c.in-If.from in
-    let v = plain_cond c.in-If.c in
-    let s = plain_stmt c.in-If.s in
-    let other = plain_stmt c.in-Some.t in
-    let e1 : c.begin_if.new.self ≡ together (together c.args.self.now (refused (first_of (broken.value_broken ss use_as.Condition v)))) (tested (instruction.If from) (resolve.condition ss v)) =
-    search rules in
-    let e2 : c.inside.new.self ≡ together c.begin_if.new.self (stmt_found p (open_scope ss) (length c.begin_if.new.self.locals) s) = search rules in
-    let e4 : c.inside-in-Some.new.self ≡ together c.push.new.self (stmt_found p (open_scope ss) (length c.push.new.self.locals) other) = search rules in
-    rw (c.in-If.is, c.in-Some.is, if_is) (on_ok_weaker c.push-in-Some.result (if_else_done p ss c.args.self.now from v s other e1 e2 c.in_ok-push-in-If.ensures e4) c.push-in-Some.ensures)
-
-pub statement-returns-in_ok-inside-in-While-clause-scopes : goal.statement-returns-in_ok-inside-in-While-clause-scopes
-statement-returns-in_ok-inside-in-While-clause-scopes t c =
-    rw (c.in-While.is, while_is) (on_ok_weaker c.end_loop.result (λ e. c.in_ok-inside-in-While.ensures.scopes) c.end_loop.ensures)
-
-pub statement-returns-in_ok-inside-in-While-clause-body : goal.statement-returns-in_ok-inside-in-While-clause-body
-statement-returns-in_ok-inside-in-While-clause-body t c =
-    let ss = c.args.scopes.now in
-    let p = c.args.place in
-    let from = c.in-While.from in
-    let v = plain_cond c.in-While.c in
-    let s = plain_stmt c.in-While.s in
-    let e1 : c.begin_while.new.self
-    ≡ together (together c.args.self.now (refused (first_of (broken.not_in_atomic p from ++ broken.value_broken ss use_as.Condition v)))) (tested (instruction.Loop from) (resolve.condition ss v)) =
-    search rules in
-    let e2 : c.inside-in-While.new.self ≡ together c.begin_while.new.self (stmt_found p (open_scope ss) (length c.begin_while.new.self.locals) s) = search rules in
-    rw (c.in-While.is, while_is) (on_ok_weaker c.end_loop.result (λ e. while_done p ss c.args.self.now from v s e1 e2
-    (e ∙ ap (λ x. together c.inside-in-While.new.self (loop_end x None)) c.in_ok-inside-in-While.ensures.scopes)) c.end_loop.ensures)
-
 pub statement-returns-in_ok-end_loop-in-For-clause-scopes : goal.statement-returns-in_ok-end_loop-in-For-clause-scopes
 statement-returns-in_ok-end_loop-in-For-clause-scopes t c =
     let f = plain_first c.in-For.first in
@@ -131,7 +67,7 @@ statement-returns-in_ok-end_loop-in-For-clause-body t c =
     let inside_is : c.enter_for.new.scopes ≡ resolve.with_first (open_scope ss) n f = search rules in
     let e1 : c.enter_for.new.self ≡ together (together c.args.self.now (refused (first_of (broken.not_in_atomic p from)))) (first_found (open_scope ss) n f) = search rules in
     let e3 : c.inside-in-For.new.self ≡ together c.begin_for.new.self (stmt_found p (open_scope inside) (length c.begin_for.new.self.locals) s) = search rules in
-    let e4 : c.end_loop-in-For.new.self ≡ together c.inside-in-For.new.self (loop_end inside last) = search rules in
+    let e4 : c.end_loop.new.self ≡ together c.inside-in-For.new.self (loop_end inside last) = search rules in
     rw (c.in-For.is, for_is) (for_done p ss c.args.self.now from f v last s inside_is e1 c.in_ok-begin_for-in-For.ensures e3 e4)
 
 pub statement-returns-in-Break-clause-scopes : goal.statement-returns-in-Break-clause-scopes
@@ -141,48 +77,6 @@ pub statement-returns-in-Break-clause-body : goal.statement-returns-in-Break-cla
 unfolding stmt_found
 statement-returns-in-Break-clause-body t c =
     rw (c.in-Break.is, break_is) (on_ok_weaker c.push_outside_atomic.result (λ e. e ∙ ap (together c.args.self.now) (jump_found c.args.place c.in-Break.from)) c.push_outside_atomic.ensures)
-
-pub statement-returns-in-Return-clause-scopes : goal.statement-returns-in-Return-clause-scopes
-statement-returns-in-Return-clause-scopes t c =
-    rw (c.in-Return.is, return_is) (on_ok_weaker c.push_outside_atomic-in-Return.result (λ e. refl) c.push_outside_atomic-in-Return.ensures)
-
-pub statement-returns-in-Return-clause-body : goal.statement-returns-in-Return-clause-body
-unfolding stmt_found
-statement-returns-in-Return-clause-body t c =
-    rw (c.in-Return.is, return_is)
-    (on_ok_weaker c.push_outside_atomic-in-Return.result (λ e. e ∙ ap (together c.args.self.now) (exit_found c.args.place c.in-Return.from)) c.push_outside_atomic-in-Return.ensures)
-
-pub statement-returns-in-Call-clause-scopes : goal.statement-returns-in-Call-clause-scopes
-statement-returns-in-Call-clause-scopes t c =
-    rw (c.in-Call.is, call_is) (on_ok_weaker c.call-in-Call.result (λ e. refl) c.call-in-Call.ensures)
-
-pub statement-returns-in-Call-clause-body : goal.statement-returns-in-Call-clause-body
-unfolding stmt_found
-statement-returns-in-Call-clause-body t c =
-    let a = plain_call c.in-Call.c in
-    let ss = c.args.scopes.now in
-    let first_is : c.call.result ≡ first_of (broken.call_broken c.args.place ss a) = search rules in
-    rw (c.in-Call.is, call_is) (on_ok_weaker c.call-in-Call.result (λ e. simple_done c.args.self.now (resolve.call ss a) (broken.call_broken c.args.place ss a) c.note-in-Call.ensures first_is
-    (e ∙ ap (λ x. together c.note-in-Call.new.self (found [] (resolve.call ss (plain_call x)) [])) c.get-in-Call-2.ensures)) c.call-in-Call.ensures)
-
-pub statement-returns-in_ok-statements-in-Atomic-clause-scopes : goal.statement-returns-in_ok-statements-in-Atomic-clause-scopes
-statement-returns-in_ok-statements-in-Atomic-clause-scopes t c =
-    let ss = c.args.scopes.now in
-    let b = c.push_outside_atomic-in-Atomic.new.self in
-    let inner = plain_stmts c.in-Atomic.ss in
-    let same : length b.locals ≡ length c.args.self.now.locals =
-    ap (λ x. length x.locals) c.in_ok-push_outside_atomic-in-Atomic.ensures ∙ length-outside c.args.self.now c.args.place c.in-Atomic.from _ in
-    let behind_is : c.statements.new.scopes ≡ resolve.behind_all ss (length b.locals) inner = search rules in
-    rw (c.in-Atomic.is, atomic_is) (on_ok_weaker c.end_atomic.result (λ e. behind_is ∙ ap (λ n. resolve.behind_all ss n inner) same) c.end_atomic.ensures)
-
-pub statement-returns-in_ok-statements-in-Atomic-clause-body : goal.statement-returns-in_ok-statements-in-Atomic-clause-body
-statement-returns-in_ok-statements-in-Atomic-clause-body t c =
-    let ss = c.args.scopes.now in
-    let p = c.args.place in
-    let b = c.push_outside_atomic-in-Atomic.new.self in
-    let inner = plain_stmts c.in-Atomic.ss in
-    let e2 : c.statements.new.self ≡ together b (stmts_found (broken.in_atomic p) ss (length b.locals) inner) = search rules in
-    rw (c.in-Atomic.is, atomic_is) (on_ok_weaker c.end_atomic.result (atomic_done p ss c.args.self.now c.in-Atomic.from inner c.in_ok-push_outside_atomic-in-Atomic.ensures e2) c.end_atomic.ensures)
 
 pub statement-returns-in-Handles-clause-scopes : goal.statement-returns-in-Handles-clause-scopes
 statement-returns-in-Handles-clause-scopes t c = rw (c.in-Handles.is, handles_is, ← c.get-in-Handles.ensures) c.handles.ensures.scopes
@@ -216,3 +110,103 @@ statements-returns-clause-body t c =
     let at = c.loop-s in
     sym (together-no_stmts c.args.place at.self at.scopes)
     ∙ ap (λ xs. together at.self (stmts_found c.args.place at.scopes (length at.self.locals) (plain_stmts xs))) (sym (drop_all at.s-index c.args.ss.now (omega arith))) ∙ at.invariant.1
+
+pub atomic-returns-clause-scopes : goal.atomic-returns-clause-scopes
+atomic-returns-clause-scopes t c =
+    let ss = c.args.scopes.now in
+    let b = c.push_outside_atomic.new.self in
+    let inner = plain_stmts c.args.ss.now in
+    let same : length b.locals ≡ length c.args.self.now.locals =
+    ap (λ x. length x.locals) c.in_ok-push_outside_atomic.ensures ∙ length-outside c.args.self.now c.args.place c.args.from _ in
+    on_ok_weaker c.end_atomic.result (λ e. c.in_ok-statements.ensures.scopes ∙ ap (λ n. resolve.behind_all ss n inner) same) c.end_atomic.ensures
+
+pub atomic-returns-clause-body : goal.atomic-returns-clause-body
+atomic-returns-clause-body t c =
+    let ss = c.args.scopes.now in
+    let p = c.args.place in
+    let b = c.push_outside_atomic.new.self in
+    let inner = plain_stmts c.args.ss.now in
+    let e2 : c.statements.new.self ≡ together b (stmts_found (broken.in_atomic p) ss (length b.locals) inner) = search rules in
+    on_ok_weaker c.end_atomic.result (atomic_done p ss c.args.self.now c.args.from inner c.in_ok-push_outside_atomic.ensures e2) c.end_atomic.ensures
+
+pub otherwise-returns-in-None-clause-body : goal.otherwise-returns-in-None-clause-body
+unfolding found
+otherwise-returns-in-None-clause-body t c = rw c.in-None.is (sym (together-none c.args.self.now))
+
+pub repeat-returns-clause-body : goal.repeat-returns-clause-body
+repeat-returns-clause-body t c =
+    let ss = c.args.scopes.now in
+    let p = c.args.place in
+    let from = c.args.from in
+    let v = plain_cond c.args.c.now in
+    let s = plain_stmt c.args.s.now in
+    let e1 : c.begin_while.new.self
+    ≡ together (together c.args.self.now (refused (first_of (broken.not_in_atomic p from ++ broken.value_broken ss use_as.Condition v)))) (tested (instruction.Loop from) (resolve.condition ss v)) =
+    search rules in
+    let e2 : c.inside.new.self ≡ together c.begin_while.new.self (stmt_found p (open_scope ss) (length c.begin_while.new.self.locals) s) = search rules in
+    on_ok_weaker c.end_loop.result (λ e. while_done p ss c.args.self.now from v s e1 e2
+    (e ∙ ap (λ x. together c.inside.new.self (loop_end x None)) c.in_ok-inside.ensures.scopes)) c.end_loop.ensures
+
+pub statement-returns-in-Assign-clause-scopes : goal.statement-returns-in-Assign-clause-scopes
+statement-returns-in-Assign-clause-scopes t c = rw (c.in-Assign.is, assign_is) (on_ok_weaker c.assign_statement.result (λ e. refl) c.assign_statement.ensures)
+
+pub statement-returns-in-Assign-clause-body : goal.statement-returns-in-Assign-clause-body
+unfolding stmt_found
+statement-returns-in-Assign-clause-body t c =
+    let a = plain_assign c.in-Assign.a in
+    let ss = c.args.scopes.now in
+    rw (c.in-Assign.is, assign_is) (on_ok_weaker c.assign_statement.result
+    (λ e. e ∙ ap (λ x. together c.args.self.now (found [] (resolve.assign ss (plain_assign x)) (broken.assign_broken ss (plain_assign x)))) c.get-in-Assign.ensures) c.assign_statement.ensures)
+
+pub statement-returns-in-Call-clause-scopes : goal.statement-returns-in-Call-clause-scopes
+statement-returns-in-Call-clause-scopes t c = rw (c.in-Call.is, call_is) (on_ok_weaker c.call_statement.result (λ e. refl) c.call_statement.ensures)
+
+pub statement-returns-in-Call-clause-body : goal.statement-returns-in-Call-clause-body
+unfolding stmt_found
+statement-returns-in-Call-clause-body t c =
+    let p = c.args.place in
+    let ss = c.args.scopes.now in
+    rw (c.in-Call.is, call_is) (on_ok_weaker c.call_statement.result
+    (λ e. e ∙ ap (λ x. together c.args.self.now (found [] (resolve.call ss (plain_call x)) (broken.call_broken p ss (plain_call x)))) c.get-in-Call.ensures) c.call_statement.ensures)
+
+pub statement-returns-in-Return-clause-scopes : goal.statement-returns-in-Return-clause-scopes
+statement-returns-in-Return-clause-scopes t c = rw (c.in-Return.is, return_is) (on_ok_weaker c.exit.result (λ e. refl) c.exit.ensures)
+
+pub statement-returns-in-Return-clause-body : goal.statement-returns-in-Return-clause-body
+unfolding stmt_found
+statement-returns-in-Return-clause-body t c =
+    rw (c.in-Return.is, return_is) (on_ok_weaker c.exit.result (λ e. e ∙ ap (together c.args.self.now) (exit_found c.args.place c.in-Return.from)) c.exit.ensures)
+
+pub statement-returns-in_ok-otherwise-in-If-clause-scopes : goal.statement-returns-in_ok-otherwise-in-If-clause-scopes
+statement-returns-in_ok-otherwise-in-If-clause-scopes t c =
+    let ss = c.args.scopes.now in
+    let s = plain_stmt c.in-If.s in
+    let other = option_map plain_stmt c.in-If.other in
+    let same : c.otherwise.new.scopes ≡ ss = search rules in
+    rw (c.in-If.is, if_is) (on_ok_weaker c.push-in-If.result (λ e. same ∙ sym (behind-if_layer ss (length c.args.self.now.locals) c.in-If.from (plain_cond c.in-If.c) s other)) c.push-in-If.ensures)
+
+pub statement-returns-in_ok-otherwise-in-If-clause-body : goal.statement-returns-in_ok-otherwise-in-If-clause-body
+statement-returns-in_ok-otherwise-in-If-clause-body t c =
+    let ss = c.args.scopes.now in
+    let p = c.args.place in
+    let from = c.in-If.from in
+    let v = plain_cond c.in-If.c in
+    let s = plain_stmt c.in-If.s in
+    let other = option_map plain_stmt c.in-If.other in
+    let e1 : c.begin_if.new.self ≡ together (together c.args.self.now (refused (first_of (broken.value_broken ss use_as.Condition v)))) (tested (instruction.If from) (resolve.condition ss v)) =
+    search rules in
+    let e2 : c.inside.new.self ≡ together c.begin_if.new.self (stmt_found p (open_scope ss) (length c.begin_if.new.self.locals) s) = search rules in
+    let e4 : c.otherwise.new.self ≡ together c.push.new.self (other_found p (open_scope ss) (length c.push.new.self.locals) other) = search rules in
+    rw (c.in-If.is, if_is) (on_ok_weaker c.push-in-If.result (if_layer_done p ss c.args.self.now from v s other e1 e2 c.in_ok-push-in-If.ensures e4) c.push-in-If.ensures)
+
+pub statement-returns-in-While-clause-scopes : goal.statement-returns-in-While-clause-scopes
+statement-returns-in-While-clause-scopes t c = rw (c.in-While.is, while_is) c.repeat.ensures.scopes
+
+pub statement-returns-in-While-clause-body : goal.statement-returns-in-While-clause-body
+statement-returns-in-While-clause-body t c = rw (c.in-While.is, while_is, ← c.get-in-While.ensures, ← c.get-in-While-2.ensures) c.repeat.ensures.body
+
+pub statement-returns-in-Atomic-clause-scopes : goal.statement-returns-in-Atomic-clause-scopes
+statement-returns-in-Atomic-clause-scopes t c = rw (c.in-Atomic.is, atomic_is, ← c.as_slice.ensures) c.atomic.ensures.scopes
+
+pub statement-returns-in-Atomic-clause-body : goal.statement-returns-in-Atomic-clause-body
+statement-returns-in-Atomic-clause-body t c = rw (c.in-Atomic.is, atomic_is, ← c.as_slice.ensures) c.atomic.ensures.body

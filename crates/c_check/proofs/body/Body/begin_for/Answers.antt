@@ -1,11 +1,11 @@
-use Rattle.std.proofs.Common.{◌++◌, option_map, sym, ap, ap₂, ◌∙◌}
+use Rattle.std.proofs.Common.{option_map, sym, ap, ap₂, ◌∙◌}
 use Rattle.std.proofs.lemmas.Result.{on_ok_weaker}
 use Rattle.c_tree.specs.Seen.{plain_assign, plain_cond}
 use Rattle.c_check.specs.declared.instruction.Instruction.TheVariants as instruction
 use Rattle.c_check.specs.declared.uses.Use.TheVariants as use_as
 use Rattle.c_check.specs.Broken as broken
 use Rattle.c_check.specs.Resolve as resolve
-use Rattle.c_check.specs.inside.First.{earlier}
+use Rattle.c_check.specs.First.{earlier}
 use Rattle.c_check.specs.inside.Found.{refused, tested, together}
 use Rattle.c_check.proofs.FirstOf.{first_of-append}
 use Rattle.c_check.proofs.body.Body.begin_for.Goals as goal

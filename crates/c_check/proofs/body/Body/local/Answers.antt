@@ -1,6 +1,6 @@
-use Rattle.std.proofs.Common.{◌≡◌, ◌++◌, length, option_map, ap, ◌∙◌, rules}
+use Rattle.std.proofs.Common.{◌≡◌, length, rules}
 use Rattle.std.proofs.lemmas.Result.{on_ok_weaker}
-use Rattle.c_tree.specs.Seen.{plain_lname, plain_right}
+use Rattle.c_tree.specs.Seen.{plain_lname}
 use Rattle.c_check.specs.declared.meaning.Variable.TheVariants as variable
 use Rattle.c_check.specs.declared.meaning.Meaning.TheVariants as meaning
 use Rattle.c_check.specs.declared.uses.Use.TheVariants as use_as
