@@ -1,0 +1,133 @@
+-- The program of a text has the same steps as the text, and fails where it fails.
+use Rattle.std.proofs.Common.{◌≡◌, ◌↔◌, ℕ, zero, suc, ◌+◌, ◌-◌, ◌<◌, ◌≤◌, nat_lt, Bool, true, false, List, [], ◌∷◌, ◌++◌, length, map, take, flat_map, Option, Some, None, refl, sym, ap, subst, arith, slice_get, length-append, append_assoc, ltb-false, ◌∙◌}
+use Rattle.std.proofs.lemmas.List.{length-map}
+use Rattle.thr_base.specs.Limits.{most_locations}
+use Rattle.c_tree.specs.Plain as plain
+use Rattle.c_check.specs.declared.columns.OwnVariables.{OwnVariables}
+use Rattle.c_check.specs.declared.plan.Column.{Column}
+use Rattle.c_check.specs.declared.plan.Plan.{Plan}
+use Rattle.c_check.specs.Program.{created_of}
+use Rattle.c_check.specs.Check.{IsPlanOf, function_items}
+use Rattle.c_check.specs.Columns.{columns_of, counters_from, own_columns_from, own_count, owns_of, shared_columns, threads_from, threads_of}
+use Rattle.c_check.specs.WellFormed.{IsWellFormedPlan}
+use Rattle.transition_formula.specs.Program.{IsProgram, numbered}
+use Rattle.thread_cfg.specs.Action.{thread_actions}
+use Rattle.thread_cfg.specs.Graph.{Running, actions_of, edges_from, locations_of, program_column, program_of, refusals_from, refusals_of, thread_graph, thread_refusals, threads_running}
+use Rattle.thread_cfg.specs.SameSteps.{HasSameSteps, SameSteps}
+use Rattle.thread_cfg.specs.Interleaving.{ProgramFails, TextFails, value_columns}
+use Rattle.thread_cfg.proofs.Numbered.{Has, cons-empty, empty-behind, empty-front, none-some, number-has, some-same}
+use Rattle.thread_cfg.proofs.Running.{actions-within, running-is, threads-running}
+use Rattle.thread_cfg.proofs.Sameness.{IsGraphOf, same-steps}
+use Rattle.thread_cfg.proofs.Interleavings.{IsKnown, fails-alike}
+
+-- ---- lists
+
+numbered-map : {X Y : Type 0} → (f : X → Y) (xs : List X) (i : ℕ) (x : X) → numbered xs i ≡ Some x → numbered (map f xs) i ≡ Some (f x)
+numbered-map f xs zero x e = absurd (none-some x e)
+numbered-map f [] (suc i) x e = absurd (none-some x e)
+numbered-map f (y ∷ xs) (suc zero) x e = ap (λ z. Some (f z)) (some-same y x e)
+numbered-map f (y ∷ xs) (suc (suc i)) x e = numbered-map f xs (suc i) x e
+
+numbered-below : {X : Type 0} → (xs : List X) (i : ℕ) (x : X) → numbered xs i ≡ Some x → (1 ≤ i) × (i ≤ length xs)
+numbered-below xs zero x e = absurd (none-some x e)
+numbered-below [] (suc i) x e = absurd (none-some x e)
+numbered-below (y ∷ xs) (suc zero) x e = (omega arith, omega arith)
+numbered-below (y ∷ xs) (suc (suc i)) x e = let m = numbered-below xs (suc i) x e in (omega arith, omega (arith, m.1))
+
+flat-none : {X Y : Type 0} → (f : X → List Y) (xs : List X) (i : ℕ) (x : X) → flat_map f xs ≡ [] → numbered xs i ≡ Some x → f x ≡ []
+flat-none f xs zero x e at = absurd (none-some x at)
+flat-none f [] (suc i) x e at = absurd (none-some x at)
+flat-none f (y ∷ xs) (suc zero) x e at = subst (λ z. f z ≡ []) (some-same y x at) (empty-front (f y) (flat_map f xs) e)
+flat-none f (y ∷ xs) (suc (suc i)) x e at = flat-none f xs (suc i) x (empty-behind (f y) (flat_map f xs) e) at
+
+take-front : {X : Type 0} → (xs ys : List X) → take (length xs) (xs ++ ys) ≡ xs
+take-front [] ys = refl
+take-front (x ∷ xs) ys = ap (λ l. x ∷ l) (take-front xs ys)
+
+-- ---- columns and threads
+
+length-threads : (owns : List OwnVariables) (first : ℕ) (created : List ℕ) → length (threads_from owns first created) ≡ length created
+length-threads owns first [] = refl
+length-threads owns first (n ∷ ns) = ap suc (length-threads owns (first + own_count owns n) ns)
+
+length-counters : (i : ℕ) (created : List ℕ) → length (counters_from i created) ≡ length created
+length-counters i [] = refl
+length-counters i (n ∷ ns) = ap suc (length-counters (i + 1) ns)
+
+-- the actions of a thread that is not refused are not
+thread-fits : (columns : ℕ) (t : Running) → thread_refusals columns t ≡ [] → (locations_of t ≤ most_locations) × (refusals_from columns t.frame 1 (actions_of t) ≡ [])
+thread-fits columns t e = by (nat_lt most_locations (locations_of t)) refl
+  where
+    by : (b : Bool) → nat_lt most_locations (locations_of t) ≡ b → (locations_of t ≤ most_locations) × (refusals_from columns t.frame 1 (actions_of t) ≡ [])
+    by true is = absurd (cons-empty _ _ (rw is at e))
+    by false is = (ltb-false most_locations (locations_of t) is, rw is at e)
+
+module _ (tree : plain.Tree) (plan : Plan) (is : IsPlanOf tree plan) (well : IsWellFormedPlan plan) where
+  abbrev k : ℕ
+  k = length (threads_running tree)
+
+  abbrev n : ℕ
+  n = length (columns_of tree) - length (threads_running tree)
+
+  pub created-are : length (created_of tree) ≡ length (threads_running tree)
+  created-are =
+      sym (threads-running tree plan is well ∙ ap length is.threads_are ∙ length-threads (owns_of tree) (length (shared_columns tree)) (created_of tree))
+
+  abbrev pub fronts : List Column
+  fronts = shared_columns tree ++ own_columns_from (owns_of tree) 1 (created_of tree)
+
+  columns-split : columns_of tree ≡ fronts ++ counters_from 1 (created_of tree)
+  columns-split = sym (append_assoc (shared_columns tree) (own_columns_from (owns_of tree) 1 (created_of tree)) (counters_from 1 (created_of tree)))
+
+  pub fronts-length : (length fronts ≡ n) × (n + k ≡ length (columns_of tree))
+  fronts-length =
+      let a = ap length columns-split in
+      let b = length-append fronts (counters_from 1 (created_of tree)) in
+      let c = length-counters 1 (created_of tree) in
+      (omega (arith, a, b, c, created-are), omega (arith, a, b, c, created-are))
+
+  pub counters-are : columns_of tree ≡ value_columns tree ++ counters_from 1 (created_of tree)
+  counters-are =
+      columns-split ∙ ap (λ l. l ++ counters_from 1 (created_of tree)) (sym (ap (λ m. take m (columns_of tree)) (sym (fronts-length.0)) ∙ ap (take (length fronts)) columns-split ∙ take-front fronts (counters_from 1 (created_of tree))))
+
+  -- there is a counter for each thread
+  pub counters-within : length (threads_running tree) ≤ length (columns_of tree)
+  counters-within = omega (arith, fronts-length.1)
+
+module _ (tree : plain.Tree) (plan : Plan) (is : IsPlanOf tree plan) (well : IsWellFormedPlan plan) (fits : refusals_of tree ≡ []) where
+  graph-is : (i : ℕ) (t : Running) → numbered (threads_running tree) i ≡ Some t
+      → IsGraphOf (program_of tree) (n tree plan is well) (k tree plan is well) t.frame (length t.function.locals) t.function.body (thread_graph (length (columns_of tree)) (k tree plan is well) t)
+  graph-is i t at =
+      let r = running-is tree plan is well i t at in
+      let among = numbered-below (threads_running tree) i t at in
+      let fit = thread-fits (length (columns_of tree)) t (flat-none (thread_refusals (length (columns_of tree))) (threads_running tree) i t fits at) in
+      record {
+        thread_is = subst (λ m. numbered (program_of tree).threads m ≡ Some (thread_graph (length (columns_of tree)) (k tree plan is well) t)) (sym r.number)
+            (numbered-map (thread_graph (length (columns_of tree)) (k tree plan is well)) (threads_running tree) i t at);
+        some = omega (arith, r.number, among.0);
+        among = omega (arith, r.number, among.1);
+        counter_is = omega (arith, r.number, among.0);
+        locations_are = refl;
+        edges_are = subst (λ c. (thread_graph (length (columns_of tree)) (k tree plan is well) t).edges ≡ edges_from c t.frame 1 (actions_of t)) (sym (fronts-length tree plan is well).1) refl;
+        within = actions-within tree plan is well i t at;
+        fits = subst (λ c. refusals_from c t.frame 1 (actions_of t) ≡ []) (sym (fronts-length tree plan is well).1) fit.1;
+      }
+
+  -- the program has the same steps as the text
+  pub programs-step-alike : SameSteps tree (program_of tree)
+  programs-step-alike = record {
+    columns_are = length-map (columns_of tree) program_column;
+    threads_are = length-map (threads_running tree) (thread_graph (length (columns_of tree)) (k tree plan is well));
+    steps_are = λ i t at. same-steps (program_of tree) (n tree plan is well) (k tree plan is well) t.frame (length t.function.locals) t.function.body (thread_graph (length (columns_of tree)) (k tree plan is well) t) (graph-is i t at);
+  }
+
+  -- and it fails where the text does
+  pub programs-fail-alike : IsProgram (program_of tree) → ProgramFails (program_of tree) ↔ TextFails tree
+  programs-fail-alike program = fails-alike tree (program_of tree) (record {
+    same = programs-step-alike;
+    is_program = program;
+    numbers = λ i t at. (running-is tree plan is well i t at).number;
+    columns_are = refl;
+    counters_are = counters-are tree plan is well;
+    created_are = created-are tree plan is well;
+  })

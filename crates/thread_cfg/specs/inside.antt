@@ -1,0 +1,10 @@
+pub mod Within
+pub mod Left
+pub mod Meant
+pub mod Found
+pub mod Words
+pub mod Known
+pub mod Built
+pub mod Machine
+pub mod Seen
+pub mod Made

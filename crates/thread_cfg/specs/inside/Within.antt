@@ -1,0 +1,33 @@
+-- Expressions, events and actions that read and set only columns within so many.
+use Rattle.std.specs.Prelude.{ℕ, ◌<◌, List}
+use Rattle.std.specs.List.{AllByRecursion}
+use Rattle.c_check.specs.Plan.{Arithmetic}
+use Rattle.thread_cfg.specs.Source.{Frame, column_of}
+use Rattle.thread_cfg.specs.Path.{Event, Path}
+use Rattle.thread_cfg.specs.Action.{Action, Alternative}
+
+-- The columns that the expression reads are within n.
+abbrev pub IsWithin : ℕ → Frame → Arithmetic → Type 0
+IsWithin n frame (Arithmetic.Number k) = Unit {0}
+IsWithin n frame (Arithmetic.Value v) = column_of frame v < n
+IsWithin n frame (Arithmetic.Negated a) = IsWithin n frame a
+IsWithin n frame (Arithmetic.Sum a b) = IsWithin n frame a × IsWithin n frame b
+IsWithin n frame (Arithmetic.Difference a b) = IsWithin n frame a × IsWithin n frame b
+IsWithin n frame (Arithmetic.Product a b) = IsWithin n frame a × IsWithin n frame b
+
+abbrev pub EventWithin : ℕ → Frame → Event → Type 0
+EventWithin n frame (Event.Requires from r a b) = IsWithin n frame a × IsWithin n frame b
+EventWithin n frame (Event.Sets at v e) = (column_of frame v < n) × IsWithin n frame e
+EventWithin n frame (Event.SetsAny v) = column_of frame v < n
+
+abbrev pub EventsWithin : ℕ → Frame → List Event → Type 0
+EventsWithin n frame events = AllByRecursion (EventWithin n frame) events
+
+abbrev pub PathsWithin : ℕ → Frame → List Path → Type 0
+PathsWithin n frame paths = AllByRecursion (λ path. EventsWithin n frame path.events) paths
+
+abbrev pub ActionWithin : ℕ → Frame → Action → Type 0
+ActionWithin n frame action = AllByRecursion (λ a. EventsWithin n frame a.events) action.alternatives
+
+abbrev pub ActionsWithin : ℕ → Frame → List Action → Type 0
+ActionsWithin n frame actions = AllByRecursion (ActionWithin n frame) actions

@@ -1,0 +1,47 @@
+//! What is found of a thread: its edges, or the first reason why it is refused.
+
+ghost use Rattle.std.specs.Prelude.{◌≡◌, ◌≤◌, map, IfOk};
+ghost use Rattle.c_check.specs.Check.{stored_function};
+ghost use Rattle.c_check.specs.Program as program;
+ghost use Rattle.thread_cfg.specs.Graph as graph;
+ghost use Rattle.thread_cfg.specs.inside.Found.{IsFoundOf};
+ghost use Rattle.thread_cfg.specs.inside.Meant.{frame_of};
+ghost use Rattle.thread_cfg.specs.inside.Within.{ActionsWithin};
+
+use crate::frame::Frame;
+use c_check::Function;
+use std::alloc::{AllocError, Global};
+use thr_base::Refusal;
+use transition_formula::Edge;
+
+/// What there is of a thread, which is of use where it is not refused.
+#[derive(Drop)]
+pub(crate) struct Found {
+    /// That of failing and the last one among them.
+    pub(crate) locations: u32,
+    pub(crate) edges: Vec<Edge>,
+    pub(crate) refusal: Option<Refusal>,
+}
+
+/// What is found of a thread that runs the function.
+pub(crate) fn find_edges(
+    alloc: Global,
+    columns: u32,
+    frame: &Frame,
+    function: &Function,
+) -> Result<Found, AllocError>
+    requires few_columns { columns ≤ 64 }
+    requires of_text { (f : program.Function) × (function.now ≡ stored_function f)
+        × ActionsWithin columns (frame_of frame.now) (graph.actions_of (record { frame = frame_of frame.now; function = f })) }
+    ensures { (f : program.Function) → function.now ≡ stored_function f
+        → IfOk result (λ found. IsFoundOf columns (record { frame = frame_of frame.now; function = f }) found) }
+{
+    Err(AllocError)
+}
+
+/// The place of the first token of each location's action, from location 1 on.
+pub(crate) fn find_places(alloc: Global, function: &Function) -> Result<Vec<u32>, AllocError>
+    ensures { (t : graph.Running) → function.now ≡ stored_function t.function → IfOk result (λ places. places.items ≡ graph.location_places t) }
+{
+    Err(AllocError)
+}
