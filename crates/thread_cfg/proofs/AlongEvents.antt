@@ -17,7 +17,7 @@ use Rattle.thread_cfg.specs.Source.{Frame, column_of, value, with_value}
 use Rattle.thread_cfg.specs.Path.{Event}
 use Rattle.thread_cfg.specs.Happen.{Happen, Holds}
 use Rattle.thread_cfg.specs.Edge.{Along, after_event, after_events, fits_or, form_along, form_of, inputs_of, on_ok, row_along, row_by, with_form, with_input, with_row}
-use Rattle.thread_cfg.specs.inside.Within.{EventsWithin, IsWithin}
+use Rattle.thread_cfg.specs.Within.{EventsWithin, IsWithin}
 use Rattle.thread_cfg.proofs.Values.{form_of-over, form_of-value, value-append}
 use Rattle.thread_cfg.proofs.Relations.{row_by-meets}
 

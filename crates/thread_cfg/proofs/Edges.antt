@@ -19,7 +19,7 @@ use Rattle.thread_cfg.specs.Source.{Frame, column_of}
 use Rattle.thread_cfg.specs.Path.{Event}
 use Rattle.thread_cfg.specs.Action.{Alternative}
 use Rattle.thread_cfg.specs.Edge.{Along, after_events, alternative_edge, at_first, bound_holds, edge_along, edge_unless_never, event_sets, form_at, has_no_column, inputs_of, is_never, set_columns, sets_column}
-use Rattle.thread_cfg.specs.inside.Within.{EventWithin, EventsWithin}
+use Rattle.thread_cfg.specs.Within.{EventWithin, EventsWithin}
 use Rattle.thread_cfg.proofs.Values.{constant-over}
 use Rattle.thread_cfg.proofs.Relations.{no_column-meets}
 use Rattle.thread_cfg.proofs.AlongEvents.{on_ok-ok, worths}

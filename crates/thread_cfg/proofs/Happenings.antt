@@ -13,7 +13,7 @@ use Rattle.thread_cfg.specs.Action.{Alternative}
 use Rattle.thread_cfg.specs.Edge.{Along, at_first, edge_along, inputs_of, is_never}
 use Rattle.thread_cfg.specs.SameSteps.{state_of}
 use Rattle.thread_cfg.specs.EdgeLaws.{EdgesHappen, NeverEdgesDoNotHappen}
-use Rattle.thread_cfg.specs.inside.Within.{EventsWithin}
+use Rattle.thread_cfg.specs.Within.{EventsWithin}
 use Rattle.thread_cfg.proofs.AlongEvents.{Agree, after_events-agree, finally, worths}
 use Rattle.thread_cfg.proofs.Events.{after_events-changes, finally-length, first-worth}
 use Rattle.thread_cfg.proofs.Edges.{all_along, edge-made, edge-not_made, sets-assigned, some_never-meets, tests-meet, width_of}

@@ -58,3 +58,4 @@ pub mod WordsItems
 pub mod WordsText
 pub mod KnownText
 pub mod ReadLemmas
+pub mod TextLaws

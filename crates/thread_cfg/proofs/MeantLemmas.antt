@@ -18,7 +18,7 @@ use Rattle.c_check.specs.Plan.{Arithmetic}
 use Rattle.thread_cfg.specs.inside.Made.{some_sets}
 use Rattle.thread_cfg.specs.inside.Meant.{Means, StandFor, StandsFor}
 use Rattle.thread_cfg.specs.inside.Seen.{HeldEventWithin, Seen, form_seen, held_event_sets, inputs_in, row_seen, seen_after, seen_behind, seen_of, seen_with_form, seen_with_row}
-use Rattle.thread_cfg.specs.inside.Within.{EventWithin, EventsWithin}
+use Rattle.thread_cfg.specs.Within.{EventWithin, EventsWithin}
 use Rattle.thread_cfg.proofs.PostfixLemmas.{computed-meant, expression-within}
 
 -- ---- one event

@@ -18,7 +18,7 @@ use Rattle.thread_cfg.specs.Source.{Frame}
 use Rattle.thread_cfg.specs.Edge.{fitting_difference, fitting_product, form_of}
 use Rattle.thread_cfg.specs.inside.Machine.{ExpressionWithin, OperationWithin, computed, last_of, on_top, operations_of, relabelled, stack_behind}
 use Rattle.thread_cfg.specs.inside.Meant.{Means}
-use Rattle.thread_cfg.specs.inside.Within.{IsWithin}
+use Rattle.thread_cfg.specs.Within.{IsWithin}
 
 -- ---- the machine
 

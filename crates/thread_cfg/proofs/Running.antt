@@ -22,7 +22,7 @@ use Rattle.c_check.specs.WellFormed.{HasCode, HasThread, IsWellFormedPlan, count
 use Rattle.transition_formula.specs.Program.{numbered}
 use Rattle.thread_cfg.specs.Source.{Frame}
 use Rattle.thread_cfg.specs.Graph.{Running, actions_of, running_from, threads_running, variables_of}
-use Rattle.thread_cfg.specs.inside.Within.{ActionsWithin}
+use Rattle.thread_cfg.specs.Within.{ActionsWithin}
 use Rattle.thread_cfg.proofs.Withins.{HasRoom, thread_actions-within}
 
 -- ---- each thread has its function

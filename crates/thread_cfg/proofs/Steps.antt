@@ -15,7 +15,7 @@ use Rattle.c_check.specs.WellFormed.{counts_in, is_variable}
 use Rattle.transition_formula.specs.Program.{numbered}
 use Rattle.thread_cfg.specs.Graph.{Running, actions_of, threads_running, variables_of}
 use Rattle.thread_cfg.specs.inside.Known.{IsKnownPlan}
-use Rattle.thread_cfg.specs.inside.Within.{ActionsWithin}
+use Rattle.thread_cfg.specs.Within.{ActionsWithin}
 use Rattle.thread_cfg.proofs.Found.{runs-there}
 use Rattle.thread_cfg.proofs.Fronts.{get-below}
 use Rattle.thread_cfg.proofs.Graphs.{counters-within}

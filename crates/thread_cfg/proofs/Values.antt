@@ -24,7 +24,7 @@ use Rattle.transition_formula.proofs.Numbers.{unit_fits, zeros_fit}
 use Rattle.c_check.specs.Plan.{Arithmetic}
 use Rattle.thread_cfg.specs.Source.{Frame, column_of, value}
 use Rattle.thread_cfg.specs.Edge.{fitting_difference, fitting_product, form_of, is_constant}
-use Rattle.thread_cfg.specs.inside.Within.{IsWithin}
+use Rattle.thread_cfg.specs.Within.{IsWithin}
 
 -- ---- coefficients that are all 0
 pub all_zero : (xs : List ℤ) → list_all (int_eq (pos 0)) xs ≡ true → AllZero xs

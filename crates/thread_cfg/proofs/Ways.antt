@@ -8,7 +8,6 @@ use Rattle.thread_cfg.specs.declared.relation.Relation.{Relation}
 use Rattle.thread_cfg.specs.Source.{Frame, IsWay, IsItemWay, IsSideWay, WayEnd, compared, is_true, value, with_value}
 use Rattle.thread_cfg.specs.Path.{Event, Path, begun, ended, picked, test_paths, condition_paths, stmt_paths, paths, block_paths, when_true, when_false}
 use Rattle.thread_cfg.specs.Happen.{Happen, Holds, IsGone, SomeGone, end_of}
-use Rattle.thread_cfg.specs.Laws.{WaysArePaths}
 use Rattle.thread_cfg.proofs.Comparisons.{SomeHolds, compared-exact}
 
 -- ---- paths that are gone
@@ -308,7 +307,8 @@ mutual
             | inr v ↦ inr (v.0, w.1) ] ]) )
 
 -- the ways through the items of an atomic body are those that its paths are gone by
-pub ways-are-paths : WaysArePaths
+pub ways-are-paths : (frame : Frame) (inner : Stmts) (values after : List ℤ) (end : WayEnd)
+    → IsWay frame values (items Grain.Whole inner) after end ↔ SomeGone frame values (block_paths inner) after end
 ways-are-paths frame inner values after end =
     ( λ h. (stmts-follow frame inner (ended false ∷ []) values after end).1 (split end h)
     , λ h. elim ((stmts-follow frame inner (ended false ∷ []) values after end).0 h) [

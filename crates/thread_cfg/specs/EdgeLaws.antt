@@ -1,4 +1,4 @@
--- What an edge does is what its events say. No public clause cites this file yet.
+-- What an edge does is what its events say.
 use Rattle.std.specs.Prelude.{◌≡◌, ◌↔◌, ◌≤◌, ℕ, ◌+◌, ◌-◌, ℤ, List, length, slice_set, Some, None, Ok}
 use Rattle.transition_formula.specs.Program.{Edge, Thread, numbered}
 use Rattle.transition_formula.specs.Step.{Steps}
@@ -7,7 +7,7 @@ use Rattle.thread_cfg.specs.Happen.{Happen}
 use Rattle.thread_cfg.specs.Action.{Alternative}
 use Rattle.thread_cfg.specs.Edge.{alternative_edge}
 use Rattle.thread_cfg.specs.SameSteps.{state_of}
-use Rattle.thread_cfg.specs.inside.Within.{EventsWithin}
+use Rattle.thread_cfg.specs.Within.{EventsWithin}
 
 -- A thread steps by the edge of a way on, with some inputs, exactly where the events of that way happen with them. There are n
 -- variables and locks and k threads, of which this is the i-th, from 1, and it stands at the edge's location.

@@ -2,13 +2,14 @@ pub mod Source
 pub mod Path
 pub mod Happen
 pub mod Action
+pub mod Within
 pub mod Edge
 pub mod Graph
 pub mod SameSteps
 pub mod Interleaving
-pub mod Laws
 pub mod inside
 pub mod EdgeLaws
 pub mod Picks
 pub mod PickEdges
 pub mod Read
+pub mod Laws

@@ -1,4 +1,4 @@
--- The edge of a path of an atomic body steps where a way takes what the path picks. No public clause cites this file yet.
+-- The edge of a path of an atomic body steps where a way takes what the path picks.
 use Rattle.std.specs.Prelude.{◌≡◌, ◌↔◌, ◌≤◌, ℕ, ◌+◌, ◌-◌, ℤ, List, length, slice_set, Contains, Some, None, Ok}
 use Rattle.c_check.specs.Plan.{Stmts}
 use Rattle.c_check.specs.Items.{Grain, items}
@@ -10,7 +10,7 @@ use Rattle.thread_cfg.specs.Action.{path_alternative, path_target}
 use Rattle.thread_cfg.specs.Edge.{alternative_edge}
 use Rattle.thread_cfg.specs.SameSteps.{state_of}
 use Rattle.thread_cfg.specs.Picks.{PickedPath, Takes, arrived, block_picked}
-use Rattle.thread_cfg.specs.inside.Within.{EventsWithin}
+use Rattle.thread_cfg.specs.Within.{EventsWithin}
 
 -- A thread steps by the edge of a path, with some inputs, exactly where a way takes just the picks of the path and just these inputs;
 -- the step leaves the values that the way comes to. There are n variables and locks and k threads, of which this is the i-th, from 1,

@@ -1,4 +1,4 @@
--- What each path of an atomic body picks, and the ways that take just these picks. No public clause cites this file yet.
+-- What each path of an atomic body picks, and the ways that take just these picks.
 use Rattle.std.specs.Prelude.{◌≡◌, ◌≢◌, ◌⊎◌, ◌↔◌, ℕ, ℤ, Bool, true, false, List, [], ◌∷◌, ◌++◌, map, flat_map, AllPairs, Contains, MatchBool, Some, None}
 use Rattle.c_check.specs.Plan.{Arithmetic, Test, Condition, Stmt, Stmts}
 use Rattle.c_check.specs.Items.{Grain, Item, Items, Side, items}

@@ -1,4 +1,3 @@
-pub mod Within
 pub mod Left
 pub mod Meant
 pub mod Found

@@ -10,6 +10,7 @@ mod edge_tests;
 mod event;
 mod form;
 mod frame;
+mod laws;
 mod read;
 mod relation;
 mod row;
@@ -19,4 +20,5 @@ mod temporaries;
 mod thread;
 
 pub use building::build;
+pub use laws::{edges_happen, paths_tell_ways, programs_step_alike, texts_fail_alike};
 pub use read::read_program;

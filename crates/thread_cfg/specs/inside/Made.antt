@@ -12,7 +12,7 @@ use Rattle.thread_cfg.specs.Path.{Event}
 use Rattle.thread_cfg.specs.Edge.{on_ok}
 use Rattle.thread_cfg.specs.inside.Meant.{StandFor}
 use Rattle.thread_cfg.specs.inside.Seen.{Seen, held_event_sets, inputs_in, seen_behind}
-use Rattle.thread_cfg.specs.inside.Within.{EventsWithin}
+use Rattle.thread_cfg.specs.Within.{EventsWithin}
 
 -- The events stand for some whose columns are within so many.
 pub record StandWithin (columns : ℕ) (frame : Frame) (events : List StoredEvent) : Type 0 where
