@@ -1,0 +1,10 @@
+pub mod Source
+pub mod Path
+pub mod Happen
+pub mod Action
+pub mod Edge
+pub mod Graph
+pub mod SameSteps
+pub mod Interleaving
+pub mod Laws
+pub mod Read
