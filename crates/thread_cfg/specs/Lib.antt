@@ -6,5 +6,5 @@ pub mod Edge
 pub mod Graph
 pub mod SameSteps
 pub mod Interleaving
-pub mod Laws
 pub mod Read
+pub mod Laws
