@@ -17,8 +17,7 @@ use Rattle.transition_formula.specs.Program.{Program, numbered}
 use Rattle.predicate_sets.specs.Sets.{set_at}
 use Rattle.horn_rules.specs.Home.{Home, homes}
 use Rattle.horn_rules.specs.Stored.{facts_of, sets_of, AreStoredSetsOf}
-use Rattle.annotation_form.specs.BadLine.{IsReadAs}
-use Rattle.annotation_form.specs.Predicates.{home_atoms}
+use Rattle.annotation_form.specs.Predicates.{IsReadAs, home_atoms}
 use Rattle.horn_rules.specs.Fact.{Sets, Fact, IsSetOf}
 use Rattle.horn_rules.specs.Least.{Least}
 use Rattle.horn_rules.specs.Table.{IsTable}
@@ -106,8 +105,8 @@ pub AnswersProgramText-earlier : {between after : StoreMeaning} {predicates : Op
     → KeepsFiles before between → AnswersProgramText (AnswersTables between after predicates) bytes status text
     → AnswersProgramText (AnswersTables before after predicates) bytes status text
 AnswersProgramText-earlier before kept (refused refusal why) = refused refusal why
-AnswersProgramText-earlier before kept (accepted program status text is answers) =
-    accepted program status text is (AnswersTables-earlier before kept answers)
+AnswersProgramText-earlier before kept (accepted tree program status text is answers tells) =
+    accepted tree program status text is (AnswersTables-earlier before kept answers) tells
 
 -- ---- predicates
 

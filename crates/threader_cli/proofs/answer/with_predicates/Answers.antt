@@ -2,7 +2,8 @@ use Rattle.std.proofs.Common.{List, Err, subst}
 use Rattle.thr_base.specs.declared.stops.LineStop.{LineStop}
 use Rattle.thr_base.specs.Refusals.{MatchLineStop}
 use Rattle.lin_rows.specs.Row.{Row}
-use Rattle.annotation_form.specs.BadLine.{IsReadAs, IsBadLine}
+use Rattle.annotation_form.specs.BadLine.{IsBadLine}
+use Rattle.annotation_form.specs.Predicates.{IsReadAs, IsTextOfPredicates}
 use Rattle.threader_cli.proofs.AnswerLemmas.{said, passed, IsReadAs-stored}
 use Rattle.threader_cli.specs.Answer.{AnswersProgram, AnswersPredicates, bad_line, read}
 use Rattle.threader_cli.proofs.answer.with_predicates.Goals as goal
@@ -17,5 +18,5 @@ returns-in-Ok c =
 
 pub returns-in-Err-BadLine : goal.returns-in-Err-BadLine
 returns-in-Err-BadLine c =
-    let bad = subst (λ (stop : LineStop). MatchLineStop {X = List (List Row)} (Err stop) (IsReadAs c.args.program.now c.args.bytes.now) (IsBadLine c.args.program.now c.args.bytes.now)) c.in-Err-BadLine.field-0-is c.in-Err-BadLine.ensures.answer in
+    let bad = subst (λ (stop : LineStop). MatchLineStop {X = List (List Row)} (Err stop) (IsReadAs c.args.program.now c.args.bytes.now) (IsBadLine (IsTextOfPredicates c.args.program.now) c.args.bytes.now)) c.in-Err-BadLine.field-0-is c.in-Err-BadLine.ensures.answer in
     said (AnswersPredicates c.args.program.now c.args.bytes.now) c.bad_line.result 3 _ c.bad_line.ensures (bad_line c.in-Err-BadLine.line bad)
