@@ -1,4 +1,4 @@
-use crate::runs::{ASSIGNS_ONCE, run, run_with, spelled};
+use crate::runs::{ASSIGNS_ONCE, ITS_TABLE, run, run_with, spelled};
 use std::alloc::{AllocError, Global};
 use std::str::FromStr;
 use std::test::Fail;
@@ -27,11 +27,12 @@ fn run_body(
 }
 
 /// The last count at which a body is accepted, the answer at the next, and the front, the inside and the back. A function
-/// has 128 locations: one for each action, the failing one, and the exit. Statements lie in 64 levels, where the block
+/// has 256 locations: one for each action, the failing one, and the exit. Statements lie in 64 levels, where the block
 /// of an `else` is part of the nearer `if`.
 const LIMITS: &str = "\
-126|E14 0|x=1;||
-126|E14 0|if(?);||
+254|E11 13|x=1;||
+254|E11 13|if(?);||
+127|E11 13|x++;||
 64|E11 90|{||}
 63|E11 90|{|x = 1;|}
 63|E11 1946|while(?)|;|
@@ -54,6 +55,108 @@ fn bodies_have_limits(rt: HostRuntime) -> Result<(), Fail> {
         let refusal = format!(in rt.alloc(); "program {answer}\n")?;
         assert_eq!(rt; written, refusal, "{case}");
     }
+    Ok(())
+}
+
+/// The last count at which an atomic block is accepted that holds what follows so many times. It has 64 paths: all picks count,
+/// also those that no values take.
+const PATHS: &str = "\
+6|if (?) ;
+3|if (x == 0) ;
+3|if (1 == 1) ;
+63|assert(x > 0);
+31|assert(x == 0);
+6|__VERIFIER_assume(x != 0);";
+
+#[test]
+fn atomic_blocks_have_limits(rt: HostRuntime) -> Result<(), Fail> {
+    for case in PATHS.split('\n') {
+        let (count, inside) = case.split_once("|").ok_or("no count")?;
+        let count = u8::from_str(count)? as u32;
+        let front = "__VERIFIER_atomic_begin();";
+        let within = times(rt.alloc(), count, inside)?;
+        let (accepted, _table) = run_body(
+            rt.alloc(),
+            1,
+            front,
+            &within,
+            "__VERIFIER_atomic_end();",
+        )?;
+        assert_eq!(rt; accepted, 0, "{case}");
+        let past = times(rt.alloc(), count + 1, inside)?;
+        let (refused, written) = run_body(rt.alloc(), 1, front, &past, "__VERIFIER_atomic_end();")?;
+        assert_eq!(rt; refused, 3, "{case}");
+        assert_eq!(rt; written.as_str(), "program E11 26\n", "{case}");
+    }
+    Ok(())
+}
+
+/// A program of so many variables, and a thread that does nothing.
+fn with_variables(alloc: Global, count: u32) -> Result<String, Fail> {
+    let mut text = String::new(alloc);
+    for i in 0..count {
+        text.push_str(&format!(in alloc; "int x{i}; ")?)?;
+    }
+    text.push_str("void *f(void *a) { } MAIN")?;
+    Ok(spelled(alloc, &text)?)
+}
+
+#[test]
+fn a_program_has_64_columns(rt: HostRuntime) -> Result<(), Fail> {
+    // the last column is the thread's counter
+    let (status, written) = run(rt.alloc(), "tables x.c", &with_variables(rt.alloc(), 63)?)?;
+    assert_eq!(rt; written.as_str(), "s 1 1 :\nend\n");
+    assert_eq!(rt; status, 0);
+    let past = with_variables(rt.alloc(), 64)?;
+    let (status, written) = run(rt.alloc(), "tables x.c", &past)?;
+    let main = past.split_once("main").ok_or("no main")?.0.len();
+    assert_eq!(rt; written, format!(in rt.alloc(); "program E11 {main}\n")?);
+    assert_eq!(rt; status, 3);
+    Ok(())
+}
+
+/// A text of 1,048,576 bytes that begins with this one, and is filled with this.
+fn filled(alloc: Global, front: &str, filling: &str, back: &str) -> Result<String, Fail> {
+    let room = 1_048_576 - front.len() - back.len();
+    let count = room / filling.len();
+    let mut text = String::from_str(alloc, front)?;
+    text.push_str(&times(alloc, count as u32, filling)?)?;
+    text.push_str(back)?;
+    text.push_str(&times(alloc, (room - count * filling.len()) as u32, " ")?)?;
+    Ok(text)
+}
+
+#[test]
+fn the_longest_texts_are_read(rt: HostRuntime) -> Result<(), Fail> {
+    let main = "int main() { pthread_t t; pthread_create(&t, 0, f, 0); return 0; }";
+    let back = format!(in rt.alloc(); "}} {main}")?;
+    let remark = filled(
+        rt.alloc(),
+        "int x; void *f(void *a) { x = 1; /*",
+        "long ",
+        &format!(in rt.alloc(); "*/ {back}")?,
+    )?;
+    let (status, written) = run(rt.alloc(), "tables x.c", &remark)?;
+    assert_eq!(rt; written.as_str(), ITS_TABLE);
+    assert_eq!(rt; status, 0);
+    let statements = filled(rt.alloc(), "int x; void *f(void *a) { ", "x=1;", &back)?;
+    let (status, written) = run(rt.alloc(), "tables x.c", &statements)?;
+    assert_eq!(rt; written.as_str(), "program E11 13\n");
+    assert_eq!(rt; status, 3);
+    Ok(())
+}
+
+#[test]
+fn the_largest_program_ends_by_a_budget(rt: HostRuntime) -> Result<(), Fail> {
+    // eight threads of 256 locations each
+    let body = times(rt.alloc(), 254, "x = 1; ")?;
+    let created = times(rt.alloc(), 8, "pthread_create(&t, 0, f, 0); ")?;
+    let text = format!(in rt.alloc();
+        "int x; void *f(void *a) {{ {body} }} int main() {{ pthread_t t; {created} return 0; }}"
+    )?;
+    let (status, written) = run(rt.alloc(), "tables x.c", &text)?;
+    assert_eq!(rt; written.as_str(), "UNKNOWN jobs 200000\n");
+    assert_eq!(rt; status, 4);
     Ok(())
 }
 
