@@ -1,19 +1,18 @@
 -- What a table says of the program's text.
 use Rattle.std.specs.List.{Contains, flat_map}
-use Rattle.std.proofs.Common.{◌≡◌, ◌↔◌, ℕ, zero, suc, ◌+◌, pos, List, [], ◌∷◌, ◌++◌, codes, length, Option, refl, sym, ap, subst, ◌∙◌, arith, append_assoc}
+use Rattle.std.proofs.Common.{◌≡◌, ℕ, zero, suc, List, [], ◌∷◌, ◌++◌, codes, Option, sym, ap, ◌∙◌, arith, append_assoc}
 use Rattle.thr_base.specs.Outside.{StoreMeaning}
 use Rattle.thr_base.specs.declared.names.RuleName.TheVariants.{Rg}
-use Rattle.c_tree.specs.declared.item.Tree.{Tree}
 use Rattle.lin_rows.specs.Row.{Row}
 use Rattle.transition_formula.specs.Program.{Program}
 use Rattle.annotation_form.specs.Lines.{lines_text}
 use Rattle.horn_rules.specs.Home.{Home, State}
 use Rattle.horn_rules.specs.HomeText.{home_text}
 use Rattle.horn_rules.specs.Fact.{Fact, Sets}
-use Rattle.horn_rules.specs.Least.{Least, LeastSays}
+use Rattle.horn_rules.specs.Least.{LeastSays}
 use Rattle.horn_rules.specs.Stored.{sets_of}
 use Rattle.horn_rules.specs.Table.{IsTable, fact_line, positions_text}
-use Rattle.horn_rules.specs.Cover.{Covers, HasNoneFailing, NoRunFails, CoveredLeastIsSafe}
+use Rattle.horn_rules.specs.Cover.{HasNoneFailing, NoRunFails, CoveredLeastIsSafe}
 use Rattle.thread_cfg.specs.Laws.{TextsFailAlike}
 use Rattle.threader_cli.specs.Answer.{AnswersProgram, table, leaves, AnswersPredicates, bad_line, read, AnswersText, unread, read_whole, AnswersUnread, fault, long, AnswersTables, alone, second_thread, with_predicates, HasFailingLine, TextKind, TablesTellSafety}
 
@@ -21,21 +20,12 @@ use Rattle.threader_cli.specs.Answer.{AnswersProgram, table, leaves, AnswersPred
 
 -- a fact's line without its line feed
 bare_line : Fact → List ℕ
-bare_line fact = home_text fact.home ++ (codes " :" ++ positions_text fact.held)
-
--- a fact's line is that with its line feed
-fact_line-bare : (fact : Fact) → fact_line fact ≡ bare_line fact ++ (10 ∷ [])
-unfolding bare_line
-fact_line-bare fact =
-    ap (λ more. home_text fact.home ++ more) (sym (append_assoc (codes " :") (positions_text fact.held) (codes "\n")))
-    ∙ sym (append_assoc (home_text fact.home) (codes " :" ++ positions_text fact.held) (codes "\n"))
+bare_line fact = home_text fact.home ++ codes " :" ++ positions_text fact.held
 
 -- a line in front of a text of lines
 line_in_front : (fact : Fact) (lines : List (List ℕ)) (more : List ℕ) → fact_line fact ++ (lines_text lines ++ more) ≡ lines_text (bare_line fact ∷ lines) ++ more
-line_in_front fact lines more =
-    ap (λ line. line ++ (lines_text lines ++ more)) (fact_line-bare fact)
-    ∙ append_assoc (bare_line fact) (10 ∷ []) (lines_text lines ++ more)
-    ∙ sym (append_assoc (bare_line fact) (10 ∷ lines_text lines) more)
+unfolding bare_line
+line_in_front fact lines more = append_assoc (bare_line fact) (10 ∷ []) (lines_text lines ++ more) ∙ sym (append_assoc (bare_line fact) (10 ∷ lines_text lines) more)
 
 -- The line of the fact stands in the text behind whole lines.
 record StandsIn (fact : Fact) (text : List ℕ) : Type 0 where
@@ -57,8 +47,9 @@ line_there (other ∷ facts) fact last (suc k, within, is) =
       before = bare_line other ∷ found.before;
       behind = found.behind;
       is_there = append_assoc (fact_line other) (flat_map fact_line facts) last
-          ∙ ap (λ more. fact_line other ++ more) found.is_there
-          ∙ line_in_front other found.before (fact_line fact ++ found.behind);
+          ∙ ap (λ more. fact_line other ++ more) (found.is_there ∙ append_assoc (lines_text found.before) (fact_line fact) found.behind)
+          ∙ line_in_front other found.before (fact_line fact ++ found.behind)
+          ∙ sym (append_assoc (lines_text (bare_line other ∷ found.before)) (fact_line fact) found.behind);
     }
 
 -- ---- tables

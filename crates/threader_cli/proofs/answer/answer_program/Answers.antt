@@ -1,7 +1,5 @@
 use Rattle.std.proofs.Common.{Err, subst}
 use Rattle.thr_base.specs.declared.stops.Stop.{Stop}
-use Rattle.thr_base.specs.Refusals.{MatchStop}
-use Rattle.transition_formula.specs.Program.{Program}
 use Rattle.thread_cfg.specs.Read.{IsReadAnswer}
 use Rattle.threader_cli.proofs.AnswerLemmas.{passed, said}
 use Rattle.threader_cli.specs.Answer.{refusal_text, AnswersProgramText, AnswersTables, refused, accepted}
