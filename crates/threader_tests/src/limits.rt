@@ -68,24 +68,27 @@ const PATHS: &str = "\
 31|assert(x == 0);
 6|__VERIFIER_assume(x != 0);";
 
+/// The status and what is written, where an atomic block has this so many times.
+fn run_block(alloc: Global, count: u32, inside: &str) -> Result<(u8, String), Fail> {
+    let inside = times(alloc, count, inside)?;
+    run_body(
+        alloc,
+        1,
+        "__VERIFIER_atomic_begin();",
+        &inside,
+        "__VERIFIER_atomic_end();",
+    )
+}
+
 #[test]
 fn atomic_blocks_have_limits(rt: HostRuntime) -> Result<(), Fail> {
     for case in PATHS.split('\n') {
         let (count, inside) = case.split_once("|").ok_or("no count")?;
-        let count = u8::from_str(count)? as u32;
-        let front = "__VERIFIER_atomic_begin();";
-        let within = times(rt.alloc(), count, inside)?;
-        let (accepted, _table) = run_body(
-            rt.alloc(),
-            1,
-            front,
-            &within,
-            "__VERIFIER_atomic_end();",
-        )?;
-        assert_eq!(rt; accepted, 0, "{case}");
-        let past = times(rt.alloc(), count + 1, inside)?;
-        let (refused, written) = run_body(rt.alloc(), 1, front, &past, "__VERIFIER_atomic_end();")?;
-        assert_eq!(rt; refused, 3, "{case}");
+        let count = u8::from_str(count)?;
+        let (within, _table) = run_block(rt.alloc(), count as u32, inside)?;
+        assert_eq!(rt; within, 0, "{case}");
+        let (past, written) = run_block(rt.alloc(), count as u32 + 1, inside)?;
+        assert_eq!(rt; past, 3, "{case}");
         assert_eq!(rt; written.as_str(), "program E11 26\n", "{case}");
     }
     Ok(())
@@ -109,40 +112,43 @@ fn a_program_has_64_columns(rt: HostRuntime) -> Result<(), Fail> {
     assert_eq!(rt; status, 0);
     let past = with_variables(rt.alloc(), 64)?;
     let (status, written) = run(rt.alloc(), "tables x.c", &past)?;
-    let main = past.split_once("main").ok_or("no main")?.0.len();
-    assert_eq!(rt; written, format!(in rt.alloc(); "program E11 {main}\n")?);
+    let (front, _main) = past.split_once("main").ok_or("no main")?;
+    let refusal = format!(in rt.alloc(); "program E11 {}\n", front.len())?;
+    assert_eq!(rt; written, refusal);
     assert_eq!(rt; status, 3);
     Ok(())
 }
 
-/// A text of 1,048,576 bytes that begins with this one, and is filled with this.
-fn filled(alloc: Global, front: &str, filling: &str, back: &str) -> Result<String, Fail> {
-    let room = 1_048_576 - front.len() - back.len();
-    let count = room / filling.len();
-    let mut text = String::from_str(alloc, front)?;
-    text.push_str(&times(alloc, count as u32, filling)?)?;
-    text.push_str(back)?;
-    text.push_str(&times(alloc, (room - count * filling.len()) as u32, " ")?)?;
-    Ok(text)
+/// What is written, where a text of 1,048,576 bytes has this so many times between a front and a back.
+fn run_long(
+    alloc: Global,
+    front: &str,
+    count: u32,
+    inside: &str,
+    back: &str,
+) -> Result<String, Fail> {
+    let filling = times(alloc, count, inside)?;
+    let text = spelled(alloc, &format!(in alloc; "{front}{filling}{back}")?)?;
+    if text.len() != 1_048_576 {
+        return Err("another length")?;
+    }
+    let (_status, written) = run(alloc, "tables x.c", &text)?;
+    Ok(written)
 }
 
 #[test]
-fn the_longest_texts_are_read(rt: HostRuntime) -> Result<(), Fail> {
-    let main = "int main() { pthread_t t; pthread_create(&t, 0, f, 0); return 0; }";
-    let back = format!(in rt.alloc(); "}} {main}")?;
-    let remark = filled(
-        rt.alloc(),
-        "int x; void *f(void *a) { x = 1; /*",
-        "long ",
-        &format!(in rt.alloc(); "*/ {back}")?,
-    )?;
-    let (status, written) = run(rt.alloc(), "tables x.c", &remark)?;
+fn the_longest_comment_is_skipped(rt: HostRuntime) -> Result<(), Fail> {
+    let front = "int x; void *f(void *a) { x = 1; /*";
+    let written = run_long(rt.alloc(), front, 1_048_470, "x", "*/ } MAIN")?;
     assert_eq!(rt; written.as_str(), ITS_TABLE);
-    assert_eq!(rt; status, 0);
-    let statements = filled(rt.alloc(), "int x; void *f(void *a) { ", "x=1;", &back)?;
-    let (status, written) = run(rt.alloc(), "tables x.c", &statements)?;
+    Ok(())
+}
+
+#[test]
+fn the_longest_body_has_too_many_locations(rt: HostRuntime) -> Result<(), Fail> {
+    let front = "int x; void *f(void *a) { ";
+    let written = run_long(rt.alloc(), front, 262_120, "x=1;", "  } MAIN")?;
     assert_eq!(rt; written.as_str(), "program E11 13\n");
-    assert_eq!(rt; status, 3);
     Ok(())
 }
 
