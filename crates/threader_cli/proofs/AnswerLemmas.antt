@@ -1,17 +1,15 @@
 -- How answers follow from those of the parts.
 use Rattle.std.specs.List.{Contains}
-use Rattle.std.proofs.Common.{◌≡◌, ◌↔◌, ◌<◌, ◌≤◌, ℕ, zero, suc, ◌+◌, ◌-◌, min, List, [], length, map, slice_get, Option, Some, None, option_map, Result, Ok, Err, IfOk, IsTrue, refl, sym, ap, subst, ◌∙◌, arith}
+use Rattle.std.proofs.Common.{◌≡◌, ◌↔◌, ◌≤◌, ℕ, zero, suc, ◌+◌, ◌-◌, min, List, [], length, map, slice_get, Option, Some, option_map, Result, Ok, Err, IfOk, IsTrue, refl, sym, ap, subst, ◌∙◌, arith}
 use Rattle.std.proofs.lemmas.List.{length-map}
 use Rattle.std.proofs.lemmas.Option.{slice_get-map, get_or_from_slice_get}
 use Rattle.thr_base.specs.Outside.{StoreMeaning, SinkMeaning, Files, Lacks, Rose, count_end}
 use Rattle.thr_base.specs.Reading.{IsFileNamed, IsLonger, StopsReading, KeepsFiles}
-use Rattle.thr_base.specs.Limits.{text_limit}
 use Rattle.thr_base.specs.declared.names.Fact.{Fact as StoredFact}
 use Rattle.thr_base.specs.declared.names.RuleName.{RuleName}
 use Rattle.thr_base.specs.declared.names.RuleName.TheVariants.{Rg}
 use Rattle.thr_base.specs.declared.stops.ReadStop.{ReadStop}
 use Rattle.thr_base.specs.declared.stops.ReadStop.TheVariants.{Fault, TooLong, Memory}
-use Rattle.thr_base.specs.declared.stops.Refusal.{Refusal}
 use Rattle.lin_rows.specs.Row.{Row}
 use Rattle.transition_formula.specs.Program.{Program, numbered}
 use Rattle.predicate_sets.specs.Sets.{set_at}
@@ -105,8 +103,8 @@ pub AnswersProgramText-earlier : {between after : StoreMeaning} {predicates : Op
     → KeepsFiles before between → AnswersProgramText (AnswersTables between after predicates) bytes status text
     → AnswersProgramText (AnswersTables before after predicates) bytes status text
 AnswersProgramText-earlier before kept (refused refusal why) = refused refusal why
-AnswersProgramText-earlier before kept (accepted program status text is answers) =
-    accepted program status text is (AnswersTables-earlier before kept answers)
+AnswersProgramText-earlier before kept (accepted tree program status text is answers tells) =
+    accepted tree program status text is (AnswersTables-earlier before kept answers) tells
 
 -- ---- predicates
 

@@ -8,8 +8,10 @@ use Rattle.thr_base.specs.declared.names.RuleName.TheVariants.{Rg}
 use Rattle.thr_base.specs.declared.stops.ReadStop.TheVariants.{Fault, TooLong}
 use Rattle.thr_base.specs.declared.stops.Refusal.{Refusal}
 use Rattle.lin_rows.specs.Row.{Row}
+use Rattle.c_tree.specs.declared.item.Tree.{Tree}
+use Rattle.c_tree.specs.Seen.{plain_tree}
 use Rattle.transition_formula.specs.Program.{Program}
-use Rattle.horn_rules.specs.Home.{homes}
+use Rattle.horn_rules.specs.Home.{State, homes}
 use Rattle.horn_rules.specs.Cover.{Covers}
 use Rattle.horn_rules.specs.Least.{LeastSays}
 use Rattle.horn_rules.specs.Stored.{sets_of}
@@ -81,6 +83,20 @@ pub data AnswersPredicates (program : Program) (bytes : List ℕ) : ℕ → List
   read : (lists : List (List Row)) (status : ℕ) (text : List ℕ) → IsReadAs program bytes lists → AnswersProgram program lists status text
       → AnswersPredicates program bytes status text
 
+-- ---- what a table says of the program's text
+
+-- A line of the table is at a location 0: behind whole lines the line of a fact at location 0 of some thread.
+pub record HasFailingLine (table : List ℕ) : Type 0 where
+  pub before : List (List ℕ)
+  pub thread : ℕ
+  pub held : List ℕ
+  pub behind : List ℕ
+  pub is_there : table ≡ lines_text before ++ fact_line (record { home = State thread 0; held = held }) ++ behind
+
+-- With status 0, a table with no line at a location 0 says that no interleaving of the text's threads makes one of them fail.
+abbrev pub TellsSafety : Tree → ℕ → List ℕ → Type 0
+TellsSafety tree status text = status ≡ 0 → ¬ HasFailingLine text → ¬ TextFails (plain_tree tree)
+
 -- ---- texts that the words name
 
 -- The status and the text that tell why a file with a text of this kind is not read whole.
@@ -94,11 +110,12 @@ pub data AnswersText (kind : TextKind) (OfBytes : List ℕ → ℕ → List ℕ 
   read_whole : (bytes : List ℕ) (status : ℕ) (text : List ℕ) → length bytes ≤ kind.limit → IsFileNamed before.files name bytes
       → OfBytes bytes status text → AnswersText kind OfBytes name before after status text
 
--- The status and the text that follow from the bytes of a program's text: they are refused, or the program answers.
+-- The status and the text that follow from the bytes of a program's text: they are refused, or the program answers; and where that is
+-- a table with no line at a location 0, no interleaving of the text's threads makes one of them fail.
 pub data AnswersProgramText (OfProgram : Program → ℕ → List ℕ → Type 0) (bytes : List ℕ) : ℕ → List ℕ → Type 0 where
   refused : (refusal : Refusal) → Refuses bytes refusal → AnswersProgramText OfProgram bytes 3 (refusal_text refusal)
-  accepted : (program : Program) (status : ℕ) (text : List ℕ) → IsProgramText bytes program → OfProgram program status text
-      → AnswersProgramText OfProgram bytes status text
+  accepted : (tree : Tree) (program : Program) (status : ℕ) (text : List ℕ) → IsProgramText bytes tree program → OfProgram program status text
+      → TellsSafety tree status text → AnswersProgramText OfProgram bytes status text
 
 -- ---- tables
 
@@ -112,6 +129,11 @@ pub data AnswersTables (before after : StoreMeaning) : Option (List ℕ) → Pro
   with_predicates : (name : List ℕ) (program : Program) (status : ℕ) (text : List ℕ) → length program.threads ≤ 1
       → AnswersText predicates_text (AnswersPredicates program) name before after status text
       → AnswersTables before after (Some name) program status text
+
+-- What is answered of a program tells of its text whether it is safe.
+abbrev pub TablesTellSafety : Type 0
+TablesTellSafety = (bytes : List ℕ) (tree : Tree) (program : Program) (before after : StoreMeaning) (predicates : Option (List ℕ)) (status : ℕ) (text : List ℕ)
+    → IsProgramText bytes tree program → AnswersTables before after predicates program status text → TellsSafety tree status text
 
 -- The status and the text that follow from the name of a program's file and, if one is given, that of a file of predicates.
 abbrev pub AnswersFiles : StoreMeaning → StoreMeaning → List ℕ → Option (List ℕ) → ℕ → List ℕ → Type 0

@@ -1,14 +1,3 @@
-pub mod Accepted
 pub mod Answer
-pub mod Comparison
-pub mod Data
-pub mod Form
-pub mod Graph
-pub mod ProgramText
-pub mod Proper
 pub mod Refusals
-pub mod Spelling
-pub mod Tree
-pub mod Uses
-pub mod Word
 pub mod inside

@@ -3,13 +3,12 @@ ghost use Rattle.thr_base.specs.Limits.{text_limit};
 ghost use Rattle.thr_base.specs.Reading.{KeepsFiles};
 ghost use Rattle.horn_rules.specs.Stored.{AreStoredSetsOf};
 ghost use Rattle.threader_cli.specs.Answer as specs;
-ghost use Rattle.threader_cli.specs.Answer.{predicates_text, no_predicates, AnswersFiles, AnswersPredicates, AnswersProgram, AnswersProgramText, AnswersTables, AnswersText, Ends, Frame};
+ghost use Rattle.threader_cli.specs.Answer.{predicates_text, no_predicates, AnswersFiles, AnswersPredicates, AnswersProgram, AnswersProgramText, AnswersTables, AnswersText, Ends, Frame, TablesTellSafety};
 ghost use Rattle.threader_cli.specs.inside.Parts.{names, IsReadText, Wrote};
 
-use crate::reader::read_program;
 use crate::words::{Files, tables_files};
 use annotation_form::read_predicates;
-use horn_rules::{home_count, table};
+use horn_rules::{home_count, table, where_nothing_fails_no_run_does};
 use itoa::Buffer;
 use predicate_sets::Sets;
 use serial_fix::{LeastAnswer, least};
@@ -18,6 +17,7 @@ use thr_base::{
     Failed, LineStop, NOT_BUILT, ReadStop, Refusal, Sink, Stop, Store, TEXT_LIMIT, read_all,
     write_all,
 };
+use thread_cfg::{read_program, texts_fail_alike};
 use transition_formula::Program;
 
 /// How many threads a program may have for which predicates are given.
@@ -136,10 +136,21 @@ fn answer_program<S: Store>(
     ensures kept { KeepsFiles (S.meaning store.old) (S.meaning store.new) }
 {
     match read_program(alloc, bytes) {
-        Ok(program) => answer_tables(alloc, &program, predicates, store),
+        Ok(program) => {
+            tables_tell_safety();
+            answer_tables(alloc, &program, predicates, store)
+        }
         Err(Stop::Refused(refusal)) => refused(alloc, refusal),
         Err(Stop::Memory) => Err(AllocError),
     }
+}
+
+/// A table without a line at a location 0 says that no interleaving of the text's threads fails: a law, and no code.
+fn tables_tell_safety()
+    ensures { TablesTellSafety }
+{
+    where_nothing_fails_no_run_does();
+    texts_fail_alike();
 }
 
 fn refused(alloc: Global, refusal: Refusal) -> Result<Answer, AllocError>

@@ -12,9 +12,13 @@ mod limits;
 #[cfg(test)]
 mod predicates;
 #[cfg(test)]
+mod profile;
+#[cfg(test)]
 mod refusals;
 #[cfg(test)]
 mod runs;
+#[cfg(test)]
+mod shapes;
 #[cfg(test)]
 mod tables;
 #[cfg(test)]

@@ -1,4 +1,4 @@
-use crate::runs::{NOT_BUILT, run_with, spelled};
+use crate::runs::{run_with, spelled};
 use std::alloc::{AllocError, Global};
 use std::test::Fail;
 
@@ -133,17 +133,6 @@ fn numbers_that_are_too_great_for_both_are_left(rt: HostRuntime) -> Result<(), F
     let (status, written) = run_with(rt.alloc(), &text, &lines(rt.alloc(), GREAT)?)?;
     assert_eq!(rt; written.as_str(), "UNKNOWN leaves\n");
     assert_eq!(rt; status, 4);
-    Ok(())
-}
-
-#[test]
-fn predicates_are_for_one_thread(rt: HostRuntime) -> Result<(), Fail> {
-    let text = "void *f(void *a) { } int main() { pthread_t t; pthread_create(&t, 0, f, 0); \
-        pthread_create(&t, 0, f, 0); return 0; }";
-    // looked at before the predicates
-    let (status, written) = run_with(rt.alloc(), text, "no predicates")?;
-    assert_eq!(rt; written.as_str(), NOT_BUILT);
-    assert_eq!(rt; status, 3);
     Ok(())
 }
 

@@ -1,116 +1,85 @@
-use crate::runs::{NOT_BUILT, run, spelled};
+//! One refusal of each rule, at its place.
+
+use crate::runs::{NOT_BUILT, one, run, run_bytes, run_with, two};
 use std::test::Fail;
 
-/// What the text has, which the grammar of the profile accepts, and the narrow language has not.
-const NOT_BUILT_YET: &str = "\
-an assertion of one => void *f(void *a) { assert(1); } MAIN
-an assertion of a variable => int x; void *f(void *a) { assert(x); } MAIN
-an assertion of a sum => int x; void *f(void *a) { assert(x + 1 == 2); } MAIN
-a comparison that begins with its number => int x; void *f(void *a) { assert(0 == x); } MAIN
-a comparison of two names => void *f(void *a) { int k; int l; assert(k == l); } MAIN
-two comparisons => int x; void *f(void *a) { assert(x == 0 || x == 1); } MAIN
-a comparison that is denied => int x; void *f(void *a) { if (!(x == 0)) ; } MAIN
-a condition that is a number => void *f(void *a) { while (1) ; } MAIN
-a loop with `for` => int x; void *f(void *a) { for (x = 0; ?; x = 1) ; } MAIN
-a `break` => void *f(void *a) { while (?) break; } MAIN
-a `return` in a thread => void *f(void *a) { return 0; } MAIN
-two handles in one declaration => void *f(void *a) { } int main() { pthread_t t, u; pthread_create(&t, 0, f, 0); return 0; }
-a `main` without a result => void *f(void *a) { } int main(void) { pthread_t t; pthread_create(&t, 0, f, 0); }
-a local with its own value => void *f(void *a) { int k = k; } MAIN
-a local with a value => void *f(void *a) { int k = 1; } MAIN
-two locals in one declaration => void *f(void *a) { int k, l; } MAIN
-a local behind a statement => void *f(void *a) { ; int k; } MAIN
-a local in a block => void *f(void *a) { { int k; } } MAIN
-a `long` local => void *f(void *a) { long k; } MAIN
-two variables in one declaration => int x, y; void *f(void *a) { } MAIN
-a `long` variable => long int x; void *f(void *a) { } MAIN
-a `static` variable => static int x; void *f(void *a) { } MAIN
-a first value with a sign => int x = -1; void *f(void *a) { } MAIN
-a variable behind a thread function => void *f(void *a) { } int x; MAIN
-a lock => pthread_mutex_t m = PTHREAD_MUTEX_INITIALIZER; void *f(void *a) { } MAIN
-a lock that is taken => pthread_mutex_t m; void *f(void *a) { pthread_mutex_lock(&m); } MAIN
-a prototype of the profile => extern void abort(void); void *f(void *a) { } MAIN
-a prototype of a thread function => void *f(void *a); void *f(void *a) { } MAIN
-an error function => void reach_error() { } void *f(void *a) { } MAIN
-a thread function without a parameter => void *f() { } MAIN
-two signs => int x; void *f(void *a) { x = - -1; } MAIN
-a variable that is assigned and read => int x; void *f(void *a) { x = x; } MAIN
-a variable that is assigned and added => int x; void *f(void *a) { x = x + 1; } MAIN
-a variable that is read twice => int x; void *f(void *a) { int k; k = x - x; } MAIN
-two variables that are read => int x; int y; void *f(void *a) { int k; k = 2 * x + 3 * y; } MAIN
-a variable that is read for another => int x; int y; void *f(void *a) { x = 1 - y; } MAIN
-two accesses in a function that no thread runs => int x; void *g(void *a) { x = x; } void *f(void *a) { } MAIN
-a name times a number => void *f(void *a) { int k; k = k * 2; } MAIN
-a number times a number => void *f(void *a) { int k; k = 2 * 2; } MAIN
-a sum that does not fit => void *f(void *a) { int k; k = 170141183460469231731687303715884105727 + 1; } MAIN
-a difference that does not fit => void *f(void *a) { int k; k = -170141183460469231731687303715884105727 - 1; } MAIN
-a sum that does not fit on its way => void *f(void *a) { int k; k = 170141183460469231731687303715884105727 + 1 - 1; } MAIN
-coefficients that do not fit => void *f(void *a) { int k; k = 170141183460469231731687303715884105727 * k + k; } MAIN
-a side that needs 2^127 => int x; void *f(void *a) { if (x <= 170141183460469231731687303715884105727) ; } MAIN
-a side that needs -2^127 => int x; void *f(void *a) { assert(x >= -170141183460469231731687303715884105727); } MAIN
-an equality of the greatest number => int x; void *f(void *a) { assert(x == 170141183460469231731687303715884105727); } MAIN
-an assumption that needs 2^127 => int x; void *f(void *a) { __VERIFIER_assume(x > 170141183460469231731687303715884105727); } MAIN
-a value in parentheses => int x; void *f(void *a) { x = (1); } MAIN
-a value that is chosen => int x; void *f(void *a) { x = ?; } MAIN
-an increment => int x; void *f(void *a) { x++; } MAIN
-an addition to a variable => int x; void *f(void *a) { x += 1; } MAIN
-a failing call => void *f(void *a) { reach_error(); } MAIN
-an assumption of a number => void *f(void *a) { __VERIFIER_assume(0); } MAIN
-an atomic block => void *f(void *a) { __VERIFIER_atomic_begin(); __VERIFIER_atomic_end(); } MAIN
-a creation with NULL => void *f(void *a) { } int main() { pthread_t t; pthread_create(&t, NULL, f, NULL); return 0; }
-a join => void *f(void *a) { } int main() { pthread_t t; pthread_create(&t, 0, f, 0); pthread_join(t, 0); return 0; }
-a handle behind a creation => void *f(void *a) { } int main() { pthread_t t; pthread_create(&t, 0, f, 0); pthread_t u; return 0; }
-a third creation => void *f(void *a) { } int main() { pthread_t t; pthread_create(&t, 0, f, 0); pthread_create(&t, 0, f, 0); \
-pthread_create(&t, 0, f, 0); return 0; }
-a local named like a variable => int x; void *f(void *a) { int x; } MAIN
-a local named like its function => void *f(void *a) { int f; } MAIN
-a local named like a function before it => void *g(void *a) { } void *f(void *a) { int g; } MAIN
-a local named like one of a function before it => void *g(void *a) { int k; } void *f(void *a) { int k; } MAIN";
+#[test]
+fn a_byte_that_is_no_text(rt: HostRuntime) -> Result<(), Fail> {
+    let (status, written) = run_bytes(rt.alloc(), &[255])?;
+    assert_eq!(rt; written.as_str(), "program E1 0\n");
+    assert_eq!(rt; status, 3);
+    Ok(())
+}
+
+/// The answer, and a whole text.
+const WHOLE: &str = "\
+E2 0 => @
+E4 5 => int x
+E9 0 =>
+E9 13 => int main() { int k; return 0; }
+E10 4 => int main() { return 0; }";
 
 #[test]
-fn texts_that_are_not_built_yet(rt: HostRuntime) -> Result<(), Fail> {
-    for case in NOT_BUILT_YET.split('\n') {
-        let (_what, text) = case.split_once(" =>").ok_or("no text")?;
-        let (status, written) = run(rt.alloc(), "tables x.c", &spelled(rt.alloc(), text)?)?;
+fn whole_texts_that_are_refused(rt: HostRuntime) -> Result<(), Fail> {
+    for case in WHOLE.split('\n') {
+        let (answer, text) = case.split_once(" =>").ok_or("no text")?;
+        let text = text.strip_prefix(" ").unwrap_or("");
+        let (status, written) = run(rt.alloc(), "tables x.c", text)?;
+        assert_eq!(rt;
+            written,
+            format!(in rt.alloc(); "program {answer}\n")?,
+            "{case}"
+        );
         assert_eq!(rt; status, 3, "{case}");
-        assert_eq!(rt; written.as_str(), NOT_BUILT, "{case}");
     }
     Ok(())
 }
 
-/// What is allowed, and a program that has it.
-const ACCEPTED: &str = "\
-the number 2^127 - 1 => int x = 170141183460469231731687303715884105727; void *f(void *a) { x = 1; } MAIN
-the number 1 - 2^127 => int x; void *f(void *a) { x = -170141183460469231731687303715884105727; } MAIN
-the number 0 => int x = 0; void *f(void *a) { x = - 0; } MAIN
-comments => /* one NEWLINE two */ int x; // three NEWLINE void *f(void *a) { x/**/=/* = 2; */1; } MAIN // four
-a comment with any text in it => // \u{e9} \u{20ac} @ # \\ NEWLINE int x; void *f(void *a) { x = 1; /* \u{1f600} */ } MAIN
-lines that include => #include <pthread.h>NEWLINE \t# \tinclude \"a.h\" /*NEWLINEint x; void *f(void *a) { x = 1; } MAIN
-tabs and carriage returns => int\tx;\r void *f(void *a) { x\t= 1; } MAIN
-no blank that is not needed => int x=1;int y;void*f(void*a){x=1;y=-2;}MAIN
-a function that no thread runs => int x; void *g(void *b) { x = 1; } void *f(void *a) { } MAIN
-a parameter named like a variable => int a; void *f(void *a) { a = 1; } MAIN
-a parameter named like a local => void *f(void *a) { int a; a = 1; } MAIN
-a function named like a local before it => void *g(void *a) { int f; } void *f(void *a) { } MAIN
-a function that two threads run with its locals => int x; void *g(void *a) { int k; k = x; x = k + 1; } void *f(void *a) { } int main() { pthread_t t; \
-pthread_create(&t, 0, g, 0); pthread_create(&t, 0, g, 0); return 0; }
-one access beside locals => int x; void *f(void *a) { int k; int l; k = k + 2 * k - x - 7 + l; x = - k - 3 * l + 0; } MAIN
-each comparison mark => int x; void *f(void *a) { assert(x == 1); assert(x != 1); assert(x < -1); assert(x <= 1); assert(x > 1); assert(x >= - 1); } MAIN
-an assumption at the greatest number => int x; void *f(void *a) { __VERIFIER_assume(x <= 170141183460469231731687303715884105727); } MAIN
-a side that needs 2^127 - 1 => int x; void *f(void *a) { if (x > 170141183460469231731687303715884105726) ; } MAIN
-a sum that fits on its way => void *f(void *a) { int k; k = 170141183460469231731687303715884105727 - 1 + 1; } MAIN
-a handle named like a variable => int t; void *f(void *a) { t = 1; } MAIN
-a handle named like a function that no thread runs => void *t(void *a) { } void *f(void *a) { } MAIN
-a name that begins with a reserved word => int assert_; void *f(void *a) { assert_ = 1; } MAIN
-a name of each kind of byte => int _Z9; void *f(void *a) { _Z9 = 1; } MAIN
-the name const => int const; void *f(void *a) { const = 1; } MAIN";
+/// The answer, what is declared, and what the one thread does.
+const BODIES: &str = "\
+E3 8 => int x = 170141183460469231731687303715884105728; =>
+E5 20 =>  => do ; while (0);
+E6 26 => int x; => y = 1;
+E7 11 => int x; int x; =>
+E8 32 => int x; => x = x * x;
+E12 47 =>  => __VERIFIER_atomic_begin(); while (0) ; __VERIFIER_atomic_end();
+E13 31 =>  => int l; l = 170141183460469231731687303715884105727 + 1;";
 
 #[test]
-fn texts_that_are_accepted(rt: HostRuntime) -> Result<(), Fail> {
-    for case in ACCEPTED.split('\n') {
-        let (_what, text) = case.split_once(" =>").ok_or("no text")?;
-        let (status, _table) = run(rt.alloc(), "tables x.c", &spelled(rt.alloc(), text)?)?;
-        assert_eq!(rt; status, 0, "{case}");
+fn bodies_that_are_refused(rt: HostRuntime) -> Result<(), Fail> {
+    for case in BODIES.split('\n') {
+        let (answer, rest) = case.split_once(" => ").ok_or("no text")?;
+        let (globals, body) = rest.split_once(" =>").ok_or("no body")?;
+        let body = body.strip_prefix(" ").unwrap_or("");
+        let text = one(rt.alloc(), globals, body)?;
+        let (status, written) = run(rt.alloc(), "tables x.c", &text)?;
+        assert_eq!(rt;
+            written,
+            format!(in rt.alloc(); "program {answer}\n")?,
+            "{case}"
+        );
+        assert_eq!(rt; status, 3, "{case}");
+    }
+    Ok(())
+}
+
+#[test]
+fn the_greatest_first_value_is_read(rt: HostRuntime) -> Result<(), Fail> {
+    let globals = "int x = 170141183460469231731687303715884105727;";
+    let (status, written) = run(rt.alloc(), "tables x.c", &one(rt.alloc(), globals, "")?)?;
+    assert_eq!(rt; written.as_str(), "s 1 1 :\nend\n");
+    assert_eq!(rt; status, 0);
+    Ok(())
+}
+
+#[test]
+fn predicates_of_two_threads_are_refused_behind_the_program(rt: HostRuntime) -> Result<(), Fail> {
+    let sum = "int l; l = 170141183460469231731687303715884105727 + 1;";
+    for (body, answer) in [("", NOT_BUILT), (sum, "program E13 31\n")] {
+        let text = two(rt.alloc(), "", body, "")?;
+        let (status, written) = run_with(rt.alloc(), &text, "no predicates")?;
+        assert_eq!(rt; written.as_str(), answer, "{body}");
+        assert_eq!(rt; status, 3, "{body}");
     }
     Ok(())
 }

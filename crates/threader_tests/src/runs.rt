@@ -12,12 +12,38 @@ pub const ITS_TABLE: &str = "s 1 1 :\ns 1 2 :\ne 1 1 :\nend\n";
 
 pub const NOT_BUILT: &str = "program E14 0\n";
 
-/// A text in which `?` stands for a free choice, `NEWLINE` for the end of a line, and `MAIN` for a `main` with one thread
-/// that runs `f`.
+/// A program of these declarations, and one thread that does this.
+pub fn one(alloc: Global, globals: &str, body: &str) -> Result<String, Fail> {
+    Ok(format!(in alloc;
+        "{globals}\nvoid *f(void *a) {{ {body} }}\n\
+int main() {{ pthread_t t; pthread_create(&t, 0, f, 0); return 0; }}\n"
+    )?)
+}
+
+/// A program of these declarations, and two threads that do these.
+pub fn two(alloc: Global, globals: &str, first: &str, second: &str) -> Result<String, Fail> {
+    Ok(format!(in alloc;
+        "{globals}\nvoid *f(void *a) {{ {first} }}\nvoid *g(void *a) {{ {second} }}\n\
+int main() {{ pthread_t t; pthread_create(&t, 0, f, 0); pthread_create(&t, 0, g, 0); return 0; }}\n"
+    )?)
+}
+
+/// The table of facts without predicates, whose homes are parted by commas.
+pub fn bare_table(alloc: Global, homes: &str) -> Result<String, AllocError> {
+    let mut table = homes.replace(alloc, ", ", " :\n")?;
+    table.push_str(" :\nend\n")?;
+    Ok(table)
+}
+
+/// A text in which `?` stands for a free choice, `NEWLINE` for the end of a line, `MAIN` for a `main` with one thread that runs
+/// `f`, and `BOTH` for one with two threads that run `f` and `g`.
 pub fn spelled(alloc: Global, text: &str) -> Result<String, AllocError> {
     let main = "int main() { pthread_t t; pthread_create(&t, 0, f, 0); return 0; }";
+    let both =
+        "int main() { pthread_t t; pthread_create(&t, 0, f, 0); pthread_create(&t, 0, g, 0); return 0; }";
     text.replace(alloc, "?", "__VERIFIER_nondet_int()")?
         .replace(alloc, "NEWLINE", "\n")?
+        .replace(alloc, "BOTH", both)?
         .replace(alloc, "MAIN", main)
 }
 

@@ -1,5 +1,4 @@
-use crate::runs::{ASSIGNS_ONCE, ITS_TABLE, run, spelled};
-use std::alloc::{AllocError, Global};
+use crate::runs::{ASSIGNS_ONCE, ITS_TABLE, bare_table, run, spelled};
 use std::test::Fail;
 
 #[test]
@@ -88,13 +87,6 @@ void *f(void *a) { } void *g(void *b) { while (?) { if (?) assert(0); } } int ma
 int x; void *f(void *a) { int k; k = x; if (k > 3) x = 0; } void *g(void *b) { int l; x = l; assert(x != 7); } int main() { pthread_t t; pthread_create(&t, 0, f, 0); pthread_create(&t, 0, g, 0); return 0; } => s 1 1, s 1 2, s 1 3, s 1 4, s 2 0, s 2 1, s 2 2, s 2 3, e 1 1, e 1 2, e 1 3, e 1 4, e 2 1, e 2 2, e 2 3, e 2 4
 int x; void *f(void *a) { int k; k = x; x = k + 1; } int main() { pthread_t t; pthread_create(&t, 0, f, 0); pthread_create(&t, 0, f, 0); return 0; } => s 1 1, s 1 2, s 1 3, s 2 1, s 2 2, s 2 3, e 1 1, e 1 2, e 2 1, e 2 2";
 
-/// The table of lines that are parted by commas.
-fn table(alloc: Global, lines: &str) -> Result<String, AllocError> {
-    let mut table = lines.replace(alloc, ", ", " :\n")?;
-    table.push_str(" :\nend\n")?;
-    Ok(table)
-}
-
 #[test]
 fn small_programs_have_their_tables(rt: HostRuntime) -> Result<(), Fail> {
     for cases in [ONE_THREAD, TWO_THREADS] {
@@ -102,7 +94,7 @@ fn small_programs_have_their_tables(rt: HostRuntime) -> Result<(), Fail> {
             let (text, lines) = case.split_once(" => ").ok_or("no table")?;
             let (status, written) = run(rt.alloc(), "tables x.c", &spelled(rt.alloc(), text)?)?;
             assert_eq!(rt; status, 0, "{case}");
-            assert_eq!(rt; written, table(rt.alloc(), lines)?, "{case}");
+            assert_eq!(rt; written, bare_table(rt.alloc(), lines)?, "{case}");
         }
     }
     Ok(())

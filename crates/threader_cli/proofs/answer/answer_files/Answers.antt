@@ -1,4 +1,4 @@
-use Rattle.std.proofs.Common.{◌≤◌, length, subst, arith}
+use Rattle.std.proofs.Common.{subst}
 use Rattle.threader_cli.proofs.AnswerLemmas.{whole-files, KeepsFiles-trans}
 use Rattle.threader_cli.specs.Answer.{program_text, unread}
 use Rattle.threader_cli.specs.inside.Parts.{names, IsReadText}

@@ -1,4 +1,4 @@
-use Rattle.std.proofs.Common.{◌<◌, ◌≤◌, List, ℕ, length, Some, None, ap, arith}
+use Rattle.std.proofs.Common.{◌<◌, ◌≤◌, length, Some, None, ap, arith}
 use Rattle.threader_cli.proofs.AnswerLemmas.{passed, said, tables-given}
 use Rattle.threader_cli.specs.Answer.{refusal_text, no_predicates, predicates_text, AnswersPredicates, AnswersProgram, AnswersTables, AnswersText, alone, second_thread, with_predicates}
 use Rattle.threader_cli.specs.Refusals.{not_built_text}

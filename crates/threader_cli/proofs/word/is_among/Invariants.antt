@@ -1,7 +1,0 @@
-use Rattle.std.proofs.Common.{◌≡◌, bytes_eq, map, drop}
-use Rattle.std.specs.List.{list_any}
-use Rattle.threader_cli.proofs.word.is_among.Given as goal
-
--- the words so far are others
-abbrev pub invariant-loop-word : goal.invariant-loop-word
-invariant-loop-word l = list_any (bytes_eq l.text) (map (λ word. word.now) (drop l.word-index l.words)) ≡ list_any (bytes_eq l.text) (map (λ word. word.now) l.words)
