@@ -15,11 +15,13 @@ use Rattle.horn_rules.specs.Home.{State, homes}
 use Rattle.horn_rules.specs.Cover.{Covers}
 use Rattle.horn_rules.specs.Least.{LeastSays}
 use Rattle.horn_rules.specs.Stored.{sets_of}
-use Rattle.horn_rules.specs.Table.{IsTable}
+use Rattle.horn_rules.specs.Table.{IsTable, fact_line}
 use Rattle.annotation_form.specs.BadLine.{IsBadLine}
+use Rattle.annotation_form.specs.Lines.{lines_text}
 use Rattle.annotation_form.specs.Predicates.{IsReadAs, IsTextOfPredicates}
 use Rattle.serial_fix.specs.Least.{LeastLeaves}
-use Rattle.threader_cli.specs.ProgramText.{IsProgramText, Refuses}
+use Rattle.thread_cfg.specs.Read.{IsProgramText, Refuses}
+use Rattle.thread_cfg.specs.Interleaving.{TextFails}
 use Rattle.threader_cli.specs.Refusals.{not_built_text}
 
 -- ---- words
