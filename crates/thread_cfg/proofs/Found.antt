@@ -7,7 +7,7 @@ use Rattle.c_check.specs.declared.plan.Thread.{Thread}
 use Rattle.c_check.specs.Program.{Function}
 use Rattle.thread_cfg.specs.Graph.{Running, running_from}
 use Rattle.thread_cfg.proofs.Numbered.{none-some, some-same}
-use Rattle.thread_cfg.proofs.Running.{HasFunction}
+use Rattle.thread_cfg.proofs.RunningThreads.{HasFunction}
 
 -- The j-th thread runs, with its function.
 pub record RunsThere (variables : ℕ) (functions : List Function) (ts : List Thread) (i j : ℕ) (thread : Thread) : Type 0 where

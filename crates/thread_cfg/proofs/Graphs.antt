@@ -16,7 +16,7 @@ use Rattle.thread_cfg.specs.Graph.{Running, actions_of, edges_from, locations_of
 use Rattle.thread_cfg.specs.SameSteps.{HasSameSteps, SameSteps}
 use Rattle.thread_cfg.specs.Interleaving.{ProgramFails, TextFails, value_columns}
 use Rattle.thread_cfg.proofs.Numbered.{Has, cons-empty, empty-behind, empty-front, none-some, number-has, some-same}
-use Rattle.thread_cfg.proofs.Running.{actions-within, running-is, threads-running}
+use Rattle.thread_cfg.proofs.RunningThreads.{actions-within, running-is, threads-running}
 use Rattle.thread_cfg.proofs.Sameness.{IsGraphOf, same-steps}
 use Rattle.thread_cfg.proofs.Interleavings.{IsKnown, fails-alike}
 

@@ -23,7 +23,7 @@ pub mod WorkedBlocks
 pub mod WorkedRefusals
 pub mod WorkedProgram
 pub mod Withins
-pub mod Running
+pub mod RunningThreads
 pub mod Graphs
 pub mod Found
 pub mod FoundMore
@@ -57,5 +57,15 @@ pub mod WordsParts
 pub mod WordsItems
 pub mod WordsText
 pub mod KnownText
-pub mod ReadLemmas
+pub mod StopLemmas
 pub mod TextLaws
+pub mod SizeLemmas
+pub mod PassLemmas
+pub mod PartLemmas
+pub mod PassSteps
+pub mod AddLemmas
+pub mod ReadLemmas
+pub mod WrittenLemmas
+pub mod DoneLemmas
+pub mod FoundLemmas
+pub mod FewLemmas

@@ -21,7 +21,7 @@ use Rattle.thread_cfg.proofs.Lists.{nil-front, nil-rest}
 use Rattle.thread_cfg.proofs.ProgramEdges.{thread-edges}
 use Rattle.thread_cfg.proofs.ProgramNames.{program-texts}
 use Rattle.thread_cfg.proofs.ProgramTexts.{front-start, front_of, length-counters, program-columns}
-use Rattle.thread_cfg.proofs.Running.{actions-within, mapped-some, running-is, threads-running}
+use Rattle.thread_cfg.proofs.RunningThreads.{actions-within, mapped-some, running-is, threads-running}
 
 -- ---- elements by their numbers
 -- an element of a list that is mapped is what one is mapped to

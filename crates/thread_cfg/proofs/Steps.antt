@@ -20,7 +20,7 @@ use Rattle.thread_cfg.proofs.Found.{runs-there}
 use Rattle.thread_cfg.proofs.Fronts.{get-below}
 use Rattle.thread_cfg.proofs.Graphs.{counters-within}
 use Rattle.thread_cfg.proofs.Numbered.{none-some, some-same}
-use Rattle.thread_cfg.proofs.Running.{functions-there, running-is, threads-running, variables-counted}
+use Rattle.thread_cfg.proofs.RunningThreads.{functions-there, running-is, threads-running, variables-counted}
 use Rattle.thread_cfg.proofs.Withins.{HasRoom, thread_actions-within}
 
 pub record IsStep (tree : plain.Tree) (plan : Plan) (i : ℕ) (thread : Thread) : Type 0 where

@@ -7,3 +7,11 @@ pub mod Built
 pub mod Machine
 pub mod Seen
 pub mod Made
+pub mod Parts
+pub mod Sizes
+pub mod Pass
+pub mod Counter
+pub mod Passing
+pub mod Adds
+pub mod Few
+pub mod Gone

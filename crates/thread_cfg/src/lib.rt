@@ -2,18 +2,33 @@
 #![tactic(auto)]
 
 mod along;
+mod branches;
 mod building;
 mod columns;
+mod comparing;
+mod counter;
+mod doing;
 mod edge;
 #[cfg(test)]
 mod edge_tests;
 mod event;
+mod finding;
 mod form;
 mod frame;
+mod going;
 mod laws;
+mod locking;
+mod marks;
+mod part;
+mod pass;
+mod paths;
 mod read;
+mod reading;
 mod relation;
 mod row;
+mod running;
+mod sides;
+mod sizes;
 mod stack;
 mod sums;
 mod temporaries;

@@ -8,10 +8,13 @@ ghost use Rattle.thread_cfg.specs.inside.Found.{IsFoundOf};
 ghost use Rattle.thread_cfg.specs.inside.Meant.{frame_of};
 ghost use Rattle.thread_cfg.specs.Within.{ActionsWithin};
 
+use crate::counter::count_locations;
 use crate::frame::Frame;
+use crate::pass::parts_of_code;
+use crate::running::Running;
 use c_check::Function;
 use std::alloc::{AllocError, Global};
-use thr_base::Refusal;
+use thr_base::{Loc, Refusal, TOO_MANY};
 use transition_formula::Edge;
 
 /// What there is of a thread, which is of use where it is not refused.
@@ -36,7 +39,29 @@ pub(crate) fn find_edges(
     ensures { (f : program.Function) → function.now ≡ stored_function f
         → IfOk result (λ found. IsFoundOf columns (record { frame = frame_of frame.now; function = f }) found) }
 {
-    Err(AllocError)
+    let code = function.body.as_slice();
+    let mut found = Found {
+        locations: 0,
+        edges: Vec::new(alloc),
+        refusal: None,
+    };
+    let counted = count_locations(alloc, code)?;
+    let Some(counter) = counted else {
+        found.refusal = Some(Refusal {
+            code: TOO_MANY,
+            place: function.from,
+        });
+        return Ok(found);
+    };
+    found.locations = counter.at + 1;
+    let parts = parts_of_code(alloc, code, Loc(counter.at), counter.loops)?;
+    let running = Running {
+        columns,
+        frame: *frame,
+        temporary: function.locals,
+    };
+    found.add_parts(alloc, &running, parts.as_slice())?;
+    Ok(found)
 }
 
 /// The place of the first token of each location's action, from location 1 on.

@@ -2,7 +2,7 @@
 use Rattle.std.proofs.lemmas.Result.{err_from_is_err_and}
 use Rattle.c_check.specs.declared.plan.Plan.{Plan}
 use Rattle.thread_cfg.specs.Read.{IsPlanOfText}
-use Rattle.thread_cfg.proofs.ReadLemmas.{reads-built, stops-plan, stops-tokens, stops-tree}
+use Rattle.thread_cfg.proofs.StopLemmas.{reads-built, stops-plan, stops-tokens, stops-tree}
 use Rattle.thread_cfg.proofs.read.read_text.Goals as goal
 
 pub returns-in_err-tokens : goal.returns-in_err-tokens

@@ -1,0 +1,14 @@
+//! A thread whose edges are found.
+
+ghost use Rattle.std.specs.Prelude.{◌≤◌};
+
+use crate::frame::Frame;
+
+/// A thread among the columns of all threads, with the number of its first temporary.
+#[derive(Clone, Copy)]
+pub(crate) struct Running {
+    pub(crate) columns: u32,
+    pub(crate) frame: Frame,
+    pub(crate) temporary: usize,
+    ghost few_columns: { columns ≤ 64 },
+}
