@@ -1,7 +1,7 @@
 -- What an instance that a point allows gives.
-use Rattle.std.proofs.Common.{◌≡◌, List, MatchBool, ℤ, pos, ◌*ℤ◌, ◌≤ℤ◌, subst, arith}
+use Rattle.std.proofs.Common.{List, ℤ, pos, arith}
 use Rattle.std.proofs.lemmas.Int.{ints}
-use Rattle.lin_rows.specs.Row.{Row, Meets, MeetsOver, product_of}
+use Rattle.lin_rows.specs.Row.{Meets, MeetsOver}
 use Rattle.lin_rows.specs.System.{System, IsPoint}
 use Rattle.lin_rows.proofs.Lists.{AllByRecursion-weaken}
 use Rattle.farkas_cert.specs.Cert.{IsRefuted}

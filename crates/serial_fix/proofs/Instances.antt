@@ -1,24 +1,23 @@
 -- The instances of a run, kind by kind.
-use Rattle.std.proofs.Common.{◌≡◌, ◌≢◌, ℕ, zero, suc, ◌+◌, ◌-◌, ◌^◌, ◌<◌, ◌==◌, Bool, true, false, not, List, [], ◌∷◌, length, map, get_or, unwrap_or, option_map, Option, Some, None, Result, Ok, Err, IsSome, IfOk, refl, sym, ap, subst, ◌∙◌, arith, inl, inr}
-use Rattle.std.specs.List.{Contains, range_with_len, slice_get}
+use Rattle.std.proofs.Common.{◌≡◌, ◌≢◌, ℕ, suc, ◌-◌, ◌^◌, ◌<◌, ◌==◌, Bool, true, false, not, List, [], ◌∷◌, length, map, get_or, unwrap_or, option_map, Option, Some, None, Result, Ok, Err, IsSome, IfOk, refl, sym, ap, subst, ◌∙◌, arith, inl, inr}
+use Rattle.std.specs.List.{Contains}
 use Rattle.std.proofs.lemmas.Bool.Decides.{eqb_tells}
-use Rattle.std.proofs.lemmas.List.Elements.{Contains-append_left, Contains-append_right}
 use Rattle.std.proofs.lemmas.List.FromFn.{length-map-range_with_len}
-use Rattle.std.proofs.lemmas.Option.{slice_get_within, slice_get-map}
 use Rattle.thr_base.specs.declared.names.Instance.TheVariants.{Init, Own, Guar, Env as Environment}
 use Rattle.thr_base.specs.declared.names.ThreadNo.{ThreadNo}
 use Rattle.thr_base.specs.declared.names.EdgeNo.{EdgeNo}
 use Rattle.thr_base.specs.declared.names.FactId.{FactId}
 use Rattle.thr_base.specs.declared.names.Fact.{Fact as StoredFact}
+use Rattle.thr_base.specs.declared.limits.Limits.{Limits}
 use Rattle.lin_rows.specs.Row.{Row}
 use Rattle.predicate_sets.specs.Sets.{HasHome, set_at}
-use Rattle.transition_formula.specs.Program.{Program, Thread, Edge, numbered, IsProgram, IsEdge, IsThreadOf, IsEdgeOf}
+use Rattle.transition_formula.specs.Program.{Program, Thread, Edge, numbered, IsProgram, IsEdge, IsEdgeOf}
 use Rattle.transition_formula.specs.Stored.{edge_of}
 use Rattle.transition_formula.specs.declared.graph.Edge.{Edge as StoredEdge}
 use Rattle.transition_formula.proofs.Lookups.{numbered-mapped, AllByRecursion-numbered}
 use Rattle.transition_formula.proofs.Lookups as lookups
 use Rattle.horn_rules.specs.declared.job.Premise.{Premise}
-use Rattle.horn_rules.specs.Home.{Home, State, Env, by_number, state_homes, env_homes, homes, IsHomeOf}
+use Rattle.horn_rules.specs.Home.{Home, State, Env, homes, IsHomeOf}
 use Rattle.horn_rules.specs.Fact.{Fact, IsSetOf}
 use Rattle.horn_rules.specs.Case.{init_case}
 use Rattle.horn_rules.specs.Job.{IsPremise}
@@ -27,15 +26,14 @@ use Rattle.serial_fix.specs.inside.Cases.{own_case, guar_case, env_case}
 use Rattle.serial_fix.specs.inside.Jobs.{Says, init, own, guar, env}
 use Rattle.horn_rules.specs.Stored.{sets_of, fact_of, home_numbered, HasItsHome}
 use Rattle.horn_rules.proofs.Numbers.{state_home-place, env_home-place, home-numbered}
-use Rattle.horn_rules.proofs.Places.{range-at}
 use Rattle.horn_rules.proofs.HomesThere.{location-home, place-location}
 use Rattle.std.proofs.lemmas.List.{length-map}
 use Rattle.serial_fix.specs.inside.Found.{FoundFacts}
 use Rattle.horn_rules.specs.Instances.{tells_another}
 use Rattle.serial_fix.specs.inside.Run.{IsStored, IsRun, IsInstance, InstanceIsSettled, StartIsSettled, HasEdge, IsFrom, OwnIsSettled, GuarIsSettled, PairIsSettled, IsStep}
 use Rattle.serial_fix.specs.declared.step.Step.{Step}
-use Rattle.serial_fix.specs.declared.step.Step.TheVariants.{Done, Left}
-use Rattle.horn_rules.proofs.Lists.{all-contained, Contains-map, Contains-slice_get}
+use Rattle.serial_fix.specs.declared.step.Step.TheVariants.{Done, Stopped}
+use Rattle.horn_rules.proofs.Lists.{all-contained, Contains-map}
 use Rattle.serial_fix.proofs.Jobs.{target-set}
 use Rattle.lin_rows.proofs.Lists.{slice_get-there}
 
@@ -128,19 +126,24 @@ is-premise program lists found stored id premise run there is =
           (subst (λ l. stored.held < 2 ^ length l) (sym is.set_is) kept.within);
     }
 
+-- it is the fact of its number
+premise-at : {lists : List (List Row)} (facts : List StoredFact) (stored : StoredFact) (id : FactId) (premise : Premise) → numbered facts id.0 ≡ Some stored → IsPremiseOf lists stored id premise
+    → numbered facts premise.id.0 ≡ Some premise.fact
+premise-at facts stored id premise number is = ap (λ (n : FactId). numbered facts n.0) is.id_is ∙ number ∙ ap Some (sym is.fact_is)
+
 -- ---- the instances
 
 pub start-instance : (program : Program) (lists : List (List Row)) (found : List StoredFact) (i : ThreadNo) (home : ℕ) → IsSome (numbered program.threads i.0)
     → numbered (homes program) home ≡ Some (State i.0 1) → IsInstance program lists found (Init i) None None home
 start-instance program lists found i home some at =
     let (thread, is) = some-is (numbered program.threads i.0) some in
-    record { premises = []; given = init_case program i.0; is_case = init i thread is; home_is = at; stand = tt; first_is = tt; second_is = tt }
+    record { premises = []; given = init_case program i.0; is_case = init i thread is; home_is = at; stand = tt; first_is = tt; second_is = tt; first_at = tt; second_at = tt }
 
 pub own-instance : (program : Program) (lists : List (List Row)) (found : FoundFacts) (stored : StoredFact) (id : FactId) (i : ℕ) (e : EdgeNo) (premise : Premise) (home to : ℕ)
-    → IsRun program lists found → Contains found.facts stored → IsPremiseOf lists stored id premise → IsFrom program i e.0 (fact_of program stored)
+    → IsRun program lists found → Contains found.facts stored → numbered found.facts id.0 ≡ Some stored → IsPremiseOf lists stored id premise → IsFrom program i e.0 (fact_of program stored)
     → ((thread : Thread) (edge : Edge) → IsEdgeOf program i e.0 thread edge → to ≡ edge.to)
     → numbered (homes program) home ≡ Some (State i to) → IsInstance program lists found.facts (Own id e) (Some premise) None home
-own-instance program lists found stored id i e premise home to run there is from ends at = record {
+own-instance program lists found stored id i e premise home to run there number is from ends at = record {
   premises = fact_of program stored ∷ [];
   given = own_case program (sets_of program lists) i from.thread from.edge (fact_of program stored);
   is_case = own id e premise i from.thread from.edge (fact_of program stored) (says program lists found stored id premise run there is) from.edge_is from.at;
@@ -148,12 +151,14 @@ own-instance program lists found stored id i e premise home to run there is from
   stand = (Contains-map (fact_of program) found.facts stored there, tt);
   first_is = is-premise program lists found stored id premise run there is;
   second_is = tt;
+  first_at = premise-at found.facts stored id premise number is;
+  second_at = tt;
 }
 
 pub guar-instance : (program : Program) (lists : List (List Row)) (found : FoundFacts) (stored : StoredFact) (id : FactId) (i : ℕ) (e : EdgeNo) (premise : Premise) (home : ℕ)
-    → IsRun program lists found → Contains found.facts stored → IsPremiseOf lists stored id premise → IsFrom program i e.0 (fact_of program stored)
+    → IsRun program lists found → Contains found.facts stored → numbered found.facts id.0 ≡ Some stored → IsPremiseOf lists stored id premise → IsFrom program i e.0 (fact_of program stored)
     → numbered (homes program) home ≡ Some (Env i e.0) → IsInstance program lists found.facts (Guar id e) (Some premise) None home
-guar-instance program lists found stored id i e premise home run there is from at = record {
+guar-instance program lists found stored id i e premise home run there number is from at = record {
   premises = fact_of program stored ∷ [];
   given = guar_case program (sets_of program lists) i e.0 from.thread from.edge (fact_of program stored);
   is_case = guar id e premise i from.thread from.edge (fact_of program stored) (says program lists found stored id premise run there is) from.edge_is from.at;
@@ -161,15 +166,17 @@ guar-instance program lists found stored id i e premise home run there is from a
   stand = (Contains-map (fact_of program) found.facts stored there, tt);
   first_is = is-premise program lists found stored id premise run there is;
   second_is = tt;
+  first_at = premise-at found.facts stored id premise number is;
+  second_at = tt;
 }
 
 -- ---- what is settled
 
-pub if-step : {E : Type 0} (program : Program) (lists : List (List Row)) (old new : FoundFacts) (P Q : List StoredFact → Type 0) (made : Result Step E)
-    → IfOk made (IsStep program lists old new P) → (P new.facts → Q new.facts) → IfOk made (IsStep program lists old new Q)
-if-step program lists old new P Q (Ok Done) is then = (is.0, is.1, then is.2)
-if-step program lists old new P Q (Ok Left) is then = is
-if-step program lists old new P Q (Err e) is then = tt
+pub if-step : {E : Type 0} (program : Program) (lists : List (List Row)) (limits : Limits) (old new : FoundFacts) (upto : ℕ) (P Q : List StoredFact → Type 0) (made : Result Step E)
+    → IfOk made (IsStep program lists limits old new upto P) → (P new.facts → Q new.facts) → IfOk made (IsStep program lists limits old new upto Q)
+if-step program lists limits old new upto P Q (Ok Done) is then = (is.0, is.1, then is.2, is.3)
+if-step program lists limits old new upto P Q (Ok (Stopped ending)) is then = is
+if-step program lists limits old new upto P Q (Err e) is then = tt
 
 pub start-settled : (program : Program) (lists : List (List Row)) (found : List StoredFact) (i : ThreadNo) (home : ℕ) → IsSome (numbered program.threads i.0)
     → numbered (homes program) home ≡ Some (State i.0 1) → InstanceIsSettled program lists (Init i) None None home found → StartIsSettled program lists i.0 found
@@ -217,10 +224,10 @@ pair-vacuous program lists found f t test k l i e other thread edge differ there
     ]
 
 env-of : (program : Program) (lists : List (List Row)) (found : FoundFacts) (one told : StoredFact) (id other_id : FactId) (first second : Premise) (home_f home_t : Home)
-    → IsRun program lists found → Contains found.facts one → Contains found.facts told → IsPremiseOf lists one id first → IsPremiseOf lists told other_id second
-    → (fact_of program one).home ≡ home_f → (fact_of program told).home ≡ home_t → IsHomeOf program home_f → IsHomeOf program home_t → AreApart home_f home_t
+    → IsRun program lists found → Contains found.facts one → Contains found.facts told → numbered found.facts id.0 ≡ Some one → numbered found.facts other_id.0 ≡ Some told
+    → IsPremiseOf lists one id first → IsPremiseOf lists told other_id second → (fact_of program one).home ≡ home_f → (fact_of program told).home ≡ home_t → IsHomeOf program home_f → IsHomeOf program home_t → AreApart home_f home_t
     → IsInstance program lists found.facts (Environment id other_id) (Some first) (Some second) one.home.0
-env-of program lists found one told id other_id first second home_f home_t run there_f there_t is_f is_t at_f at_t has_f has_t (apart k l i e differ) =
+env-of program lists found one told id other_id first second home_f home_t run there_f there_t number_f number_t is_f is_t at_f at_t has_f has_t (apart k l i e differ) =
     let place = state_home-place program k l has_f in
     let (from_1, edge_place) = env_home-place program i e has_t in
     let inside : e - 1 < length edge_place.thread.edges = omega (arith, edge_place.within, length-map-range_with_len (Env i) 1 (length edge_place.thread.edges)) in
@@ -236,14 +243,16 @@ env-of program lists found one told id other_id first second home_f home_t run t
       stand = (Contains-map (fact_of program) found.facts one there_f, (Contains-map (fact_of program) found.facts told there_t, tt));
       first_is = is-premise program lists found one id first run there_f is_f;
       second_is = is-premise program lists found told other_id second run there_t is_t;
+      first_at = premise-at found.facts one id first number_f is_f;
+      second_at = premise-at found.facts told other_id second number_t is_t;
     }
 
 pub env-instance : (program : Program) (lists : List (List Row)) (found : FoundFacts) (one told : StoredFact) (id other_id : FactId) (first second : Premise)
-    → IsRun program lists found → Contains found.facts one → Contains found.facts told → IsPremiseOf lists one id first → IsPremiseOf lists told other_id second
-    → tells_another (fact_of program one).home (fact_of program told).home ≡ true
+    → IsRun program lists found → Contains found.facts one → Contains found.facts told → numbered found.facts id.0 ≡ Some one → numbered found.facts other_id.0 ≡ Some told
+    → IsPremiseOf lists one id first → IsPremiseOf lists told other_id second → tells_another (fact_of program one).home (fact_of program told).home ≡ true
     → IsInstance program lists found.facts (Environment id other_id) (Some first) (Some second) one.home.0
-env-instance program lists found one told id other_id first second run there_f there_t is_f is_t test =
-    env-of program lists found one told id other_id first second (fact_of program one).home (fact_of program told).home run there_f there_t is_f is_t refl refl
+env-instance program lists found one told id other_id first second run there_f there_t number_f number_t is_f is_t test =
+    env-of program lists found one told id other_id first second (fact_of program one).home (fact_of program told).home run there_f there_t number_f number_t is_f is_t refl refl
     (home-numbered program one.home.0 (fact_of program one).home (found-number program lists found one run there_f))
     (home-numbered program told.home.0 (fact_of program told).home (found-number program lists found told run there_t))
     (are-apart (fact_of program one).home (fact_of program told).home test)

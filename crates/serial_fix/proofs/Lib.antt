@@ -4,5 +4,6 @@ pub mod Index
 pub mod Gives
 pub mod Steps
 pub mod Instances
+pub mod Looked
 pub mod Rounds
 pub mod AtEnd

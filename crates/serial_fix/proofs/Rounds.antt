@@ -7,6 +7,7 @@ use Rattle.std.proofs.lemmas.Option.{slice_get_within}
 use Rattle.std.proofs.lemmas.List.Elements.{Contains-append_left}
 use Rattle.horn_rules.proofs.Places.{slice_get-append_left}
 use Rattle.thr_base.specs.declared.names.Fact.{Fact as StoredFact}
+use Rattle.thr_base.specs.declared.limits.Limits.{Limits}
 use Rattle.lin_rows.specs.Row.{Row}
 use Rattle.transition_formula.specs.Program.{Program, Thread, Edge, numbered, IsProgram, IsThreadOf, IsEdgeOf}
 use Rattle.transition_formula.specs.Stored.{edge_of}
@@ -21,7 +22,7 @@ use Rattle.horn_rules.proofs.Numbers.{state_home-place, home-numbered}
 use Rattle.serial_fix.specs.inside.Found.{FoundFacts}
 use Rattle.serial_fix.specs.inside.Run.{IsRun, Extends, IsSettled, StartIsSettled, HasEdge, IsFrom, OwnIsSettled, GuarIsSettled, EdgeIsSettled, OwnAreSettled, PairIsSettled, PairsAreSettled, IsLookedAt, StartsAreSettled, AllAreSettled, IsStep}
 use Rattle.serial_fix.specs.declared.step.Step.{Step}
-use Rattle.serial_fix.specs.declared.step.Step.TheVariants.{Done, Left}
+use Rattle.serial_fix.specs.declared.step.Step.TheVariants.{Done, Stopped}
 use Rattle.horn_rules.proofs.Lists.{Contains-later as later, first-or-later, contains-nothing}
 use Rattle.serial_fix.proofs.Steps.{Extends-Contains}
 use Rattle.serial_fix.proofs.Instances.{found-number, some-is}
@@ -60,11 +61,12 @@ Extends-at : (earlier later : List StoredFact) (k : ℕ) → Extends earlier lat
 Extends-at earlier later k on within = ap (λ l. slice_get l k) on.is ∙ slice_get-append_left earlier on.more k within
 
 -- one step, and then another
-pub if-both : {E : Type 0} (program : Program) (lists : List (List Row)) (a b c : FoundFacts) (P Q R : List StoredFact → Type 0) (made : Result Step E)
-    → IsStep program lists a b P Done → IfOk made (IsStep program lists b c Q) → (Extends b.facts c.facts → P b.facts → Q c.facts → R c.facts) → IfOk made (IsStep program lists a c R)
-if-both program lists a b c P Q R (Ok Done) one two then = (two.0, Extends-trans a.facts b.facts c.facts one.1 two.1, then two.1 one.2 two.2)
-if-both program lists a b c P Q R (Ok Left) one two then = two
-if-both program lists a b c P Q R (Err e) one two then = tt
+pub if-both : {E : Type 0} (program : Program) (lists : List (List Row)) (limits : Limits) (a b c : FoundFacts) (between upto : ℕ) (P Q R : List StoredFact → Type 0) (made : Result Step E)
+    → IsStep program lists limits a b between P Done → IfOk made (IsStep program lists limits b c upto Q) → (Extends b.facts c.facts → P b.facts → Q c.facts → R c.facts)
+    → IfOk made (IsStep program lists limits a c upto R)
+if-both program lists limits a b c between upto P Q R (Ok Done) one two then = (two.0, Extends-trans a.facts b.facts c.facts one.1 two.1, then two.1 one.2 two.2, two.3)
+if-both program lists limits a b c between upto P Q R (Ok (Stopped ending)) one two then = two
+if-both program lists limits a b c between upto P Q R (Err e) one two then = tt
 
 -- ---- the edges of a fact's thread
 

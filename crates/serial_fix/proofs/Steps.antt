@@ -1,19 +1,20 @@
 -- One step of a run: an instance that is posted, and what it leaves.
-use Rattle.std.proofs.Common.{◌≡◌, ◌≢◌, ℕ, zero, suc, ◌^◌, ◌<◌, ◌≤◌, ◌==◌, Bool, true, List, [], ◌∷◌, ◌++◌, length, reverse, get_or, unwrap_or, Option, Some, None, refl, sym, ap, subst, ◌∙◌, arith, inl, inr, IsSome}
+use Rattle.std.proofs.Common.{◌≡◌, ◌≢◌, ℕ, zero, suc, ◌^◌, ◌<◌, ◌≤◌, ◌==◌, Bool, true, List, [], ◌∷◌, ◌++◌, map, length, reverse, get_or, AllPairs, unwrap_or, Option, Some, None, Result, Ok, Err, IfOk, refl, sym, ap, subst, ◌∙◌, arith, inl, inr, IsSome}
 use Rattle.std.specs.List.{AllByRecursion, Contains, Any}
 use Rattle.std.specs.Option.{ForSome}
-use Rattle.std.proofs.lemmas.List.{map-append, reverse-append, append-nil}
+use Rattle.std.proofs.lemmas.List.{map-append, reverse-append, append-nil, length-map, length-append, get_or-map}
 use Rattle.std.proofs.lemmas.List.Elements.{Contains-append_left, Contains-push, Contains-get_or}
 use Rattle.std.proofs.Math.Pow.{pow_mono}
 use Rattle.std.proofs.lemmas.Bool.{eqb-true, cases_lt}
 use Rattle.std.proofs.lemmas.Option.{slice_get_within}
 use Rattle.std.proofs.lemmas.List.Quantifiers.{all_pairs_push}
 use Rattle.thr_base.specs.Held.{positions}
-use Rattle.thr_base.proofs.Positions.{words-below, are-positions}
+use Rattle.thr_base.proofs.Positions.{words-below, are-positions, positions-tell}
 use Rattle.thr_base.specs.declared.names.RuleName.TheVariants.{Rg}
 use Rattle.thr_base.specs.declared.names.Instance.{Instance}
 use Rattle.thr_base.specs.declared.names.HomeNo.{HomeNo}
 use Rattle.thr_base.specs.declared.names.Fact.{Fact as StoredFact}
+use Rattle.thr_base.specs.declared.limits.Limits.{Limits}
 use Rattle.lin_rows.specs.Row.{Row}
 use Rattle.farkas_cert.specs.declared.answers.LeaveKind.{LeaveKind}
 use Rattle.farkas_cert.specs.Cert.{IsRefuted}
@@ -28,20 +29,23 @@ use Rattle.horn_rules.specs.Least.{Comes, IsDerivation, Least}
 use Rattle.horn_rules.specs.Laws.{bare_at}
 use Rattle.horn_rules.specs.Stored.{fact_of, facts_of, sets_of}
 use Rattle.horn_rules.proofs.Posts.{facts-same}
+use Rattle.horn_rules.proofs.StoredSets.{facts-tell}
 use Rattle.horn_rules.proofs.Derivations.{bare-fact, no-number}
-use Rattle.horn_rules.proofs.Lists.{Contains-first, first-or-later, contains-nothing, Contains-map, all-contained}
+use Rattle.horn_rules.proofs.Lists.{Contains-first, Contains-later, first-or-later, contains-nothing, Contains-map, all-contained}
 use Rattle.abstract_post.specs.Left.{IsLeft}
-use Rattle.serial_fix.specs.Least.{LeastLeaves}
+use Rattle.serial_fix.specs.Least.{LeastLeaves, HasMoreFacts}
 use Rattle.serial_fix.specs.inside.Found.{FoundFacts, IsInserted}
-use Rattle.serial_fix.specs.inside.Run.{IsStored, IsRun, Extends, IsSettled, IsInstance, InstanceIsSettled}
+use Rattle.serial_fix.specs.inside.Run.{IsStored, IsRun, Extends, IsSettled, IsInstance, InstanceIsSettled, IsEnding, IsPosted}
+use Rattle.serial_fix.specs.declared.step.Step.{Step}
+use Rattle.serial_fix.specs.declared.step.Step.TheVariants.{Done, Stopped}
 use Rattle.serial_fix.proofs.Cases.{to-rules}
 use Rattle.serial_fix.proofs.Gives.{not-refuted}
 use Rattle.serial_fix.proofs.Jobs.{job-case, target-set, Outcome}
-use Rattle.lin_rows.proofs.Lists.{AllByRecursion-weaken}
+use Rattle.lin_rows.proofs.Lists.{AllByRecursion-at, AllByRecursion-weaken}
 
 -- ---- lists
 
-all-push : {A : Type 0} (P : A → Type 0) (xs : List A) (x : A) → AllByRecursion P xs → P x → AllByRecursion P (xs ++ x ∷ [])
+pub all-push : {A : Type 0} (P : A → Type 0) (xs : List A) (x : A) → AllByRecursion P xs → P x → AllByRecursion P (xs ++ x ∷ [])
 all-push P [] x all one = (one, tt)
 all-push P (y ∷ ys) x all one = (all.0, all-push P ys x all.1 one)
 
@@ -62,6 +66,20 @@ none-is-it xs x lacks k d within is = lacks (subst (Contains xs) is (Contains-ge
 empty : (xs : List ℕ) → ((k : ℕ) → Contains xs k → ⊥) → xs ≡ []
 empty [] none = refl
 empty (k ∷ ks) none = absurd (none k (Contains-first k ks))
+
+all-of : {A : Type 0} (P : A → Type 0) (xs : List A) → ((x : A) → Contains xs x → P x) → AllByRecursion P xs
+all-of P [] each = tt
+all-of P (x ∷ xs) each = (each x (Contains-first x xs), all-of P xs (λ y there. each y (Contains-later x y xs there)))
+
+-- what differs is still different after a map that tells it apart
+pub map-apart : {A B : Type 0} (P : A → Type 0) (f : A → B) (xs : List A) → AllByRecursion P xs → AllPairs (λ a b. a ≢ b) xs
+    → ((a b : A) → P a → P b → f a ≡ f b → a ≡ b) → AllPairs (λ a b. a ≢ b) (map f xs)
+map-apart P f [] all apart tells i j d below within same = absurd (omega arith)
+map-apart P f (x ∷ xs) all apart tells i j d below within same =
+    let inside : j < length (x ∷ xs) = omega (arith, length-map (x ∷ xs) f) in
+    let left = get_or-map f (x ∷ xs) i x d (omega arith) in
+    let right = get_or-map f (x ∷ xs) j x d inside in
+    apart i j x below inside (tells (get_or (x ∷ xs) i x) (get_or (x ∷ xs) j x) (AllByRecursion-at P (x ∷ xs) i x all (omega arith)) (AllByRecursion-at P (x ∷ xs) j x all inside) (sym left ∙ same ∙ right))
 
 -- ---- stored facts
 
@@ -152,6 +170,20 @@ settled-fact program lists found given one is there = record {
   gives = λ z point. (one, is);
 }
 
+-- ---- the facts that are there
+
+-- a fact that was found is of the least set
+pub found-least : (program : Program) (lists : List (List Row)) (found : FoundFacts) (fact : Fact) → IsRun program lists found → Contains (facts_of program found.facts) fact → Least program Rg (sets_of program lists) fact
+found-least program lists found fact run there = (reverse (facts_of program found.facts), run.derived, Contains-reverse (facts_of program found.facts) fact there)
+
+pub all-least : (program : Program) (lists : List (List Row)) (found : FoundFacts) → IsRun program lists found → AllByRecursion (Least program Rg (sets_of program lists)) (facts_of program found.facts)
+all-least program lists found run = all-of (Least program Rg (sets_of program lists)) (facts_of program found.facts) (λ fact there. found-least program lists found fact run there)
+
+-- stored facts that differ stand for facts that differ
+pub facts-apart : (program : Program) (lists : List (List Row)) (found : FoundFacts) → IsRun program lists found → AllPairs (λ a b. a ≢ b) (facts_of program found.facts)
+facts-apart program lists found run = map-apart (IsStored program lists) (fact_of program) found.facts run.facts_are run.none_twice
+    (λ a b is_a is_b same. facts-tell positions-tell program a b is_a.is_word is_b.is_word is_a.has_home is_b.has_home same)
+
 -- the facts with one more
 module _ (program : Program) (lists : List (List Row)) (old : FoundFacts) (instance : Instance) (one two : Option Premise) (home : HomeNo) (held : ℕ)
     (run : IsRun program lists old) (is : IsInstance program lists old.facts instance one two home.0) (small : held < 2 ^ 128)
@@ -168,6 +200,7 @@ module _ (program : Program) (lists : List (List Row)) (old : FoundFacts) (insta
   new-stored : IsStored program lists (record { home = home; held = held })
   new-stored = record {
     has_home = subst (λ o. IsSome o) (sym is.home_is) refl;
+    is_word = small;
     within = held-within held (length (set_at lists home.0)) small (λ k there.
         let (atom, at, entails) = (of-case.entailed.exact k).0 there in
         let here = ap (λ l. numbered l k) (sym (target-set program lists home.0 is.given.target run.lists_are is.home_is)) ∙ at in
@@ -199,24 +232,41 @@ module _ (program : Program) (lists : List (List Row)) (old : FoundFacts) (insta
         (new-comes, run.derived);
   }
 
-pub added : (program : Program) (lists : List (List Row)) (old new : FoundFacts) (instance : Instance) (one two : Option Premise) (home : HomeNo) (held : Option ℕ)
+  -- the facts with the new one are more than fit
+  more-facts : (¬ Contains old.facts (record { home = home; held = held })) → (most : ℕ) → most ≤ length old.facts → HasMoreFacts program lists most
+  more-facts lacks most full =
+      let with_new : FoundFacts = record old { facts = old.facts ++ record { home = home; held = held } ∷ [] } in
+      let longer : IsRun program lists with_new = new-run lacks in
+      record {
+        elements = facts_of program with_new.facts;
+        none_twice = facts-apart program lists with_new longer;
+        are = all-least program lists with_new longer;
+        more = omega (arith, full, length-map with_new.facts (fact_of program), length-append old.facts (record { home = home; held = held } ∷ []));
+      }
+
+pub added : (program : Program) (lists : List (List Row)) (limits : Limits) (old new : FoundFacts) (instance : Instance) (one two : Option Premise) (home : HomeNo) (held : Option ℕ) (step : Step)
     → IsRun program lists old → IsInstance program lists old.facts instance one two home.0 → ForSome held (λ h. h < 2 ^ 128)
-    → Outcome program lists instance one two home.0 held → IsInserted old home held new
-    → IsRun program lists new × Extends old.facts new.facts × InstanceIsSettled program lists instance one two home.0 new.facts
-added program lists old new instance one two home None run is small outcome same = (
+    → Outcome program lists instance one two home.0 held → IsInserted old limits.facts home held new step
+    → IsPosted program lists limits old new (InstanceIsSettled program lists instance one two home.0) step
+added program lists limits old new instance one two home None (Stopped ending) run is small outcome (never, same) = cc
+added program lists limits old new instance one two home None Done run is small outcome (done, same) = (
   subst (IsRun program lists) (sym same) run,
   subst (λ (f : FoundFacts). Extends old.facts f.facts) (sym same) (Extends-same old.facts),
   λ premises given of at. settled-nothing program lists new.facts given (outcome premises given of at),
+  ap (λ (f : FoundFacts). f.jobs) same,
 )
-added program lists old new instance one two home (Some held) run is small outcome (inl (there, same)) = (
+added program lists limits old new instance one two home (Some held) (Stopped ending) run is small outcome (end, lacks, full) =
+    subst (IsEnding program lists limits) (sym end) (more-facts program lists old instance one two home held run is (small held refl) outcome lacks limits.facts full)
+added program lists limits old new instance one two home (Some held) Done run is small outcome (inl (there, same)) = (
   subst (IsRun program lists) (sym same) run,
   subst (λ (f : FoundFacts). Extends old.facts f.facts) (sym same) (Extends-same old.facts),
   λ premises given of at.
       settled-fact program lists new.facts given (record { home = given.target; held = positions held }) (record { at_target = refl; entailed = outcome premises given of at })
       (subst (λ (f : FoundFacts). Contains (facts_of program f.facts) (record { home = given.target; held = positions held })) (sym same)
       (subst (Contains (facts_of program old.facts)) (fact-is program home held given.target at) (Contains-map (fact_of program) old.facts (record { home = home; held = held }) there))),
+  ap (λ (f : FoundFacts). f.jobs) same,
 )
-added program lists old new instance one two home (Some held) run is small outcome (inr (lacks, more)) = (
+added program lists limits old new instance one two home (Some held) Done run is small outcome (inr (lacks, more)) = (
   subst (IsRun program lists) (sym more) (new-run program lists old instance one two home held run is (small held refl) outcome lacks),
   record { more = record { home = home; held = held } ∷ []; is = ap (λ (f : FoundFacts). f.facts) more },
   λ premises given of at.
@@ -224,12 +274,17 @@ added program lists old new instance one two home (Some held) run is small outco
       (subst (λ (f : FoundFacts). Contains (facts_of program f.facts) (record { home = given.target; held = positions held })) (sym more)
       (subst (Contains (facts_of program (old.facts ++ record { home = home; held = held } ∷ []))) (fact-is program home held given.target at)
       (Contains-map (fact_of program) (old.facts ++ record { home = home; held = held } ∷ []) (record { home = home; held = held }) (Contains-push old.facts (record { home = home; held = held }))))),
+  ap (λ (f : FoundFacts). f.jobs) more,
 )
 
--- ---- an instance on which the solver leaves
+pub if-added : {E : Type 0} (program : Program) (lists : List (List Row)) (limits : Limits) (old new : FoundFacts) (instance : Instance) (one two : Option Premise) (home : HomeNo) (held : Option ℕ)
+    (made : Result Step E) → IsRun program lists old → IsInstance program lists old.facts instance one two home.0 → ForSome held (λ h. h < 2 ^ 128)
+    → Outcome program lists instance one two home.0 held → IfOk made (IsInserted old limits.facts home held new)
+    → IfOk made (IsPosted program lists limits old new (InstanceIsSettled program lists instance one two home.0))
+if-added program lists limits old new instance one two home held (Ok step) run is small outcome put = added program lists limits old new instance one two home held step run is small outcome put
+if-added program lists limits old new instance one two home held (Err e) run is small outcome put = tt
 
-pub found-least : (program : Program) (lists : List (List Row)) (found : FoundFacts) (fact : Fact) → IsRun program lists found → Contains (facts_of program found.facts) fact → Least program Rg (sets_of program lists) fact
-found-least program lists found fact run there = (reverse (facts_of program found.facts), run.derived, Contains-reverse (facts_of program found.facts) fact there)
+-- ---- an instance on which the solver leaves
 
 pub leaves : (program : Program) (lists : List (List Row)) (found : FoundFacts) (instance : Instance) (one two : Option Premise) (home : ℕ) (atoms : List Row) (kind : LeaveKind)
     → IsRun program lists found → (is : IsInstance program lists found.facts instance one two home) → atoms ≡ set_at lists home → IsLeft is.given atoms kind → LeastLeaves program lists

@@ -1,4 +1,5 @@
 pub mod Cases
 pub mod Jobs
 pub mod Found
+pub mod Looked
 pub mod Run

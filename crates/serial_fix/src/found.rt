@@ -5,11 +5,13 @@ use std::alloc::{AllocError, Global};
 use std::marker::Model;
 use thr_base::{Fact, HomeNo};
 
-/// The facts that a run has found, in the order in which they came, and for each home the words that are held there.
+/// The facts that a run has found, in the order in which they came, and for each home the words that are held there; and how many
+/// jobs it has counted.
 #[derive(Drop)]
 pub(crate) struct Found {
     facts: Vec<Fact>,
     at_home: Vec<Vec<u128>>,
+    jobs: u32,
 }
 
 impl Model for Found {
@@ -18,19 +20,38 @@ impl Model for Found {
 
     ghost Value = { FoundFacts };
 
-    ghost view = { λ inside. record { homes = length inside.at_home.items; facts = inside.facts.items } };
+    ghost view = { λ inside. record { homes = length inside.at_home.items; facts = inside.facts.items; jobs = inside.jobs } };
 
     ghost invariant = { λ inside. IsIndex (map (λ words. words.items) inside.at_home.items) inside.facts.items };
 }
 
 impl Found {
     pub(crate) fn new(alloc: Global, homes: u32) -> Result<Found, AllocError>
-        ensures { IfOk result (λ found. found ≡ record { homes = homes; facts = [] }) }
+        ensures { IfOk result (λ found. found ≡ record { homes = homes; facts = []; jobs = 0 }) }
     {
         Ok(Found {
             facts: Vec::new(alloc),
             at_home: no_words(alloc, homes)?,
+            jobs: 0,
         })
+    }
+
+    pub(crate) fn allocator(&self) -> Global {
+        *self.facts.allocator()
+    }
+
+    pub(crate) fn jobs(&self) -> u32
+        ensures { result ≡ self.now.jobs }
+    {
+        self.jobs
+    }
+
+    /// Counts one more job.
+    pub(crate) fn count_job(&mut self)
+        requires { self.old.jobs + 1 < 2 ^ 32 }
+        ensures { self.new ≡ record self.old { jobs = self.old.jobs + 1 } }
+    {
+        self.jobs += 1;
     }
 
     pub(crate) fn facts(&self) -> &[Fact]

@@ -1,5 +1,6 @@
 //! The least set of facts under posts, found on one thread. The layers above learn that the facts that come out are exactly those
-//! that can be derived from nothing and cover all runs, or that the solver leaves an instance over them.
+//! that can be derived from nothing and cover all runs, that the solver leaves an instance over them, or that there are more facts
+//! or instances than the limits say.
 #![tactic(auto)]
 
 mod fixpoint;
@@ -8,3 +9,6 @@ mod run;
 mod step;
 
 pub use fixpoint::{LeastAnswer, least};
+
+#[cfg(test)]
+mod tests;

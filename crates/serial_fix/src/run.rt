@@ -1,4 +1,5 @@
-ghost use Rattle.std.specs.Prelude.{◌≡◌, ◌<◌, Some, Contains, length, slice_get, IsSome, IfOk};
+ghost use Rattle.std.specs.Prelude.{◌≡◌, ◌+◌, ◌<◌, Some, length, slice_get, IsSome, IfOk};
+ghost use Rattle.horn_rules.specs.Instance.{Init, Own, Guar, Env as Environment};
 ghost use Rattle.predicate_sets.specs.Sets.{HasHome, set_at};
 ghost use Rattle.transition_formula.specs.Program.{Thread, IsEdgeOf, numbered};
 ghost use Rattle.transition_formula.specs.Program as specs;
@@ -6,14 +7,15 @@ ghost use Rattle.transition_formula.specs.Stored.{edge_of};
 ghost use Rattle.horn_rules.specs.Instances.{tells_another};
 ghost use Rattle.horn_rules.specs.Stored.{fact_of, home_of};
 ghost use Rattle.horn_rules.specs.Home.{State};
+ghost use Rattle.serial_fix.specs.inside.Looked.{AreLookedAt, IsKnown, first_pair, place_in_run, turn};
 ghost use Rattle.serial_fix.specs.inside.Run.{EdgeIsSettled, GuarIsSettled, HasEdge, IsFrom, IsRun, IsStep, OwnAreSettled, OwnIsSettled, PairIsSettled, StartIsSettled};
 
 use crate::found::Found;
 use crate::step::{Step, add};
 use horn_rules::{Premise, named, number};
 use predicate_sets::Sets;
-use std::alloc::{AllocError, Global};
-use thr_base::{EdgeNo, Fact, FactId, Home, Instance, Loc, ThreadNo};
+use std::alloc::AllocError;
+use thr_base::{EdgeNo, Fact, FactId, Home, Instance, Limits, Loc, ThreadNo};
 use transition_formula::{Edge, Program};
 
 /// A fact that was found, with its number.
@@ -26,7 +28,8 @@ pub(crate) struct Known {
 /// The n-th fact, from 0.
 pub(crate) fn nth(found: &Found, n: u32) -> Known
     requires { n < length found.now.facts }
-    ensures { slice_get found.now.facts n ≡ Some result.fact }
+    ensures at { slice_get found.now.facts n ≡ Some result.fact }
+    ensures id { result.id.0 ≡ n + 1 }
 {
     let facts = found.facts();
     Known {
@@ -59,21 +62,22 @@ fn edge_at(program: &Program, i: ThreadNo, e: EdgeNo) -> &Edge
 
 /// The start of a thread.
 pub(crate) fn start(
-    alloc: Global,
     program: &Program,
     sets: &Sets,
+    limits: Limits,
     found: &mut Found,
     i: ThreadNo,
 ) -> Result<Step, AllocError>
     requires run { IsRun program.now sets.now found.old }
     requires thread { IsSome (numbered program.now.threads i.0) }
-    ensures { IfOk result (IsStep program.now sets.now found.old found.new (StartIsSettled program.now sets.now i.0)) }
+    requires looked { AreLookedAt program.now sets.now found.old (place_in_run (Init i.0)) }
+    ensures { IfOk result (IsStep program.now sets.now limits found.old found.new (place_in_run (Init i.0) + 1) (StartIsSettled program.now sets.now i.0)) }
 {
     let home = number(program, Home::State(i, Loc(1)));
     add(
-        alloc,
         program,
         sets,
+        limits,
         found,
         home,
         Instance::Init(i),
@@ -83,27 +87,28 @@ pub(crate) fn start(
 
 /// A fact's own step by an edge that leaves its location.
 fn own_step(
-    alloc: Global,
     program: &Program,
     sets: &Sets,
+    limits: Limits,
     found: &mut Found,
     known: Known,
     i: ThreadNo,
     e: EdgeNo,
 ) -> Result<Step, AllocError>
     requires run { IsRun program.now sets.now found.old }
-    requires there { Contains found.old.facts known.fact }
+    requires known { IsKnown found.old.facts known }
     requires from { IsFrom program.now i.0 e.0 (fact_of program.now known.fact) }
-    ensures { IfOk result (IsStep program.now sets.now found.old found.new (OwnIsSettled program.now sets.now i.0 e.0 (fact_of program.now known.fact))) }
+    requires looked { AreLookedAt program.now sets.now found.old (place_in_run (Own known.id.0 e.0)) }
+    ensures { IfOk result (IsStep program.now sets.now limits found.old found.new (place_in_run (Own known.id.0 e.0) + 1) (OwnIsSettled program.now sets.now i.0 e.0 (fact_of program.now known.fact))) }
 {
     let to = edge_at(program, i, e).to;
     let home = number(program, Home::State(i, to));
     let first = as_premise(sets, known)?;
     let instance = Instance::Own(known.id, e);
     add(
-        alloc,
         program,
         sets,
+        limits,
         found,
         home,
         instance,
@@ -113,26 +118,27 @@ fn own_step(
 
 /// That step as the other threads see it.
 fn guarantee(
-    alloc: Global,
     program: &Program,
     sets: &Sets,
+    limits: Limits,
     found: &mut Found,
     known: Known,
     i: ThreadNo,
     e: EdgeNo,
 ) -> Result<Step, AllocError>
     requires run { IsRun program.now sets.now found.old }
-    requires there { Contains found.old.facts known.fact }
+    requires known { IsKnown found.old.facts known }
     requires from { IsFrom program.now i.0 e.0 (fact_of program.now known.fact) }
-    ensures { IfOk result (IsStep program.now sets.now found.old found.new (GuarIsSettled program.now sets.now i.0 e.0 (fact_of program.now known.fact))) }
+    requires looked { AreLookedAt program.now sets.now found.old (place_in_run (Guar known.id.0 e.0)) }
+    ensures { IfOk result (IsStep program.now sets.now limits found.old found.new (place_in_run (Guar known.id.0 e.0) + 1) (GuarIsSettled program.now sets.now i.0 e.0 (fact_of program.now known.fact))) }
 {
     let home = number(program, Home::Env(i, e));
     let first = as_premise(sets, known)?;
     let instance = Instance::Guar(known.id, e);
     add(
-        alloc,
         program,
         sets,
+        limits,
         found,
         home,
         instance,
@@ -142,51 +148,53 @@ fn guarantee(
 
 /// The steps of a fact at a location by an edge of its thread, where that leaves the location.
 fn edge_steps(
-    alloc: Global,
     program: &Program,
     sets: &Sets,
+    limits: Limits,
     found: &mut Found,
     known: Known,
     at: (ThreadNo, Loc),
     e: EdgeNo,
 ) -> Result<Step, AllocError>
     requires run { IsRun program.now sets.now found.old }
-    requires there { Contains found.old.facts known.fact }
+    requires known { IsKnown found.old.facts known }
     requires at { (fact_of program.now known.fact).home ≡ State at.0.0 at.1.0 }
     requires edge { HasEdge program.now at.0.0 e.0 }
-    ensures { IfOk result (IsStep program.now sets.now found.old found.new (EdgeIsSettled program.now sets.now at.0.0 e.0 (fact_of program.now known.fact))) }
+    requires looked { AreLookedAt program.now sets.now found.old (place_in_run (Own known.id.0 e.0)) }
+    ensures { IfOk result (IsStep program.now sets.now limits found.old found.new (place_in_run (Guar known.id.0 e.0) + 1) (EdgeIsSettled program.now sets.now at.0.0 e.0 (fact_of program.now known.fact))) }
 {
     let (i, l) = at;
     if edge_at(program, i, e).from != l {
         return Ok(Step::Done);
     }
-    let own = own_step(alloc, program, sets, found, known, i, e)?;
+    let own = own_step(program, sets, limits, found, known, i, e)?;
     match own {
-        Step::Left => Ok(Step::Left),
-        Step::Done => guarantee(alloc, program, sets, found, known, i, e),
+        Step::Stopped(ending) => Ok(Step::Stopped(ending)),
+        Step::Done => guarantee(program, sets, limits, found, known, i, e),
     }
 }
 
 /// The steps of a fact at a location by all edges that leave it.
 fn steps_from(
-    alloc: Global,
     program: &Program,
     sets: &Sets,
+    limits: Limits,
     found: &mut Found,
     known: Known,
     at: (ThreadNo, Loc),
 ) -> Result<Step, AllocError>
     requires run { IsRun program.now sets.now found.old }
-    requires there { Contains found.old.facts known.fact }
+    requires known { IsKnown found.old.facts known }
     requires at { (fact_of program.now known.fact).home ≡ State at.0.0 at.1.0 }
     requires thread { IsSome (numbered program.now.threads at.0.0) }
-    ensures { IfOk result (IsStep program.now sets.now found.old found.new (OwnAreSettled program.now sets.now (fact_of program.now known.fact))) }
+    requires looked { AreLookedAt program.now sets.now found.old (turn known.id.0 0) }
+    ensures { IfOk result (IsStep program.now sets.now limits found.old found.new (turn known.id.0 first_pair) (OwnAreSettled program.now sets.now (fact_of program.now known.fact))) }
 {
     let edges = program.edges(at.0).len() as u32;
     for e in 0..edges {
-        let step = edge_steps(alloc, program, sets, found, known, at, EdgeNo(e + 1))?;
+        let step = edge_steps(program, sets, limits, found, known, at, EdgeNo(e + 1))?;
         match step {
-            Step::Left => return Ok(Step::Left),
+            Step::Stopped(ending) => return Ok(Step::Stopped(ending)),
             Step::Done => {}
         }
     }
@@ -195,35 +203,37 @@ fn steps_from(
 
 /// All steps of a fact's own thread from it.
 pub(crate) fn own_steps(
-    alloc: Global,
     program: &Program,
     sets: &Sets,
+    limits: Limits,
     found: &mut Found,
     known: Known,
 ) -> Result<Step, AllocError>
     requires run { IsRun program.now sets.now found.old }
-    requires there { Contains found.old.facts known.fact }
-    ensures { IfOk result (IsStep program.now sets.now found.old found.new (OwnAreSettled program.now sets.now (fact_of program.now known.fact))) }
+    requires known { IsKnown found.old.facts known }
+    requires looked { AreLookedAt program.now sets.now found.old (turn known.id.0 0) }
+    ensures { IfOk result (IsStep program.now sets.now limits found.old found.new (turn known.id.0 first_pair) (OwnAreSettled program.now sets.now (fact_of program.now known.fact))) }
 {
     match named(program, known.fact.home) {
-        Home::State(i, l) => steps_from(alloc, program, sets, found, known, (i, l)),
+        Home::State(i, l) => steps_from(program, sets, limits, found, known, (i, l)),
         Home::Env(..) => Ok(Step::Done),
     }
 }
 
 /// The step of another thread of which the second fact tells, where the first is at a location and the second tells of one.
 pub(crate) fn environment_step(
-    alloc: Global,
     program: &Program,
     sets: &Sets,
+    limits: Limits,
     found: &mut Found,
     one: Known,
     told: Known,
 ) -> Result<Step, AllocError>
     requires run { IsRun program.now sets.now found.old }
-    requires one { Contains found.old.facts one.fact }
-    requires told { Contains found.old.facts told.fact }
-    ensures { IfOk result (IsStep program.now sets.now found.old found.new (PairIsSettled program.now sets.now (fact_of program.now one.fact) (fact_of program.now told.fact))) }
+    requires one { IsKnown found.old.facts one }
+    requires told { IsKnown found.old.facts told }
+    requires looked { AreLookedAt program.now sets.now found.old (place_in_run (Environment one.id.0 told.id.0)) }
+    ensures { IfOk result (IsStep program.now sets.now limits found.old found.new (place_in_run (Environment one.id.0 told.id.0) + 1) (PairIsSettled program.now sets.now (fact_of program.now one.fact) (fact_of program.now told.fact))) }
 {
     if !tells_another(
         named(program, one.fact.home),
@@ -236,9 +246,9 @@ pub(crate) fn environment_step(
     let instance = Instance::Env(one.id, told.id);
     let premises = (Some(first), Some(second));
     add(
-        alloc,
         program,
         sets,
+        limits,
         found,
         one.fact.home,
         instance,

@@ -4,6 +4,7 @@ use Rattle.std.specs.List.{AllByRecursion, Contains}
 use Rattle.thr_base.specs.declared.names.RuleName.TheVariants.{Rg}
 use Rattle.thr_base.specs.declared.names.Instance.{Instance}
 use Rattle.thr_base.specs.declared.names.Fact.{Fact as StoredFact}
+use Rattle.thr_base.specs.declared.limits.Limits.{Limits}
 use Rattle.lin_rows.specs.Row.{Row}
 use Rattle.lin_rows.specs.System.{IsPoint}
 use Rattle.predicate_sets.specs.Sets.{set_at}
@@ -14,18 +15,24 @@ use Rattle.horn_rules.specs.Fact.{Fact}
 use Rattle.horn_rules.specs.Case.{Case, init_case}
 use Rattle.horn_rules.specs.Post.{IsFactOf}
 use Rattle.horn_rules.specs.Least.{IsDerivation}
+use Rattle.horn_rules.specs.Laws.{IsWord}
 use Rattle.horn_rules.specs.Stored.{fact_of, facts_of, sets_of, HasItsHome, AreStoredSetsOf}
-use Rattle.serial_fix.specs.Least.{LeastLeaves}
+use Rattle.serial_fix.specs.Least.{LeastLeaves, HasMoreFacts, HasMoreInstances, IsLeastAnswer}
 use Rattle.serial_fix.specs.inside.Cases.{IsCase, own_case, guar_case, env_case}
 use Rattle.serial_fix.specs.inside.Jobs.{IsJobCase, ArePremises}
 use Rattle.serial_fix.specs.inside.Found.{FoundFacts}
+use Rattle.serial_fix.specs.inside.Looked.{IsNumbered, AreLookedAt}
+use Rattle.serial_fix.specs.declared.fixpoint.LeastAnswer.{LeastAnswer}
 use Rattle.serial_fix.specs.declared.step.Step.{Step}
-use Rattle.serial_fix.specs.declared.step.Step.TheVariants.{Done, Left}
+use Rattle.serial_fix.specs.declared.step.Step.TheVariants.{Done, Stopped}
+use Rattle.serial_fix.specs.declared.step.Ending.{Ending}
+use Rattle.serial_fix.specs.declared.step.Ending.TheVariants.{Leaves as LeavesEnd, TooManyFacts as FactsEnd, TooManyJobs as JobsEnd}
 
 -- The home of the stored fact exists, and it holds only positions that are there.
 pub record IsStored (program : Program) (lists : List (List Row)) (stored : StoredFact) : Type 0 where
   pub has_home : HasItsHome program stored
   pub within : stored.held < 2 ^ length (set_at lists stored.home.0)
+  pub is_word : IsWord stored
 
 -- What is known of the facts that a run has found: each comes from those before it, and none stands there twice.
 pub record IsRun (program : Program) (lists : List (List Row)) (found : FoundFacts) : Type 0 where
@@ -55,11 +62,28 @@ pub record IsInstance (program : Program) (lists : List (List Row)) (found : Lis
   pub stand : AllByRecursion (Contains (facts_of program found)) premises
   pub first_is : ArePremises program first
   pub second_is : ArePremises program second
+  pub first_at : IsNumbered found first
+  pub second_at : IsNumbered found second
 
--- What a step leaves: a run that has gone on, and whatever else it says of the facts; or a system that the solver leaves.
-abbrev pub IsStep : Program → List (List Row) → FoundFacts → FoundFacts → (List StoredFact → Type 0) → Step → Type 0
-IsStep program lists old new Says Done = IsRun program lists new × Extends old.facts new.facts × Says new.facts
-IsStep program lists old new Says Left = LeastLeaves program lists
+-- Why a run ends early: the solver leaves a system, or a limit is too low.
+abbrev pub IsEnding : Program → List (List Row) → Limits → Ending → Type 0
+IsEnding program lists limits LeavesEnd = LeastLeaves program lists
+IsEnding program lists limits FactsEnd = HasMoreFacts program lists limits.facts
+IsEnding program lists limits JobsEnd = HasMoreInstances program lists limits.jobs
+
+-- The answer says why a run ends early.
+abbrev pub AnswersEarly : Ending → LeastAnswer → Type 0
+AnswersEarly ending answer = (program : Program) (lists : List (List Row)) (limits : Limits) → IsEnding program lists limits ending → IsLeastAnswer program lists limits answer
+
+-- What the post of an instance leaves: a run that has gone on with as many jobs, and whatever else it says of the facts; or the run ends.
+abbrev pub IsPosted : Program → List (List Row) → Limits → FoundFacts → FoundFacts → (List StoredFact → Type 0) → Step → Type 0
+IsPosted program lists limits old new Says Done = IsRun program lists new × Extends old.facts new.facts × Says new.facts × (new.jobs ≡ old.jobs)
+IsPosted program lists limits old new Says (Stopped ending) = IsEnding program lists limits ending
+
+-- What a step leaves: a run that has gone on up to this place, and whatever else it says of the facts; or the run ends.
+abbrev pub IsStep : Program → List (List Row) → Limits → FoundFacts → FoundFacts → ℕ → (List StoredFact → Type 0) → Step → Type 0
+IsStep program lists limits old new upto Says Done = IsRun program lists new × Extends old.facts new.facts × Says new.facts × AreLookedAt program lists new upto
+IsStep program lists limits old new upto Says (Stopped ending) = IsEnding program lists limits ending
 
 -- ---- what is settled, kind by kind
 

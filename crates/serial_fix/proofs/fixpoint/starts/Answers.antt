@@ -1,3 +1,5 @@
+use Rattle.std.proofs.Common.{arith}
+use Rattle.serial_fix.proofs.Looked.{looked-later}
 use Rattle.serial_fix.proofs.Steps.{Extends-same}
 use Rattle.serial_fix.proofs.Rounds.{Extends-trans, starts-none, starts-more, starts-all, thread-here}
 use Rattle.serial_fix.proofs.fixpoint.starts.Goals as goal
@@ -7,6 +9,7 @@ loop-i-init c = record {
   run = c.requires.run;
   on = Extends-same c.args.found.now.facts;
   done = starts-none c.args.program.now c.args.sets.now c.args.found.now.facts;
+  looked = c.requires.looked;
 }
 
 pub start-requires-clause-run : goal.start-requires-clause-run
@@ -22,6 +25,7 @@ loop-i-preserved c =
       run = done.0;
       on = Extends-trans c.args.found.now.facts c.loop-i.found.facts c.start.new.found.facts c.loop-i.invariant.on done.1;
       done = starts-more c.args.program.now c.args.sets.now c.loop-i.i c.loop-i.found.facts c.start.new.found.facts done.1 c.loop-i.invariant.done done.2;
+      looked = looked-later c.args.program.now c.args.sets.now c.start.new.found _ _ done.3 (omega arith);
     }
 
 pub returns : goal.returns
@@ -29,4 +33,5 @@ returns c = (
   c.loop-i.invariant.run,
   c.loop-i.invariant.on,
   starts-all c.args.program.now c.args.sets.now c.loop-i.i c.args.threads c.loop-i.found.facts c.requires.threads c.loop-i-test.false c.loop-i.invariant.done,
+  looked-later c.args.program.now c.args.sets.now c.loop-i.found _ _ c.loop-i.invariant.looked (omega arith),
 )

@@ -12,6 +12,6 @@ add-requires-clause-instance c = start-instance c.args.program.now c.args.sets.n
 
 pub returns : goal.returns
 returns c =
-    if-step c.args.program.now c.args.sets.now c.args.found.now c.add.new.found
+    if-step c.args.program.now c.args.sets.now c.args.limits c.args.found.now c.add.new.found _
     (InstanceIsSettled c.args.program.now c.args.sets.now (Init c.args.i) None None c.number-home.result.0) (StartIsSettled c.args.program.now c.args.sets.now c.args.i.0) c.add.result c.add.ensures
     (start-settled c.args.program.now c.args.sets.now c.add.new.found.facts c.args.i c.number-home.result.0 c.requires.thread c.number-home.ensures)
