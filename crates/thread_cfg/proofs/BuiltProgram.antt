@@ -1,5 +1,5 @@
 -- What is found of all threads makes the program of the text.
-use Rattle.std.proofs.Common.{◌≡◌, List, [], length, map, flat_map, Option, None, sym, subst, ap, ◌∙◌}
+use Rattle.std.proofs.Common.{◌≡◌, List, [], length, map, Option, None, sym, subst, ap, ◌∙◌}
 use Rattle.thr_base.specs.declared.stops.Refusal.{Refusal}
 use Rattle.c_tree.specs.Plain as plain
 use Rattle.c_check.specs.declared.plan.Plan.{Plan}
@@ -26,7 +26,7 @@ pub built : (tree : plain.Tree) (plan : Plan) (columns : List Column) (graphs : 
 built tree plan columns graphs refusal known found none made =
     let refused : refusals_of tree ≡ [] = first_of-none (refusals_of tree) (sym found.refusal_is ∙ none) in
     let same : stored.program_of columns graphs ≡ program_of tree =
-        λ j. record { columns = (made ∙ ap (map program_column) known.plan_is.columns_are) j; threads = found.graphs_are refused j } in
+    λ j. record { columns = (made ∙ ap (map program_column) known.plan_is.columns_are) j; threads = found.graphs_are refused j } in
     record {
       none_refused = refused;
       program_is = same;

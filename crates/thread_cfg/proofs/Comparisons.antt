@@ -1,5 +1,5 @@
 -- What a mark says of two numbers is that one of the relations of its true side holds, or else one of those of its false side.
-use Rattle.std.proofs.Common.{◌≡◌, ◌⊎◌, ◌↔◌, ℤ, Bool, true, false, not, List, [], ◌∷◌, MatchBool, inl, inr, arith, refl, Decides, sym, int_eq, int_lt, int_le, true≢false}
+use Rattle.std.proofs.Common.{◌≡◌, ◌⊎◌, ℤ, Bool, true, false, not, List, [], ◌∷◌, MatchBool, inl, inr, arith, refl, sym, int_eq, int_lt, true≢false}
 use Rattle.std.proofs.lemmas.Int.{ints}
 use Rattle.std.proofs.lemmas.Bool.Decides.{Decides-int_eq, not_from_Decides}
 use Rattle.c_check.specs.declared.operation.Mark.{Mark}
@@ -40,7 +40,7 @@ compared-exact mark.Unequal x y b e = by (int_eq x y) b refl e
   where
     by : (c b : Bool) → int_eq x y ≡ c → not c ≡ b
         → MatchBool b (SomeHolds (when_true mark.Unequal) x y × ¬ SomeHolds (when_false mark.Unequal) x y)
-          (SomeHolds (when_false mark.Unequal) x y × ¬ SomeHolds (when_true mark.Unequal) x y)
+        (SomeHolds (when_false mark.Unequal) x y × ¬ SomeHolds (when_true mark.Unequal) x y)
     by true true p q = absurd (true≢false (sym q))
     by true false p q = let same : x ≡ y = (Decides-int_eq x y).0 p in (inl same, beside x y same)
     by false true p q = let differ : ¬ (x ≡ y) = not_from_Decides (int_eq x y) (Decides-int_eq x y) p in (apart x y differ, only x y differ)

@@ -1,13 +1,13 @@
 -- The actions of statements match what is left at their locations.
-use Rattle.std.proofs.Common.{◌≡◌, ℕ, ◌+◌, List, [], ◌∷◌, ◌++◌, length, Option, Some, None, refl, sym, subst, arith}
-use Rattle.c_check.specs.Plan.{Condition, Stmt, Stmts}
-use Rattle.c_check.specs.Items.{Grain, Item, Items, Side, items, joined, one, stmt_items}
-use Rattle.thread_cfg.specs.Source.{Frame, Standing, behind_loop, read_as}
+use Rattle.std.proofs.Common.{◌≡◌, ℕ, ◌+◌, ◌++◌, Some, None, refl, subst}
+use Rattle.c_check.specs.Plan.{Stmt, Stmts}
+use Rattle.c_check.specs.Items.{Grain, Item, Items, Side, items, joined, one}
+use Rattle.thread_cfg.specs.Source.{Standing, behind_loop, read_as}
 use Rattle.thread_cfg.specs.Path.{Event}
 use Rattle.thread_cfg.specs.Action.{Around, actions, assign_accesses, assign_reads, condition_actions, condition_size, entry, over_reads, simple, size, stmt_actions, stmt_size}
 use Rattle.thread_cfg.specs.SameSteps.{Lefts}
 use Rattle.thread_cfg.specs.inside.Left.{again, condition_left, left, round, stmt_left}
-use Rattle.thread_cfg.proofs.Matching.{AllMatch, Lands, StandsFrom, any-matches, assign-matches, block-matches, jump-matches, lock-matches, match-++, stands-behind, stands-front, unlock-matches}
+use Rattle.thread_cfg.proofs.Matching.{AllMatch, StandsFrom, any-matches, assign-matches, block-matches, jump-matches, lock-matches, match-++, stands-behind, stands-front, unlock-matches}
 use Rattle.thread_cfg.proofs.Entries.{behind-items, condition-length, entry-stands, joined-joined, loop-stands, stmt-length, stmts-length}
 use Rattle.thread_cfg.proofs.Tests.{condition-match, reads-match, test-match}
 
@@ -24,8 +24,8 @@ mutual
       → StandsFrom lefts at (stmt_left around.temporary s rest) → AllMatch around.frame lefts (stmt_left around.temporary s rest) (stmt_actions around at next s)
   stmt-match lefts around at next (Stmt.Assign from place v e) rest k h =
       reads-match around.frame lefts from (assign_reads around.temporary v e) at (Items.Then (Item.Assign v (over_reads around.temporary (assign_accesses v e) e)) rest)
-        (simple from (Event.Sets place v (over_reads around.temporary (assign_accesses v e) e)) next) refl h
-        (assign-matches around.frame lefts from place v (over_reads around.temporary (assign_accesses v e) e) next rest k.next_stands)
+      (simple from (Event.Sets place v (over_reads around.temporary (assign_accesses v e) e)) next) refl h
+      (assign-matches around.frame lefts from place v (over_reads around.temporary (assign_accesses v e) e) next rest k.next_stands)
   stmt-match lefts around at next (Stmt.AssignAny from v) rest k h = (any-matches around.frame lefts from v next rest k.next_stands, tt)
   stmt-match lefts around at next (Stmt.If from c ts es) rest k h =
       let temporary = around.temporary in
@@ -33,18 +33,18 @@ mutual
       let t_at = at + condition_size c in
       let e_at = at + condition_size c + size ts in
       let both = subst (λ n. StandsFrom lefts (at + n) (left temporary ts rest ++ left temporary es rest))
-          (condition-length temporary c (Side.Goes (items (Grain.Cut temporary) ts)) (Side.Goes (items (Grain.Cut temporary) es)) rest)
-          (stands-behind lefts at cs (left temporary ts rest ++ left temporary es rest) h) in
+      (condition-length temporary c (Side.Goes (items (Grain.Cut temporary) ts)) (Side.Goes (items (Grain.Cut temporary) es)) rest)
+      (stands-behind lefts at cs (left temporary ts rest ++ left temporary es rest) h) in
       let t_h = stands-front lefts t_at (left temporary ts rest) (left temporary es rest) both in
       let e_h = subst (λ n. StandsFrom lefts (t_at + n) (left temporary es rest)) (stmts-length temporary ts rest)
-          (stands-behind lefts t_at (left temporary ts rest) (left temporary es rest) both) in
+      (stands-behind lefts t_at (left temporary ts rest) (left temporary es rest) both) in
       match-++ around.frame lefts cs (left temporary ts rest ++ left temporary es rest) (condition_actions temporary at (entry ts t_at next) (entry es e_at next) c)
-        (actions around t_at next ts ++ actions around e_at next es)
-        (condition-match around.frame lefts temporary at (entry ts t_at next) (entry es e_at next) c (items (Grain.Cut temporary) ts) (items (Grain.Cut temporary) es) rest
-          (entry-stands lefts temporary t_at next ts rest t_h k.next_stands) (entry-stands lefts temporary e_at next es rest e_h k.next_stands)
-          (stands-front lefts at cs (left temporary ts rest ++ left temporary es rest) h))
-        (match-++ around.frame lefts (left temporary ts rest) (left temporary es rest) (actions around t_at next ts) (actions around e_at next es)
-          (stmts-match lefts around t_at next ts rest k t_h) (stmts-match lefts around e_at next es rest k e_h))
+      (actions around t_at next ts ++ actions around e_at next es)
+      (condition-match around.frame lefts temporary at (entry ts t_at next) (entry es e_at next) c (items (Grain.Cut temporary) ts) (items (Grain.Cut temporary) es) rest
+      (entry-stands lefts temporary t_at next ts rest t_h k.next_stands) (entry-stands lefts temporary e_at next es rest e_h k.next_stands)
+      (stands-front lefts at cs (left temporary ts rest ++ left temporary es rest) h))
+      (match-++ around.frame lefts (left temporary ts rest) (left temporary es rest) (actions around t_at next ts) (actions around e_at next es)
+      (stmts-match lefts around t_at next ts rest k t_h) (stmts-match lefts around e_at next es rest k e_h))
   stmt-match lefts around at next (Stmt.Loop from c body last) rest k h =
       let temporary = around.temporary in
       let mark = Items.Then (again temporary c body last) rest in
@@ -55,7 +55,7 @@ mutual
       let l_at = at + condition_size c + size body in
       let inside = record around { out = next } in
       let both = subst (λ n. StandsFrom lefts (at + n) (bs ++ ls)) (condition-length temporary c (Side.Goes (round temporary c body last)) (Side.Goes Items.End) rest)
-          (stands-behind lefts at cs (bs ++ ls) h) in
+      (stands-behind lefts at cs (bs ++ ls) h) in
       let c_h = stands-front lefts at cs (bs ++ ls) h in
       let b_h = stands-front lefts b_at bs ls both in
       let l_h = subst (λ n. StandsFrom lefts (b_at + n) ls) (stmts-length temporary body (joined (items (Grain.Cut temporary) last) mark)) (stands-behind lefts b_at bs ls both) in
@@ -63,16 +63,18 @@ mutual
       let last_stands = entry-stands lefts temporary l_at at last mark l_h round_stands in
       let body_stands = entry-stands lefts temporary b_at (entry last l_at at) body (joined (items (Grain.Cut temporary) last) mark) b_h last_stands in
       match-++ around.frame lefts cs (bs ++ ls) (condition_actions temporary at (entry body b_at (entry last l_at at)) next c)
-        (actions inside b_at (entry last l_at at) body ++ actions inside l_at at last)
-        (condition-match around.frame lefts temporary at (entry body b_at (entry last l_at at)) next c (round temporary c body last) Items.End rest
-          (rw (joined-joined (items (Grain.Cut temporary) body) (joined (items (Grain.Cut temporary) last) (one (again temporary c body last))) rest,
-            joined-joined (items (Grain.Cut temporary) last) (one (again temporary c body last)) rest) body_stands)
-          k.next_stands c_h)
-        (match-++ around.frame lefts bs ls (actions inside b_at (entry last l_at at) body) (actions inside l_at at last)
-          (stmts-match lefts inside b_at (entry last l_at at) body (joined (items (Grain.Cut temporary) last) mark)
-            (record { next_stands = last_stands; out_stands = rw (behind-items temporary last mark) k.next_stands; exit_stands = k.exit_stands; fails = k.fails }) b_h)
-          (stmts-match lefts inside l_at at last mark
-            (record { next_stands = round_stands; out_stands = k.next_stands; exit_stands = k.exit_stands; fails = k.fails }) l_h))
+      (actions inside b_at (entry last l_at at) body ++ actions inside l_at at last)
+      (condition-match around.frame lefts temporary at (entry body b_at (entry last l_at at)) next c (round temporary c body last) Items.End rest
+      (rw (
+        joined-joined (items (Grain.Cut temporary) body) (joined (items (Grain.Cut temporary) last) (one (again temporary c body last))) rest,
+        joined-joined (items (Grain.Cut temporary) last) (one (again temporary c body last)) rest,
+      ) body_stands)
+      k.next_stands c_h)
+      (match-++ around.frame lefts bs ls (actions inside b_at (entry last l_at at) body) (actions inside l_at at last)
+      (stmts-match lefts inside b_at (entry last l_at at) body (joined (items (Grain.Cut temporary) last) mark)
+      (record { next_stands = last_stands; out_stands = rw (behind-items temporary last mark) k.next_stands; exit_stands = k.exit_stands; fails = k.fails }) b_h)
+      (stmts-match lefts inside l_at at last mark
+      (record { next_stands = round_stands; out_stands = k.next_stands; exit_stands = k.exit_stands; fails = k.fails }) l_h))
   stmt-match lefts around at next (Stmt.Break from) rest k h =
       (jump-matches around.frame lefts from around.out Item.Break rest (behind_loop rest) refl k.out_stands (λ values after standing d. (d.0, d.1)) (λ values. (refl, refl)), tt)
   stmt-match lefts around at next (Stmt.Exit from) rest k h =
@@ -93,14 +95,14 @@ mutual
       let behind = joined (items (Grain.Cut temporary) more) rest in
       let m_at = at + stmt_size s in
       let m_h = subst (λ n. StandsFrom lefts (at + n) (left temporary more rest)) (stmt-length temporary s behind)
-          (stands-behind lefts at (stmt_left temporary s behind) (left temporary more rest) h) in
+      (stands-behind lefts at (stmt_left temporary s behind) (left temporary more rest) h) in
       match-++ around.frame lefts (stmt_left temporary s behind) (left temporary more rest) (stmt_actions around at (entry more m_at next) s) (actions around m_at next more)
-        (stmt-match lefts around at (entry more m_at next) s behind
-          (record {
-            next_stands = entry-stands lefts temporary m_at next more rest m_h k.next_stands;
-            out_stands = rw (behind-items temporary more rest) k.out_stands;
-            exit_stands = k.exit_stands;
-            fails = k.fails;
-          })
-          (stands-front lefts at (stmt_left temporary s behind) (left temporary more rest) h))
-        (stmts-match lefts around m_at next more rest k m_h)
+      (stmt-match lefts around at (entry more m_at next) s behind
+      (record {
+        next_stands = entry-stands lefts temporary m_at next more rest m_h k.next_stands;
+        out_stands = rw (behind-items temporary more rest) k.out_stands;
+        exit_stands = k.exit_stands;
+        fails = k.fails;
+      })
+      (stands-front lefts at (stmt_left temporary s behind) (left temporary more rest) h))
+      (stmts-match lefts around m_at next more rest k m_h)

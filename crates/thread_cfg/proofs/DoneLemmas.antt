@@ -1,12 +1,12 @@
 -- Parts in turn, from the first one on.
-use Rattle.std.proofs.Common.{◌≡◌, ℕ, suc, ◌+◌, ◌<◌, ◌^◌, Bool, true, false, List, [], ◌∷◌, ◌++◌, get_or, length, map, reverse, take, refl, sym, ap, ap₂, subst, ◌∙◌, arith}
+use Rattle.std.proofs.Common.{◌≡◌, ℕ, ◌+◌, ◌<◌, ◌^◌, List, [], ◌∷◌, ◌++◌, get_or, length, map, reverse, take, refl, sym, ap, subst, ◌∙◌, arith}
 use Rattle.std.proofs.lemmas.List.{append-nil, append_assoc, length-append, map-append, reverse-append, take_more}
 use Rattle.c_check.specs.Items.{shared_in}
 use Rattle.thread_cfg.specs.declared.part.Part.{Part as StoredPart}
 use Rattle.thread_cfg.specs.declared.running.Running.{Running}
 use Rattle.thread_cfg.specs.declared.thread.Found.{Found}
 use Rattle.thread_cfg.specs.Source.{Frame}
-use Rattle.thread_cfg.specs.Action.{Action, assign_accesses, assign_reads, compare_accesses, compare_reads, read_actions}
+use Rattle.thread_cfg.specs.Action.{assign_accesses, assign_reads, compare_accesses, compare_reads, read_actions}
 use Rattle.thread_cfg.specs.inside.Adds.{AddsActions, AreDone, AreLeft, AreWithin, actions_of_part, actions_of_parts}
 use Rattle.thread_cfg.specs.inside.Meant.{frame_of}
 use Rattle.thread_cfg.specs.inside.Parts.{Part, Written, part_actions, part_size, parts_size, written}

@@ -1,10 +1,8 @@
 -- Where tests, statements and reads begin: with what is left there, read as it is read.
-use Rattle.std.proofs.Common.{◌≡◌, ℕ, ◌+◌, Bool, true, false, List, [], ◌∷◌, ◌++◌, length, suc, Some, None, refl, sym, ap, subst, arith, length-append}
+use Rattle.std.proofs.Common.{◌≡◌, ℕ, ◌+◌, Bool, true, false, List, [], ◌∷◌, ◌++◌, length, suc, Some, refl, sym, ap, subst, arith, length-append}
 use Rattle.c_check.specs.declared.meaning.Variable.{Variable}
-use Rattle.c_check.specs.declared.meaning.Variable.TheVariants as variable
-use Rattle.c_check.specs.declared.operation.Mark.{Mark}
 use Rattle.c_check.specs.Plan.{Arithmetic, Test, Condition, Stmt, Stmts}
-use Rattle.c_check.specs.Items.{Grain, Guard, Item, Items, Side, branch, few, guard, items, joined, one, read_items, reads, shared_in, stmt_items, test_guard, unrolled}
+use Rattle.c_check.specs.Items.{Grain, Guard, Item, Items, Side, branch, few, guard, items, joined, one, read_items, reads, shared_in, stmt_items, test_guard}
 use Rattle.thread_cfg.specs.Source.{Standing, behind_loop, read_as}
 use Rattle.thread_cfg.specs.Action.{assign_accesses, assign_reads, compare_accesses, compare_reads, condition_size, over_reads, entry, reads_before, size, stmt_size, test_size}
 use Rattle.thread_cfg.specs.SameSteps.{Lefts}
@@ -48,10 +46,10 @@ begins-test temporary (Test.Compare from m a b) ts fs rest = by (few (length (sh
 begins-test temporary (Test.Not u) ts fs rest = begins-test temporary u fs ts rest
 begins-test temporary (Test.And u v) ts fs rest =
     begins-++ (test_left temporary u (Side.Goes (branch (test_guard (Grain.Cut temporary) v) ts fs)) fs rest) (test_left temporary v ts fs rest) _
-      (begins-test temporary u (Side.Goes (branch (test_guard (Grain.Cut temporary) v) ts fs)) fs rest)
+    (begins-test temporary u (Side.Goes (branch (test_guard (Grain.Cut temporary) v) ts fs)) fs rest)
 begins-test temporary (Test.Or u v) ts fs rest =
     begins-++ (test_left temporary u ts (Side.Goes (branch (test_guard (Grain.Cut temporary) v) ts fs)) rest) (test_left temporary v ts fs rest) _
-      (begins-test temporary u ts (Side.Goes (branch (test_guard (Grain.Cut temporary) v) ts fs)) rest)
+    (begins-test temporary u ts (Side.Goes (branch (test_guard (Grain.Cut temporary) v) ts fs)) rest)
 
 pub begins-condition : (temporary : ℕ) (c : Condition) (ts fs : Side) (rest : Items)
     → Begins (condition_left temporary c ts fs rest) (read_as (joined (branch (guard (Grain.Cut temporary) c) ts fs) rest))
@@ -77,11 +75,11 @@ begins-stmt temporary (Stmt.Assign from at v e) rest = by (few (assign_accesses 
 begins-stmt temporary (Stmt.AssignAny from v) rest = record { more = []; begins = refl }
 begins-stmt temporary (Stmt.If from c ts es) rest =
     begins-++ (condition_left temporary c (Side.Goes (items (Grain.Cut temporary) ts)) (Side.Goes (items (Grain.Cut temporary) es)) rest) _ _
-      (begins-condition temporary c (Side.Goes (items (Grain.Cut temporary) ts)) (Side.Goes (items (Grain.Cut temporary) es)) rest)
+    (begins-condition temporary c (Side.Goes (items (Grain.Cut temporary) ts)) (Side.Goes (items (Grain.Cut temporary) es)) rest)
 begins-stmt temporary (Stmt.Loop from c body last) rest =
     begins-++ (condition_left temporary c (Side.Goes (round temporary c body last)) (Side.Goes Items.End) rest) _ _
-      (rw (read-branch (guard (Grain.Cut temporary) c) (Side.Goes (round temporary c body last)) (Side.Goes Items.End) rest)
-        at (begins-condition temporary c (Side.Goes (round temporary c body last)) (Side.Goes Items.End) rest))
+    (rw (read-branch (guard (Grain.Cut temporary) c) (Side.Goes (round temporary c body last)) (Side.Goes Items.End) rest)
+    at (begins-condition temporary c (Side.Goes (round temporary c body last)) (Side.Goes Items.End) rest))
 begins-stmt temporary (Stmt.Break from) rest = record { more = []; begins = refl }
 begins-stmt temporary (Stmt.Exit from) rest = record { more = []; begins = refl }
 begins-stmt temporary (Stmt.Lock from lock) rest = record { more = []; begins = refl }
@@ -107,8 +105,8 @@ pub loop-stands : (lefts : Lefts) (temporary at : ℕ) (c : Condition) (body las
     → lefts at ≡ Some (Standing.Doing (read_as (Items.Then (again temporary c body last) rest)))
 loop-stands lefts temporary at c body last rest h =
     rw (read-branch (guard (Grain.Cut temporary) c) (Side.Goes (round temporary c body last)) (Side.Goes Items.End) rest)
-      at (stands-first lefts at (condition_left temporary c (Side.Goes (round temporary c body last)) (Side.Goes Items.End) rest) _
-        (begins-condition temporary c (Side.Goes (round temporary c body last)) (Side.Goes Items.End) rest) h)
+    at (stands-first lefts at (condition_left temporary c (Side.Goes (round temporary c body last)) (Side.Goes Items.End) rest) _
+    (begins-condition temporary c (Side.Goes (round temporary c body last)) (Side.Goes Items.End) rest) h)
 
 -- statements are come to, or what is next where there are none
 pub entry-stands : (lefts : Lefts) (temporary at next : ℕ) (ss : Stmts) (rest : Items) → StandsFrom lefts at (left temporary ss rest)
@@ -116,8 +114,8 @@ pub entry-stands : (lefts : Lefts) (temporary at next : ℕ) (ss : Stmts) (rest 
 entry-stands lefts temporary at next Stmts.End rest h lands = lands
 entry-stands lefts temporary at next (Stmts.Then s more) rest h lands =
     rw (joined-joined (stmt_items (Grain.Cut temporary) s) (items (Grain.Cut temporary) more) rest)
-      (stands-first lefts at (left temporary (Stmts.Then s more) rest) _
-        (begins-++ (stmt_left temporary s (joined (items (Grain.Cut temporary) more) rest)) _ _ (begins-stmt temporary s (joined (items (Grain.Cut temporary) more) rest))) h)
+    (stands-first lefts at (left temporary (Stmts.Then s more) rest) _
+    (begins-++ (stmt_left temporary s (joined (items (Grain.Cut temporary) more) rest)) _ _ (begins-stmt temporary s (joined (items (Grain.Cut temporary) more) rest))) h)
 
 -- ---- sizes
 
@@ -166,14 +164,16 @@ mutual
       let t = stmts-length temporary ts rest in
       let e = stmts-length temporary es rest in
       rw (length-append (condition_left temporary c (Side.Goes (items (Grain.Cut temporary) ts)) (Side.Goes (items (Grain.Cut temporary) es)) rest), length-append (left temporary ts rest))
-        (omega (arith, one, t, e))
+      (omega (arith, one, t, e))
   stmt-length temporary (Stmt.Loop from c body last) rest =
       let one = condition-length temporary c (Side.Goes (round temporary c body last)) (Side.Goes Items.End) rest in
       let b = stmts-length temporary body (joined (items (Grain.Cut temporary) last) (Items.Then (again temporary c body last) rest)) in
       let l = stmts-length temporary last (Items.Then (again temporary c body last) rest) in
-      rw (length-append (condition_left temporary c (Side.Goes (round temporary c body last)) (Side.Goes Items.End) rest),
-          length-append (left temporary body (joined (items (Grain.Cut temporary) last) (Items.Then (again temporary c body last) rest))))
-        (omega (arith, one, b, l))
+      rw (
+        length-append (condition_left temporary c (Side.Goes (round temporary c body last)) (Side.Goes Items.End) rest),
+        length-append (left temporary body (joined (items (Grain.Cut temporary) last) (Items.Then (again temporary c body last) rest))),
+      )
+      (omega (arith, one, b, l))
   stmt-length temporary (Stmt.Break from) rest = refl
   stmt-length temporary (Stmt.Exit from) rest = refl
   stmt-length temporary (Stmt.Lock from lock) rest = refl
@@ -210,6 +210,7 @@ behind-assigned temporary v e from at rest = by (few (assign_accesses v e)) refl
     reads-behind : (rs : List (Variable × Variable)) (x : Arithmetic) → behind_loop (joined (read_items rs (one (Item.Assign v x))) rest) ≡ behind_loop rest
     reads-behind [] x = refl
     reads-behind (r ∷ rs) x = reads-behind rs x
+
     by : (c : Bool) → few (assign_accesses v e) ≡ c → behind_loop (joined (stmt_items (Grain.Cut temporary) (Stmt.Assign from at v e)) rest) ≡ behind_loop rest
     by true is = rw is refl
     by false is = rw is (reads-behind (reads temporary (shared_in e)) _)
@@ -232,4 +233,4 @@ pub behind-items : (temporary : ℕ) (ss : Stmts) (rest : Items) → behind_loop
 behind-items temporary Stmts.End rest = refl
 behind-items temporary (Stmts.Then s more) rest =
     rw (joined-joined (stmt_items (Grain.Cut temporary) s) (items (Grain.Cut temporary) more) rest, behind-stmt temporary s (joined (items (Grain.Cut temporary) more) rest))
-      (behind-items temporary more rest)
+    (behind-items temporary more rest)

@@ -1,7 +1,6 @@
 -- The paths that are found from behind are those of the statements, where these are few.
-use Rattle.std.proofs.Common.{◌≡◌, ℕ, zero, suc, ◌+◌, ◌<◌, ◌≤◌, nat_lt, Bool, true, false, List, [], ◌∷◌, ◌++◌, length, map, Option, Some, None, option_map, if◌then◌else◌, refl, sym, ap, ap₂, ◌∙◌, arith}
-use Rattle.std.specs.Prelude.{flat_map}
-use Rattle.std.proofs.lemmas.List.{append-nil, append_assoc, length-append, length-map, map-append}
+use Rattle.std.proofs.Common.{◌≡◌, ℕ, suc, ◌<◌, ◌≤◌, nat_lt, Bool, true, false, List, [], ◌∷◌, ◌++◌, length, map, Option, Some, None, refl, sym, ap, ap₂, ◌∙◌, arith}
+use Rattle.std.proofs.lemmas.List.{append-nil, length-append, length-map, map-append}
 use Rattle.thr_base.specs.Limits.{most_paths}
 use Rattle.c_check.specs.declared.operation.Mark.{Mark}
 use Rattle.c_check.specs.declared.operation.Mark.TheVariants as mark
@@ -13,7 +12,7 @@ use Rattle.c_check.specs.declared.instruction.Instruction.TheVariants as instruc
 use Rattle.c_check.specs.Plan.{Arithmetic, Test, Condition, Stmt, Stmts, code, postfix, stmt_code, stored_condition_of, test_postfix}
 use Rattle.thread_cfg.specs.declared.relation.Relation.{Relation}
 use Rattle.thread_cfg.specs.Path.{Event, Path, begun, block_paths, condition_paths, ended, paths, picked, stmt_paths, test_paths, when_false, when_true}
-use Rattle.thread_cfg.specs.inside.Few.{Branch, Branches, Going, Parting, WrittenEvent, WrittenPath, after, all_after, all_picked, bare, both, compared, condition_ways, event_written, few, going_start, gone, gone_all, parted, parted_all, path_written, required, taken, test_ways, where_few}
+use Rattle.thread_cfg.specs.inside.Few.{Branch, Branches, Going, Parting, WrittenEvent, WrittenPath, after, all_after, all_picked, both, compared, condition_ways, event_written, few, going_start, gone, gone_all, left_by, parted, parted_all, path_written, taken, test_ways, where_few}
 
 abbrev Ways : Type 0
 Ways = Option (List WrittenPath)
@@ -156,27 +155,30 @@ parting behind bs = record { behind = behind; branches = bs }
 
 -- a test, from its end to its beginning
 parted-postfix : (test : Test) (behind : Ways) (t f : Branch) (more : List Branches)
-    → parted_all (test_postfix test) (parting behind (branches t f ∷ more)) ≡ parting (tree_ways test (taken behind t) (taken behind f)) more
+    → parted_all (test_postfix test) (parting behind (branches t f ∷ more)) ≡ parting (tree_ways test (taken behind t) (taken (left_by behind t) f)) more
 parted-postfix (Test.Compare from m a b) behind t f more = refl
 parted-postfix (Test.Not u) behind t f more =
+    let left = left_by (left_by behind t) f in
     parted_all-append (test_postfix u) (test_operation.Not ∷ []) (parting behind (branches t f ∷ more))
-    ∙ parted-postfix u behind (Branch.Ways (taken behind f)) (Branch.Ways (taken behind t)) more
+    ∙ parted-postfix u left (Branch.Ways (taken (left_by behind t) f)) (Branch.Ways (taken behind t)) more
 parted-postfix (Test.And u v) behind t f more =
-    let x = taken behind t in let y = where_few x (taken behind f) in
-    let left = branches Branch.Behind (Branch.Ways y) in
-    let right = branches (Branch.Ways x) (Branch.Ways y) in
+    let left = left_by (left_by behind t) f in
+    let x = taken behind t in let y = where_few x (taken (left_by behind t) f) in
+    let first = branches Branch.Behind (Branch.Ways y) in
+    let second = branches (Branch.Ways x) (Branch.Ways y) in
     parted_all-append (test_postfix u ++ test_postfix v) (test_operation.And ∷ []) (parting behind (branches t f ∷ more))
-    ∙ parted_all-append (test_postfix u) (test_postfix v) (parting behind (right ∷ (left ∷ more)))
-    ∙ ap (parted_all (test_postfix u)) (parted-postfix v behind (Branch.Ways x) (Branch.Ways y) (left ∷ more))
+    ∙ parted_all-append (test_postfix u) (test_postfix v) (parting left (second ∷ (first ∷ more)))
+    ∙ ap (parted_all (test_postfix u)) (parted-postfix v left (Branch.Ways x) (Branch.Ways y) (first ∷ more))
     ∙ parted-postfix u (tree_ways v x y) Branch.Behind (Branch.Ways y) more
-    ∙ ap (λ w. parting w more) (where_few-and u v x (taken behind f))
+    ∙ ap (λ w. parting w more) (where_few-and u v x (taken (left_by behind t) f))
 parted-postfix (Test.Or u v) behind t f more =
-    let y = taken behind f in let x = where_few y (taken behind t) in
-    let left = branches (Branch.Ways x) Branch.Behind in
-    let right = branches (Branch.Ways x) (Branch.Ways y) in
+    let left = left_by (left_by behind t) f in
+    let y = taken (left_by behind t) f in let x = where_few y (taken behind t) in
+    let first = branches (Branch.Ways x) Branch.Behind in
+    let second = branches (Branch.Ways x) (Branch.Ways y) in
     parted_all-append (test_postfix u ++ test_postfix v) (test_operation.Or ∷ []) (parting behind (branches t f ∷ more))
-    ∙ parted_all-append (test_postfix u) (test_postfix v) (parting behind (right ∷ (left ∷ more)))
-    ∙ ap (parted_all (test_postfix u)) (parted-postfix v behind (Branch.Ways x) (Branch.Ways y) (left ∷ more))
+    ∙ parted_all-append (test_postfix u) (test_postfix v) (parting left (second ∷ (first ∷ more)))
+    ∙ ap (parted_all (test_postfix u)) (parted-postfix v left (Branch.Ways x) (Branch.Ways y) (first ∷ more))
     ∙ parted-postfix u (tree_ways v x y) (Branch.Ways x) Branch.Behind more
     ∙ ap (λ w. parting w more) (where_few-or u v (taken behind t) y)
 
@@ -205,17 +207,17 @@ mutual
   stmt-within (Stmt.If from c ts es) w opened more =
       let back = instruction.Else ∷ (code es ++ instruction.EndIf ∷ []) in
       ap (gone (instruction.If from (stored_condition_of c))) (
-        gone_all-append (code ts) back (going w opened (suc more))
-        ∙ ap (λ s. gone_all (code ts) (gone instruction.Else s)) (
-            gone_all-append (code es) (instruction.EndIf ∷ []) (going w opened (suc more)) ∙ stmts-within es w opened more)
-        ∙ stmts-within ts w opened more)
+      gone_all-append (code ts) back (going w opened (suc more))
+      ∙ ap (λ s. gone_all (code ts) (gone instruction.Else s)) (
+      gone_all-append (code es) (instruction.EndIf ∷ []) (going w opened (suc more)) ∙ stmts-within es w opened more)
+      ∙ stmts-within ts w opened more)
   stmt-within (Stmt.Loop from c body last) w opened more =
       let back = instruction.Last ∷ (code last ++ instruction.EndLoop ∷ []) in
       ap (gone (instruction.Loop from (stored_condition_of c))) (
-        gone_all-append (code body) back (going w opened (suc more))
-        ∙ ap (λ s. gone_all (code body) (gone instruction.Last s)) (
-            gone_all-append (code last) (instruction.EndLoop ∷ []) (going w opened (suc more)) ∙ stmts-within last w opened (suc more))
-        ∙ stmts-within body w opened (suc more))
+      gone_all-append (code body) back (going w opened (suc more))
+      ∙ ap (λ s. gone_all (code body) (gone instruction.Last s)) (
+      gone_all-append (code last) (instruction.EndLoop ∷ []) (going w opened (suc more)) ∙ stmts-within last w opened (suc more))
+      ∙ stmts-within body w opened (suc more))
   stmt-within (Stmt.Break from) w opened more = refl
   stmt-within (Stmt.Exit from) w opened more = refl
   stmt-within (Stmt.Lock from lock) w opened more = refl
@@ -224,7 +226,7 @@ mutual
   stmt-within (Stmt.Assume from t) w opened more = refl
   stmt-within (Stmt.Atomic from inner) w opened more =
       ap (gone (instruction.Atomic from)) (
-        gone_all-append (code inner) (instruction.EndAtomic ∷ []) (going w opened (suc more)) ∙ stmts-within inner w opened (suc more))
+      gone_all-append (code inner) (instruction.EndAtomic ∷ []) (going w opened (suc more)) ∙ stmts-within inner w opened (suc more))
 
   stmts-within : (ss : Stmts) (w : Ways) (opened : List Ways) (more : ℕ) → gone_all (code ss) (going w opened (suc more)) ≡ going w opened (suc more)
   stmts-within Stmts.End w opened more = refl
@@ -239,18 +241,18 @@ mutual
   stmt-gone (Stmt.If from c ts es) ps opened =
       let back = instruction.Else ∷ (code es ++ instruction.EndIf ∷ []) in
       ap (gone (instruction.If from (stored_condition_of c))) (
-        gone_all-append (code ts) back (going (ways ps) opened 0)
-        ∙ ap (λ s. gone_all (code ts) (gone instruction.Else s)) (
-            gone_all-append (code es) (instruction.EndIf ∷ []) (going (ways ps) opened 0) ∙ stmts-gone es ps (ways ps ∷ opened))
-        ∙ stmts-gone ts ps (ways (paths es ps) ∷ opened))
+      gone_all-append (code ts) back (going (ways ps) opened 0)
+      ∙ ap (λ s. gone_all (code ts) (gone instruction.Else s)) (
+      gone_all-append (code es) (instruction.EndIf ∷ []) (going (ways ps) opened 0) ∙ stmts-gone es ps (ways ps ∷ opened))
+      ∙ stmts-gone ts ps (ways (paths es ps) ∷ opened))
       ∙ ap (λ w. going w opened 0) (ways-condition c (paths ts ps) (paths es ps))
   stmt-gone (Stmt.Loop from c body last) ps opened =
       let back = instruction.Last ∷ (code last ++ instruction.EndLoop ∷ []) in
       ap (gone (instruction.Loop from (stored_condition_of c))) (
-        gone_all-append (code body) back (going (ways ps) opened 0)
-        ∙ ap (λ s. gone_all (code body) (gone instruction.Last s)) (
-            gone_all-append (code last) (instruction.EndLoop ∷ []) (going (ways ps) opened 0) ∙ stmts-within last (ways ps) opened 0)
-        ∙ stmts-within body (ways ps) opened 0)
+      gone_all-append (code body) back (going (ways ps) opened 0)
+      ∙ ap (λ s. gone_all (code body) (gone instruction.Last s)) (
+      gone_all-append (code last) (instruction.EndLoop ∷ []) (going (ways ps) opened 0) ∙ stmts-within last (ways ps) opened 0)
+      ∙ stmts-within body (ways ps) opened 0)
   stmt-gone (Stmt.Break from) ps opened = refl
   stmt-gone (Stmt.Exit from) ps opened = refl
   stmt-gone (Stmt.Lock from lock) ps opened = refl
@@ -259,7 +261,7 @@ mutual
   stmt-gone (Stmt.Assume from t) ps opened = ap (λ w. going w opened 0) (ways-test t ps [])
   stmt-gone (Stmt.Atomic from inner) ps opened =
       ap (gone (instruction.Atomic from)) (
-        gone_all-append (code inner) (instruction.EndAtomic ∷ []) (going (ways ps) opened 0) ∙ stmts-within inner (ways ps) opened 0)
+      gone_all-append (code inner) (instruction.EndAtomic ∷ []) (going (ways ps) opened 0) ∙ stmts-within inner (ways ps) opened 0)
 
   stmts-gone : (ss : Stmts) (ps : List Path) (opened : List Ways) → gone_all (code ss) (going (ways ps) opened 0) ≡ going (ways (paths ss ps)) opened 0
   stmts-gone Stmts.End ps opened = refl

@@ -1,11 +1,9 @@
 -- What is found of the threads of a plan, one after another, is what there is of those that run.
-use Rattle.std.proofs.Common.{◌≡◌, ℕ, zero, suc, ◌+◌, ◌-◌, ◌<◌, ◌≤◌, List, [], ◌∷◌, ◌++◌, length, map, flat_map, take, Option, Some, None, refl, sym, ap, subst, arith, slice_get, ◌∙◌}
+use Rattle.std.proofs.Common.{◌≡◌, ℕ, zero, suc, ◌+◌, List, [], ◌∷◌, Some, ap, subst, arith, slice_get, ◌∙◌}
 use Rattle.std.specs.List.{AllByRecursion}
-use Rattle.c_tree.specs.Plain as plain
-use Rattle.c_check.specs.declared.plan.Plan.{Plan}
 use Rattle.c_check.specs.declared.plan.Thread.{Thread}
 use Rattle.c_check.specs.Program.{Function}
-use Rattle.thread_cfg.specs.Graph.{Running, running_from}
+use Rattle.thread_cfg.specs.Graph.{running_from}
 use Rattle.thread_cfg.proofs.Numbered.{none-some, some-same}
 use Rattle.thread_cfg.proofs.RunningThreads.{HasFunction}
 

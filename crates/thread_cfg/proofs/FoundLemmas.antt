@@ -1,5 +1,5 @@
 -- What is found of a thread.
-use Rattle.std.proofs.Common.{◌≡◌, ℕ, ◌+◌, ◌<◌, ◌≤◌, ◌^◌, nat_lt, true, false, List, [], ◌∷◌, ◌++◌, length, map, Some, None, refl, sym, ap, ap₂, subst, ◌∙◌, arith}
+use Rattle.std.proofs.Common.{◌≡◌, ℕ, ◌+◌, ◌<◌, ◌≤◌, nat_lt, true, false, List, [], ◌∷◌, ◌++◌, length, map, Some, None, refl, sym, ap, ap₂, subst, ◌∙◌, arith}
 use Rattle.thr_base.specs.Limits.{most_locations}
 use Rattle.thr_base.specs.Refusals.{too_many}
 use Rattle.thr_base.specs.declared.stops.Refusal.{Refusal}
@@ -11,12 +11,12 @@ use Rattle.transition_formula.specs.Stored.{edge_of}
 use Rattle.thread_cfg.specs.declared.thread.Found.{Found}
 use Rattle.thread_cfg.specs.declared.running.Running as stored
 use Rattle.thread_cfg.specs.Source.{Frame}
-use Rattle.thread_cfg.specs.Action.{Action, exit_of, size, thread_actions}
+use Rattle.thread_cfg.specs.Action.{exit_of, thread_actions}
 use Rattle.thread_cfg.specs.Graph.{Running, actions_of, edges_from, locations_of, refusals_from, thread_refusals}
 use Rattle.thread_cfg.specs.inside.Adds.{AddsActions, AreLeft, AreWithin, actions_of_parts}
 use Rattle.thread_cfg.specs.inside.Found.{IsFoundOf}
 use Rattle.thread_cfg.specs.inside.Meant.{frame_of}
-use Rattle.thread_cfg.specs.inside.Parts.{Part, Written, parts, parts_size, written}
+use Rattle.thread_cfg.specs.inside.Parts.{Part, Written, parts, written}
 use Rattle.thread_cfg.specs.inside.Pass.{pass_start, passed_all}
 use Rattle.thread_cfg.specs.inside.Sizes.{count_start, counted_all}
 use Rattle.thread_cfg.proofs.PartLemmas.{parts-size, thread_actions-parts}
@@ -61,14 +61,14 @@ found-too_many columns frame f found os is many e =
 -- a thread whose parts are added
 pub found-parts : (running : stored.Running) (f : Function) (old found : Found) (os : List Instruction) → os ≡ code f.body
     → (counted_all os count_start).at < most_locations → running.temporary ≡ length f.locals → old.refusal ≡ None → old.edges.items ≡ []
-    → found.locations ≡ (counted_all os count_start).at + 1 → AddsActions running 1 old found (actions_of_parts running 1 (parts_of f.body))
-    → IsFoundOf running.columns (record { frame = frame_of running.frame; function = f }) found
-found-parts running f old found os is few locals none empty held added =
+    → (n : ℕ) → n ≡ (counted_all os count_start).at + 1 → AddsActions running 1 old found (actions_of_parts running 1 (parts_of f.body))
+    → IsFoundOf running.columns (record { frame = frame_of running.frame; function = f }) (record found { locations = n })
+found-parts running f old found os is few locals none empty n held added =
     let t : Running = record { frame = frame_of running.frame; function = f } in
     let actions : actions_of_parts running 1 (parts_of f.body) ≡ actions_of t =
-        sym (thread_actions-parts (frame_of running.frame) running.temporary f.body) ∙ ap (λ n. thread_actions (frame_of running.frame) n f.body) locals in
+    sym (thread_actions-parts (frame_of running.frame) running.temporary f.body) ∙ ap (λ n. thread_actions (frame_of running.frame) n f.body) locals in
     let so = subst (AddsActions running 1 old found) actions added in
-    let counted : found.locations ≡ locations_of t = omega (arith, held, counted-at_exit f.body os is) in
+    let counted : n ≡ locations_of t = omega (arith, held, counted-at_exit f.body os is) in
     let under : nat_lt most_locations (locations_of t) ≡ false = below (locations_of t) (omega (arith, counted-at_exit f.body os is)) in
     let all : thread_refusals running.columns t ≡ refusals_from running.columns t.frame 1 (actions_of t) = rw under refl in
     record {

@@ -1,7 +1,6 @@
 -- One thread more is found.
-use Rattle.std.proofs.Common.{◌≡◌, ℕ, zero, suc, ◌+◌, ◌-◌, ◌<◌, ◌≤◌, List, [], ◌∷◌, ◌++◌, length, map, flat_map, take, Option, Some, None, refl, sym, ap, subst, arith, slice_get, append-nil, append_assoc, ◌∙◌}
+use Rattle.std.proofs.Common.{◌≡◌, ℕ, zero, suc, List, [], ◌∷◌, ◌++◌, map, flat_map, take, Option, Some, refl, sym, ap, subst, slice_get, append-nil, append_assoc, ◌∙◌}
 use Rattle.thr_base.specs.declared.stops.Refusal.{Refusal}
-use Rattle.c_tree.specs.Plain as plain
 use Rattle.c_check.specs.First.{earlier, first_of}
 use Rattle.c_check.proofs.FirstOf.{first_of-append}
 use Rattle.transition_formula.specs.Stored.{thread_of}
@@ -34,12 +33,12 @@ pub found-more : (columns threads : ℕ) (ts : List Running) (j : ℕ) (t : Runn
 found-more columns threads ts j t graphs refusal found graph at so one made = record {
   refusal_is =
       subst (λ l. earlier refusal found.refusal ≡ first_of (flat_map (thread_refusals columns) l)) (sym (take-next ts j t at))
-        (ap (λ x. earlier x found.refusal) so.refusal_is ∙ ap (earlier (first_of (flat_map (thread_refusals columns) (take j ts)))) one.refusal_is
-          ∙ sym (first_of-append (flat_map (thread_refusals columns) (take j ts)) (thread_refusals columns t))
-          ∙ ap first_of (sym (flat-next (thread_refusals columns) (take j ts) t)));
+      (ap (λ x. earlier x found.refusal) so.refusal_is ∙ ap (earlier (first_of (flat_map (thread_refusals columns) (take j ts)))) one.refusal_is
+      ∙ sym (first_of-append (flat_map (thread_refusals columns) (take j ts)) (thread_refusals columns t))
+      ∙ ap first_of (sym (flat-next (thread_refusals columns) (take j ts) t)));
   graphs_are = λ none.
       let split : flat_map (thread_refusals columns) (take j ts) ++ thread_refusals columns t ≡ [] =
-          sym (flat-next (thread_refusals columns) (take j ts) t) ∙ ap (flat_map (thread_refusals columns)) (sym (take-next ts j t at)) ∙ none in
+      sym (flat-next (thread_refusals columns) (take j ts) t) ∙ ap (flat_map (thread_refusals columns)) (sym (take-next ts j t at)) ∙ none in
       map-next thread_of graphs graph
       ∙ ap (λ l. l ++ thread_of graph ∷ []) (so.graphs_are (empty-front (flat_map (thread_refusals columns) (take j ts)) (thread_refusals columns t) split))
       ∙ ap (λ x. map (thread_graph columns threads) (take j ts) ++ x ∷ []) (made (empty-behind (flat_map (thread_refusals columns) (take j ts)) (thread_refusals columns t) split))

@@ -1,5 +1,5 @@
 -- States: values in front, and the counters behind them.
-use Rattle.std.proofs.Common.{◌≡◌, ℕ, zero, suc, ◌+◌, ◌-◌, ◌<◌, ◌≤◌, ℤ, pos, negsuc, List, [], ◌∷◌, ◌++◌, length, map, Option, Some, None, option_map, refl, sym, ap, subst, arith, slice_get, slice_set, ◌∙◌}
+use Rattle.std.proofs.Common.{◌≡◌, ℕ, zero, suc, ◌+◌, ◌-◌, ◌<◌, ◌≤◌, ℤ, pos, negsuc, List, [], ◌∷◌, ◌++◌, length, map, Option, Some, option_map, refl, sym, ap, subst, arith, slice_get, slice_set, ◌∙◌}
 use Rattle.std.specs.List.{AllByRecursion}
 use Rattle.transition_formula.specs.Program.{Form, numbered}
 use Rattle.transition_formula.specs.Step.{assigned, value_of}
@@ -41,6 +41,7 @@ set-counter [] locations j to = rw (zero-and j) (mapped locations j)
   where
     zero-and : (n : ℕ) → 0 + n ≡ n
     zero-and n = omega arith
+
     mapped : (ls : List ℕ) (j : ℕ) → slice_set (map pos ls) j (pos to) ≡ map pos (slice_set ls j to)
     mapped [] j = refl
     mapped (l ∷ ls) zero = refl
@@ -79,6 +80,7 @@ counter-get [] locations j = rw (zero-and j) (mapped locations j)
   where
     zero-and : (n : ℕ) → 0 + n ≡ n
     zero-and n = omega arith
+
     mapped : (locations : List ℕ) (j : ℕ) → slice_get (map pos locations) j ≡ option_map pos (slice_get locations j)
     mapped [] j = refl
     mapped (l ∷ ls) zero = refl

@@ -1,5 +1,5 @@
 -- The program of a text has the same steps as the text, and fails where it fails.
-use Rattle.std.proofs.Common.{◌≡◌, ◌↔◌, ℕ, zero, suc, ◌+◌, ◌-◌, ◌<◌, ◌≤◌, nat_lt, Bool, true, false, List, [], ◌∷◌, ◌++◌, length, map, take, flat_map, Option, Some, None, refl, sym, ap, subst, arith, slice_get, length-append, append_assoc, ltb-false, ◌∙◌}
+use Rattle.std.proofs.Common.{◌≡◌, ◌↔◌, ℕ, zero, suc, ◌+◌, ◌-◌, ◌≤◌, nat_lt, Bool, true, false, List, [], ◌∷◌, ◌++◌, length, map, take, flat_map, Some, refl, sym, ap, subst, arith, length-append, append_assoc, ltb-false, ◌∙◌}
 use Rattle.std.proofs.lemmas.List.{length-map}
 use Rattle.thr_base.specs.Limits.{most_locations}
 use Rattle.c_tree.specs.Plain as plain
@@ -7,18 +7,17 @@ use Rattle.c_check.specs.declared.columns.OwnVariables.{OwnVariables}
 use Rattle.c_check.specs.declared.plan.Column.{Column}
 use Rattle.c_check.specs.declared.plan.Plan.{Plan}
 use Rattle.c_check.specs.Program.{created_of}
-use Rattle.c_check.specs.Check.{IsPlanOf, function_items}
-use Rattle.c_check.specs.Columns.{columns_of, counters_from, own_columns_from, own_count, owns_of, shared_columns, threads_from, threads_of}
+use Rattle.c_check.specs.Check.{IsPlanOf}
+use Rattle.c_check.specs.Columns.{columns_of, counters_from, own_columns_from, own_count, owns_of, shared_columns, threads_from}
 use Rattle.c_check.specs.WellFormed.{IsWellFormedPlan}
 use Rattle.transition_formula.specs.Program.{IsProgram, numbered}
-use Rattle.thread_cfg.specs.Action.{thread_actions}
 use Rattle.thread_cfg.specs.Graph.{Running, actions_of, edges_from, locations_of, program_column, program_of, refusals_from, refusals_of, thread_graph, thread_refusals, threads_running}
-use Rattle.thread_cfg.specs.SameSteps.{HasSameSteps, SameSteps}
+use Rattle.thread_cfg.specs.SameSteps.{SameSteps}
 use Rattle.thread_cfg.specs.Interleaving.{ProgramFails, TextFails, value_columns}
-use Rattle.thread_cfg.proofs.Numbered.{Has, cons-empty, empty-behind, empty-front, none-some, number-has, some-same}
+use Rattle.thread_cfg.proofs.Numbered.{cons-empty, empty-behind, empty-front, none-some, some-same}
 use Rattle.thread_cfg.proofs.RunningThreads.{actions-within, running-is, threads-running}
 use Rattle.thread_cfg.proofs.Sameness.{IsGraphOf, same-steps}
-use Rattle.thread_cfg.proofs.Interleavings.{IsKnown, fails-alike}
+use Rattle.thread_cfg.proofs.Interleavings.{fails-alike}
 
 -- ---- lists
 

@@ -1,27 +1,25 @@
 -- Runs of a program that has the same steps as a text fail where interleavings of the text do.
-use Rattle.std.proofs.Common.{◌≡◌, Bool, true, false, ◌==◌, ◌⊎◌, ◌↔◌, ℕ, zero, suc, ◌+◌, ◌-◌, ◌<◌, ◌≤◌, ℤ, pos, negsuc, List, [], ◌∷◌, ◌++◌, length, map, take, Option, Some, None, option_map, inl, inr, refl, sym, ap, subst, arith, slice_get, slice_set, length-append, ◌∙◌}
+use Rattle.std.proofs.Common.{◌≡◌, Bool, true, false, ◌==◌, ◌↔◌, ℕ, zero, suc, ◌+◌, ◌-◌, ◌<◌, ◌≤◌, ℤ, pos, List, [], ◌∷◌, ◌++◌, length, map, Option, Some, None, option_map, inl, inr, refl, sym, ap, subst, arith, slice_get, slice_set, length-append, ◌∙◌}
 use Rattle.std.proofs.lemmas.List.{length-map}
 use Rattle.std.proofs.lemmas.Bool.Decides.{Decides-eqb, not_from_Decides}
 use Rattle.std.specs.List.{AllByRecursion}
 use Rattle.c_tree.specs.Plain as plain
-use Rattle.c_check.specs.declared.plan.Column as stored
-use Rattle.c_check.specs.Items.{Grain, Guard, Item, Items, Side, branch, items, joined}
+use Rattle.c_check.specs.Items.{Item, Items}
 use Rattle.c_check.specs.Check.{function_items}
 use Rattle.c_check.specs.Columns.{columns_of, counters_from}
 use Rattle.c_check.specs.Program.{created_of}
-use Rattle.transition_formula.specs.Program.{Column, Edge, Form, IsEdge, IsEdgeOf, IsProgram, IsThread, IsThreadOf, Program, Thread, first_counter, numbered}
-use Rattle.transition_formula.specs.Step.{IsInitial, MayStart, Steps, after_step, assigned, value_of}
-use Rattle.transition_formula.specs.Run.{Fails, IsFailing, IsRun, Leads, Reaches, Run, RunStep}
-use Rattle.transition_formula.specs.Laws.{FailingRunsReach, FailingStatesEndRuns, RunsEndInReachedStates}
+use Rattle.transition_formula.specs.Program.{Edge, Form, IsEdgeOf, IsProgram, IsThreadOf, Program, Thread, numbered}
+use Rattle.transition_formula.specs.Step.{IsInitial, Steps, after_step, assigned, value_of}
+use Rattle.transition_formula.specs.Run.{IsFailing, Leads, Reaches, RunStep}
 use Rattle.thread_cfg.specs.Source.{DoesFirst, Frame, SourceSteps, Standing, read_as}
 use Rattle.thread_cfg.specs.Graph.{Running, program_column, threads_running}
-use Rattle.thread_cfg.specs.SameSteps.{EdgeSteps, HasSameSteps, SameSteps, SourceStepsTo, standing_as, state_of}
-use Rattle.thread_cfg.specs.Interleaving.{ComesTo, Configuration, HasFailed, Interleaves, IsStart, MayStartAll, ProgramFails, TextFails, value_columns}
+use Rattle.thread_cfg.specs.SameSteps.{HasSameSteps, SameSteps, standing_as, state_of}
+use Rattle.thread_cfg.specs.Interleaving.{ComesTo, Configuration, Interleaves, MayStartAll, ProgramFails, TextFails, value_columns}
 use Rattle.transition_formula.proofs.Runs.{failing-runs, failing-states, runs-end}
 use Rattle.thread_cfg.proofs.Entries.{read-branch}
 use Rattle.thread_cfg.proofs.Fronts.{counter-get, get-all, get-below, length-slice_set, numbered-get, numbered-same, numbered-set, pos-same}
 use Rattle.thread_cfg.proofs.Starts.{get-ones, initial-starts, length-counters, length-ones, ones, start-length, starts-initial}
-use Rattle.thread_cfg.proofs.Numbered.{Has, none-some, number-has, some-same}
+use Rattle.thread_cfg.proofs.Numbered.{Has, none-some, some-same}
 
 -- What is known of a text and its program.
 pub record IsKnown (tree : plain.Tree) (program : Program) : Type 0 where
@@ -95,7 +93,7 @@ module _ (tree : plain.Tree) (program : Program) (known : IsKnown tree program) 
       by None p q = absurd (none-some t q)
       by (Some s) p q =
           subst (λ (u : Running). (steps : HasSameSteps program n k u.frame (function_items u.function)) × (steps.left ≡ (known.same.steps_are i s p).left)) (some-same s t q)
-            (known.same.steps_are i s p, refl)
+          (known.same.steps_are i s p, refl)
 
   -- ---- states that tell configurations
 
@@ -127,7 +125,7 @@ module _ (tree : plain.Tree) (program : Program) (known : IsKnown tree program) 
           let l_is : to ≡ l = numbered-same t.locations i to l some (omega (arith, among, t.locations_length)) (subst (λ m. numbered (slice_set t.locations (i - 1) to) m ≡ Some l) is at) in
           let st_is : next ≡ st = numbered-same c.standings i next st some (omega (arith, among, t.standings_length)) (subst (λ m. numbered (slice_set c.standings (i - 1) next) m ≡ Some st) is stands) in
           subst (λ m. left_at m l ≡ Some (standing_as st)) (sym is)
-            (subst (λ s. left_at i l ≡ Some (standing_as s)) st_is (subst (λ m. left_at i m ≡ Some (standing_as next)) l_is lands))
+          (subst (λ s. left_at i l ≡ Some (standing_as s)) st_is (subst (λ m. left_at i m ≡ Some (standing_as next)) l_is lands))
       by j l st false e at stands =
           let differ : ¬ (j ≡ i) = not_from_Decides (j == i) (Decides-eqb j i) e in
           t.stand j l st (numbered-set t.locations i j to l some differ at) (numbered-set c.standings i j next st some differ stands)
@@ -138,10 +136,11 @@ module _ (tree : plain.Tree) (program : Program) (known : IsKnown tree program) 
       let is = known.is_program.threads_are i thread e in
       let at = numbered-get program.threads i thread e in
       let below = get-below program.threads (i - 1) thread at.1 in
-      let few = known.is_program.has_counters in
-      ( omega (arith, is.in_order, known.same.columns_are, known.same.threads_are, at.0, few)
-      , at.0
-      , omega (arith, below, at.0, known.same.threads_are) )
+      let few = known.is_program.has_counters in (
+        omega (arith, is.in_order, known.same.columns_are, known.same.threads_are, at.0, few),
+        at.0,
+        omega (arith, below, at.0, known.same.threads_are),
+      )
 
   -- ---- a step of the program is one of the text
 
@@ -167,29 +166,31 @@ module _ (tree : plain.Tree) (program : Program) (known : IsKnown tree program) 
     where
       i : ℕ
       i = taken.thread
+
       counter : (leads.of_thread.counter ≡ n + (i - 1)) × (1 ≤ i) × (i ≤ k)
       counter = counter-is i leads.of_thread leads.edge_is.thread_is
+
       go : (running : (x : Running) × (numbered (threads_running tree) i ≡ Some x)) (at : (x : ℕ) × (numbered t.locations i ≡ Some x))
           (stands : (x : Standing) × (numbered c.standings i ≡ Some x)) → StepsOn c after
       go running at stands =
           let thread_no : running.0.frame.thread ≡ i = known.numbers i running.0 running.1 in
           let alike = same-at i running.0 running.1 in
           let same_thread : leads.of_thread ≡ alike.steps.thread =
-              some-same leads.of_thread alike.steps.thread (sym leads.edge_is.thread_is ∙ subst (λ m. numbered program.threads m ≡ Some alike.steps.thread) thread_no alike.steps.thread_is) in
+          some-same leads.of_thread alike.steps.thread (sym leads.edge_is.thread_is ∙ subst (λ m. numbered program.threads m ≡ Some alike.steps.thread) thread_no alike.steps.thread_is) in
           let s = alike.steps.by_source c.values t.locations at.0 taken.edge leads.by_edge taken.inputs after t.values_length t.locations_length
-              (subst (λ m. numbered t.locations m ≡ Some at.0) (sym thread_no) at.1)
-              (subst (λ m. IsEdgeOf program m taken.edge alike.steps.thread leads.by_edge) (sym thread_no)
-                (subst (λ x. IsEdgeOf program i taken.edge x leads.by_edge) same_thread leads.edge_is))
-              (subst (λ x. Steps x leads.by_edge (state_of c.values t.locations) taken.inputs after) same_thread
-                (subst (λ x. Steps leads.of_thread leads.by_edge x taken.inputs after) t.state_is leads.steps)) in
+          (subst (λ m. numbered t.locations m ≡ Some at.0) (sym thread_no) at.1)
+          (subst (λ m. IsEdgeOf program m taken.edge alike.steps.thread leads.by_edge) (sym thread_no)
+          (subst (λ x. IsEdgeOf program i taken.edge x leads.by_edge) same_thread leads.edge_is))
+          (subst (λ x. Steps x leads.by_edge (state_of c.values t.locations) taken.inputs after) same_thread
+          (subst (λ x. Steps leads.of_thread leads.by_edge x taken.inputs after) t.state_is leads.steps)) in
           let standing_is : s.standing ≡ standing_as stands.0 =
-              some-same s.standing (standing_as stands.0)
-                (sym s.stands ∙ subst (λ l. l at.0 ≡ Some (standing_as stands.0)) (sym alike.left_is) (t.stand i at.0 stands.0 at.1 stands.1)) in
+          some-same s.standing (standing_as stands.0)
+          (sym s.stands ∙ subst (λ l. l at.0 ≡ Some (standing_as stands.0)) (sym alike.left_is) (t.stand i at.0 stands.0 at.1 stands.1)) in
           let lands : left_at i s.to ≡ Some (standing_as s.next) = subst (λ l. l s.to ≡ Some (standing_as s.next)) alike.left_is s.lands in
           let state_is : after ≡ state_of s.after (slice_set t.locations (i - 1) s.to) = subst (λ m. after ≡ state_of s.after (slice_set t.locations (m - 1) s.to)) thread_no s.state_is in
           let after_length : length s.after ≡ n =
-              values-length s.after (map pos (slice_set t.locations (i - 1) s.to)) n
-                (ap length (sym state_is) ∙ ap length leads.steps.leads ∙ after-length leads.of_thread leads.by_edge before taken.inputs ∙ ap length t.state_is ∙ state-length c.values t.locations s.to t.values_length) in
+          values-length s.after (map pos (slice_set t.locations (i - 1) s.to)) n
+          (ap length (sym state_is) ∙ ap length leads.steps.leads ∙ after-length leads.of_thread leads.by_edge before taken.inputs ∙ ap length t.state_is ∙ state-length c.values t.locations s.to t.values_length) in
           record {
             next = record { values = s.after; standings = slice_set c.standings (i - 1) s.next };
             interleaves = record {
@@ -227,24 +228,26 @@ module _ (tree : plain.Tree) (program : Program) (known : IsKnown tree program) 
     where
       at : (1 ≤ s.i) × (slice_get c.standings (s.i - 1) ≡ Some s.standing)
       at = numbered-get c.standings s.i s.standing s.stands
+
       below : s.i - 1 < length c.standings
       below = get-below c.standings (s.i - 1) s.standing at.1
+
       go : (l : (x : ℕ) × (numbered t.locations s.i ≡ Some x)) → StepsBy before next
       go l =
           let thread_no : s.running.frame.thread ≡ s.i = known.numbers s.i s.running s.thread_is in
           let alike = same-at s.i s.running s.thread_is in
           let r = alike.steps.by_edges c.values t.locations l.0 (standing_as s.standing) next.values s.next t.values_length t.locations_length
-              (subst (λ m. numbered t.locations m ≡ Some l.0) (sym thread_no) l.1)
-              (subst (λ x. x l.0 ≡ Some (standing_as s.standing)) (sym alike.left_is) (t.stand s.i l.0 s.standing l.1 s.stands))
-              (steps-as s.running.frame c.values next.values s.standing s.next s.steps) in
+          (subst (λ m. numbered t.locations m ≡ Some l.0) (sym thread_no) l.1)
+          (subst (λ x. x l.0 ≡ Some (standing_as s.standing)) (sym alike.left_is) (t.stand s.i l.0 s.standing l.1 s.stands))
+          (steps-as s.running.frame c.values next.values s.standing s.next s.steps) in
           let e = r.2 in
           let lands : left_at s.i r.0 ≡ Some (standing_as s.next) = subst (λ x. x r.0 ≡ Some (standing_as s.next)) alike.left_is r.1 in
           let steps : Steps e.thread e.edge before e.inputs (state_of next.values (slice_set t.locations (s.i - 1) r.0)) =
-              subst (λ x. Steps e.thread e.edge x e.inputs (state_of next.values (slice_set t.locations (s.i - 1) r.0))) (sym t.state_is)
-                (subst (λ m. Steps e.thread e.edge (state_of c.values t.locations) e.inputs (state_of next.values (slice_set t.locations (m - 1) r.0))) thread_no e.steps) in
+          subst (λ x. Steps e.thread e.edge x e.inputs (state_of next.values (slice_set t.locations (s.i - 1) r.0))) (sym t.state_is)
+          (subst (λ m. Steps e.thread e.edge (state_of c.values t.locations) e.inputs (state_of next.values (slice_set t.locations (m - 1) r.0))) thread_no e.steps) in
           let values_are : length next.values ≡ n =
-              values-length next.values (map pos (slice_set t.locations (s.i - 1) r.0)) n
-                (ap length steps.leads ∙ after-length e.thread e.edge before e.inputs ∙ ap length t.state_is ∙ state-length r.0) in
+          values-length next.values (map pos (slice_set t.locations (s.i - 1) r.0)) n
+          (ap length steps.leads ∙ after-length e.thread e.edge before e.inputs ∙ ap length t.state_is ∙ state-length r.0) in
           record {
             taken = record { thread = s.i; edge = e.e; inputs = e.inputs };
             after = state_of next.values (slice_set t.locations (s.i - 1) r.0);
@@ -302,7 +305,7 @@ module _ (tree : plain.Tree) (program : Program) (known : IsKnown tree program) 
           let alike = same-at i m.0 m.1 in
           let one : l ≡ 1 = get-ones (created_of tree) (i - 1) l (numbered-get (ones (created_of tree)) i l at).1 in
           subst (λ x. left_at i x ≡ Some (standing_as st)) (sym one)
-            (subst (λ s. left_at i 1 ≡ Some (standing_as s)) (sym m.2) (subst (λ f. f 1 ≡ Some (Standing.Doing (read_as (function_items m.0.function)))) alike.left_is alike.steps.begins))
+          (subst (λ s. left_at i 1 ≡ Some (standing_as s)) (sym m.2) (subst (λ f. f 1 ≡ Some (Standing.Doing (read_as (function_items m.0.function)))) alike.left_is alike.steps.begins))
 
   initial-columns : (state : List ℤ) → IsInitial program.columns state ↔ IsInitial (map program_column (value_columns tree ++ counters_from 1 (created_of tree))) state
   initial-columns state =
@@ -364,10 +367,10 @@ module _ (tree : plain.Tree) (program : Program) (known : IsKnown tree program) 
           let l = get-all t.locations failing.i counter.1 (omega (arith, counter.2, t.locations_length)) in
           let st = get-all told.configuration.standings failing.i counter.1 (omega (arith, counter.2, t.standings_length)) in
           let at : slice_get (state_of told.configuration.values t.locations) (length told.configuration.values + (failing.i - 1)) ≡ Some (pos l.0) =
-              counter-get told.configuration.values t.locations (failing.i - 1) ∙ ap (option_map pos) (numbered-get t.locations failing.i l.0 l.1).1 in
+          counter-get told.configuration.values t.locations (failing.i - 1) ∙ ap (option_map pos) (numbered-get t.locations failing.i l.0 l.1).1 in
           let place : failing.thread.counter ≡ length told.configuration.values + (failing.i - 1) = omega (arith, counter.0, t.values_length) in
           let zero_is : l.0 ≡ 0 = pos-same l.0 0 (some-same (pos l.0) (pos 0)
-              (sym at ∙ subst (λ c. slice_get (state_of told.configuration.values t.locations) c ≡ Some (pos 0)) place (subst (λ x. slice_get x failing.thread.counter ≡ Some (pos 0)) t.state_is failing.fails))) in
+          (sym at ∙ subst (λ c. slice_get (state_of told.configuration.values t.locations) c ≡ Some (pos 0)) place (subst (λ x. slice_get x failing.thread.counter ≡ Some (pos 0)) t.state_is failing.fails))) in
           let alike = same-at failing.i running.0 running.1 in
           let left_is : left_at failing.i 0 ≡ Some (standing_as st.0) = subst (λ m. left_at failing.i m ≡ Some (standing_as st.0)) zero_is (t.stand failing.i l.0 st.0 l.1 st.1) in
           let failed : standing_as st.0 ≡ Standing.Failed = some-same (standing_as st.0) Standing.Failed (sym left_is ∙ subst (λ f. f 0 ≡ Some Standing.Failed) alike.left_is alike.steps.fails) in
@@ -401,7 +404,7 @@ module _ (tree : plain.Tree) (program : Program) (known : IsKnown tree program) 
             thread_is = thread_is;
             fails = subst (λ x. slice_get x alike.steps.thread.counter ≡ Some (pos 0)) (sym t.state_is)
                 (subst (λ c. slice_get (state_of f.configuration.values t.locations) c ≡ Some (pos 0)) place
-                  (counter-get f.configuration.values t.locations (f.fails.i - 1) ∙ ap (option_map pos) (numbered-get t.locations f.fails.i l.0 l.1).1 ∙ ap (λ m. Some (pos m)) zero_is));
+                (counter-get f.configuration.values t.locations (f.fails.i - 1) ∙ ap (option_map pos) (numbered-get t.locations f.fails.i l.0 l.1).1 ∙ ap (λ m. Some (pos m)) zero_is));
           }
 
   -- a run of the program fails exactly where an interleaving of the text does

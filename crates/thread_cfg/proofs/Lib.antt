@@ -69,3 +69,5 @@ pub mod WrittenLemmas
 pub mod DoneLemmas
 pub mod FoundLemmas
 pub mod FewLemmas
+pub mod BlockLemmas
+pub mod PlaceLemmas

@@ -1,7 +1,6 @@
 -- Which edges a thread has: those of the alternatives at its locations.
-use Rattle.std.proofs.Common.{◌≡◌, ◌⊎◌, ℕ, zero, suc, ◌+◌, ◌-◌, ◌<◌, ◌≤◌, Bool, true, false, ◌||◌, List, [], ◌∷◌, ◌++◌, length, map, flat_map, Option, Some, None, Result, Ok, Err, inl, inr, refl, sym, ap, subst, arith, slice_get, true≢false}
-use Rattle.thr_base.specs.declared.stops.Refusal.{Refusal}
-use Rattle.transition_formula.specs.Program.{Edge, numbered}
+use Rattle.std.proofs.Common.{◌≡◌, ◌⊎◌, ℕ, zero, suc, ◌+◌, Bool, true, false, List, [], ◌∷◌, ◌++◌, flat_map, Option, Some, None, Result, Ok, Err, inl, inr, refl, sym, ap, subst, arith, slice_get}
+use Rattle.transition_formula.specs.Program.{Edge}
 use Rattle.thread_cfg.specs.Source.{Frame}
 use Rattle.thread_cfg.specs.Action.{Action, Alternative}
 use Rattle.thread_cfg.specs.Edge.{alternative_edge}
@@ -59,18 +58,20 @@ of-action : (columns : ℕ) (frame : Frame) (at : ℕ) (as' : List Alternative) 
 of-action columns frame at [] edge h = absurd h
 of-action columns frame at (a ∷ as') edge h =
     elim (has-++ (edge_made (alternative_edge columns frame at a)) (flat_map (λ a. edge_made (alternative_edge columns frame at a)) as') edge h) [
-        inl g ↦ record { alternative = a; is_there = inl refl; made = made-has (alternative_edge columns frame at a) edge g }
-      | inr g ↦ let more = of-action columns frame at as' edge g in record { alternative = more.alternative; is_there = inr more.is_there; made = more.made } ]
+      | inl g ↦ record { alternative = a; is_there = inl refl; made = made-has (alternative_edge columns frame at a) edge g }
+      | inr g ↦ let more = of-action columns frame at as' edge g in record { alternative = more.alternative; is_there = inr more.is_there; made = more.made }
+    ]
 
 action-has : (columns : ℕ) (frame : Frame) (at : ℕ) (as' : List Alternative) (a : Alternative) (edge : Edge) → Has as' a → alternative_edge columns frame at a ≡ Ok (Some edge)
     → Has (flat_map (λ a. edge_made (alternative_edge columns frame at a)) as') edge
 action-has columns frame at [] a edge h made = absurd h
 action-has columns frame at (b ∷ as') a edge h made =
     elim h [
-        inl e ↦ has-front (edge_made (alternative_edge columns frame at b)) (flat_map (λ a. edge_made (alternative_edge columns frame at a)) as') edge
+      | inl e ↦ has-front (edge_made (alternative_edge columns frame at b)) (flat_map (λ a. edge_made (alternative_edge columns frame at a)) as') edge
           (subst (λ r. Has (edge_made r) edge) (sym (subst (λ x. alternative_edge columns frame at x ≡ Ok (Some edge)) e made)) (inl refl))
       | inr h ↦ has-behind (edge_made (alternative_edge columns frame at b)) (flat_map (λ a. edge_made (alternative_edge columns frame at a)) as') edge
-          (action-has columns frame at as' a edge h made) ]
+          (action-has columns frame at as' a edge h made)
+    ]
 
 -- ---- edges of all actions
 
@@ -85,20 +86,21 @@ pub edge-at : (columns : ℕ) (frame : Frame) (at : ℕ) (actions : List Action)
 edge-at columns frame at [] edge h = absurd h
 edge-at columns frame at (action ∷ actions) edge h =
     elim (has-++ (action_edges columns frame at action) (edges_from columns frame (at + 1) actions) edge h) [
-        inl g ↦ record { l = 0; action = action; action_is = refl; is_of = subst (λ l. IsOf columns frame l action.alternatives edge) (omega arith) (of-action columns frame at action.alternatives edge g) }
+      | inl g ↦ record { l = 0; action = action; action_is = refl; is_of = subst (λ l. IsOf columns frame l action.alternatives edge) (omega arith) (of-action columns frame at action.alternatives edge g) }
       | inr g ↦ let more = edge-at columns frame (at + 1) actions edge g in
-          record { l = suc more.l; action = more.action; action_is = more.action_is; is_of = subst (λ l. IsOf columns frame l more.action.alternatives edge) (omega arith) more.is_of } ]
+          record { l = suc more.l; action = more.action; action_is = more.action_is; is_of = subst (λ l. IsOf columns frame l more.action.alternatives edge) (omega arith) more.is_of }
+    ]
 
 pub at-edge : (columns : ℕ) (frame : Frame) (at : ℕ) (actions : List Action) (l : ℕ) (action : Action) (a : Alternative) (edge : Edge)
     → slice_get actions l ≡ Some action → Has action.alternatives a → alternative_edge columns frame (at + l) a ≡ Ok (Some edge) → Has (edges_from columns frame at actions) edge
 at-edge columns frame at [] l action a edge is has made = absurd (none-some action is)
 at-edge columns frame at (b ∷ actions) zero action a edge is has made =
     has-front (action_edges columns frame at b) (edges_from columns frame (at + 1) actions) edge
-      (action-has columns frame at b.alternatives a edge (subst (λ x. Has x.alternatives a) (sym (some-same b action is)) has)
-        (subst (λ l. alternative_edge columns frame l a ≡ Ok (Some edge)) (omega arith) made))
+    (action-has columns frame at b.alternatives a edge (subst (λ x. Has x.alternatives a) (sym (some-same b action is)) has)
+    (subst (λ l. alternative_edge columns frame l a ≡ Ok (Some edge)) (omega arith) made))
 at-edge columns frame at (b ∷ actions) (suc l) action a edge is has made =
     has-behind (action_edges columns frame at b) (edges_from columns frame (at + 1) actions) edge
-      (at-edge columns frame (at + 1) actions l action a edge is has (subst (λ l. alternative_edge columns frame l a ≡ Ok (Some edge)) (omega arith) made))
+    (at-edge columns frame (at + 1) actions l action a edge is has (subst (λ l. alternative_edge columns frame l a ≡ Ok (Some edge)) (omega arith) made))
 
 -- ---- nothing is refused
 
@@ -127,9 +129,10 @@ alternatives-fit : (columns : ℕ) (frame : Frame) (at : ℕ) (as' : List Altern
 alternatives-fit columns frame at [] a e h = absurd h
 alternatives-fit columns frame at (b ∷ as') a e h =
     elim h [
-        inl same ↦ let fit = unfit-none (alternative_edge columns frame at b) (empty-front (unfit (alternative_edge columns frame at b)) _ e) in
+      | inl same ↦ let fit = unfit-none (alternative_edge columns frame at b) (empty-front (unfit (alternative_edge columns frame at b)) _ e) in
           subst (IsFit columns frame at) (sym same) (record { made = fit.0; is_made = fit.1 })
-      | inr h ↦ alternatives-fit columns frame at as' a (empty-behind (unfit (alternative_edge columns frame at b)) _ e) h ]
+      | inr h ↦ alternatives-fit columns frame at as' a (empty-behind (unfit (alternative_edge columns frame at b)) _ e) h
+    ]
 
 -- an action that is not refused is not too large, and its alternatives fit
 pub action-fits : (columns : ℕ) (frame : Frame) (at : ℕ) (action : Action) → action_refusals columns frame at action ≡ []
@@ -146,8 +149,8 @@ pub actions-fit : (columns : ℕ) (frame : Frame) (at : ℕ) (actions : List Act
 actions-fit columns frame at [] l action e is = absurd (none-some action is)
 actions-fit columns frame at (b ∷ actions) zero action e is =
     subst (λ x. (is_too_large x ≡ false) × ((a : Alternative) → Has x.alternatives a → IsFit columns frame (at + 0) a)) (some-same b action is)
-      (subst (λ l. (is_too_large b ≡ false) × ((a : Alternative) → Has b.alternatives a → IsFit columns frame l a)) (omega arith)
-        (action-fits columns frame at b (empty-front (action_refusals columns frame at b) _ e)))
+    (subst (λ l. (is_too_large b ≡ false) × ((a : Alternative) → Has b.alternatives a → IsFit columns frame l a)) (omega arith)
+    (action-fits columns frame at b (empty-front (action_refusals columns frame at b) _ e)))
 actions-fit columns frame at (b ∷ actions) (suc l) action e is =
     subst (λ n. (is_too_large action ≡ false) × ((a : Alternative) → Has action.alternatives a → IsFit columns frame n a)) (omega arith)
-      (actions-fit columns frame (at + 1) actions l action (empty-behind (action_refusals columns frame at b) _ e) is)
+    (actions-fit columns frame (at + 1) actions l action (empty-behind (action_refusals columns frame at b) _ e) is)

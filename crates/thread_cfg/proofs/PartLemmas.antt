@@ -1,14 +1,10 @@
 -- The actions of statements are those of their parts.
-use Rattle.std.proofs.Common.{◌≡◌, ℕ, ◌+◌, Bool, true, false, List, [], ◌∷◌, ◌++◌, length, Option, Some, None, refl, sym, ap, ap₂, ◌∙◌, arith}
-use Rattle.std.proofs.lemmas.List.{append-nil, append_assoc, length-append}
-use Rattle.c_check.specs.declared.meaning.Variable.{Variable}
-use Rattle.c_check.specs.declared.operation.Mark.{Mark}
-use Rattle.c_check.specs.Plan.{Arithmetic, Test, Condition, Stmt, Stmts}
-use Rattle.c_check.specs.Items.{few}
+use Rattle.std.proofs.Common.{◌≡◌, ℕ, ◌+◌, List, [], ◌∷◌, ◌++◌, Option, Some, None, refl, sym, ap, ap₂, ◌∙◌, arith}
+use Rattle.std.proofs.lemmas.List.{append-nil, append_assoc}
+use Rattle.c_check.specs.Plan.{Test, Condition, Stmt, Stmts}
 use Rattle.thread_cfg.specs.Source.{Frame}
-use Rattle.thread_cfg.specs.Action.{Action, Around, actions, assign_accesses, assign_reads, compare_accesses, compare_reads, condition_actions, condition_size, entry, exit_of, read_actions, reads_before, size, stmt_actions, stmt_size, test_actions, test_size, thread_actions}
+use Rattle.thread_cfg.specs.Action.{Action, Around, actions, condition_actions, condition_size, entry, exit_of, size, stmt_actions, stmt_size, test_actions, test_size, thread_actions}
 use Rattle.thread_cfg.specs.inside.Parts.{Part, condition_parts, part_actions, part_size, parts, parts_actions, parts_size, stmt_parts, test_parts}
-use Rattle.thread_cfg.proofs.SizeLemmas.{locations-reads}
 
 parts_size-append : (ps qs : List Part) → parts_size (ps ++ qs) ≡ parts_size ps + parts_size qs
 parts_size-append [] qs = omega arith

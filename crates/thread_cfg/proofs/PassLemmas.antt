@@ -1,18 +1,17 @@
 -- The parts that are found from the last instruction to the first are those of the statements.
-use Rattle.std.proofs.Common.{◌≡◌, ℕ, zero, suc, ◌+◌, ◌-◌, List, [], ◌∷◌, ◌++◌, map, Option, Some, None, refl, sym, ap, ap₂, ◌∙◌, arith}
+use Rattle.std.proofs.Common.{◌≡◌, ℕ, suc, ◌+◌, ◌-◌, List, [], ◌∷◌, ◌++◌, map, Option, Some, None, refl, sym, ap, ap₂, ◌∙◌, arith}
 use Rattle.std.proofs.lemmas.List.{append-nil, append_assoc, map-append}
-use Rattle.c_check.specs.declared.operation.Mark.{Mark}
 use Rattle.c_check.specs.declared.test.Comparison.{Comparison}
 use Rattle.c_check.specs.declared.test.TestOperation.{TestOperation}
 use Rattle.c_check.specs.declared.test.TestOperation.TheVariants as test_operation
 use Rattle.c_check.specs.declared.instruction.Assignment.{Assignment}
 use Rattle.c_check.specs.declared.instruction.Instruction.{Instruction}
 use Rattle.c_check.specs.declared.instruction.Instruction.TheVariants as instruction
-use Rattle.c_check.specs.Plan.{Arithmetic, Test, Condition, Stmt, Stmts, code, postfix, stmt_code, stored_condition_of, test_postfix}
-use Rattle.thread_cfg.specs.Action.{assign_reads, compare_reads, condition_size, entry, exit_of, size, stmt_size, test_size}
+use Rattle.c_check.specs.Plan.{Test, Condition, Stmt, Stmts, code, postfix, stmt_code, stored_condition_of, test_postfix}
+use Rattle.thread_cfg.specs.Action.{condition_size, entry, exit_of, size, stmt_size, test_size}
 use Rattle.thread_cfg.specs.inside.Parts.{Part, Written, condition_parts, parts, stmt_parts, test_parts, written}
-use Rattle.thread_cfg.specs.inside.Sizes.{assignment_size, comparison_size, count_start, counted_all}
-use Rattle.thread_cfg.specs.inside.Pass.{Opened, Passed, Sides, Target, Testing, pass_start, passed, passed_all, settled, target, tested, tested_all, with_condition, with_part, with_test}
+use Rattle.thread_cfg.specs.inside.Sizes.{count_start, counted_all}
+use Rattle.thread_cfg.specs.inside.Pass.{Opened, Passed, Sides, Target, Testing, pass_start, passed, passed_all, settled, target, tested, tested_all, with_condition, with_test}
 use Rattle.thread_cfg.proofs.SizeLemmas.{assignment_size-postfix, comparison_size-postfix, counted-code, loops_of, stmt_loops}
 
 -- ---- tests

@@ -1,7 +1,5 @@
 -- Reads in turn.
-use Rattle.std.proofs.Common.{◌≡◌, ℕ, suc, ◌+◌, ◌<◌, ◌≤◌, ◌^◌, Bool, true, false, List, [], ◌∷◌, ◌++◌, drop, get_or, length, Option, refl, sym, ap, ap₂, subst, ◌∙◌, arith}
-use Rattle.std.specs.Prelude.{flat_map}
-use Rattle.std.specs.List.{AllByRecursion}
+use Rattle.std.proofs.Common.{◌≡◌, ℕ, suc, ◌+◌, ◌<◌, ◌≤◌, true, false, List, [], ◌∷◌, ◌++◌, drop, get_or, length, Option, refl, sym, ap, ap₂, subst, ◌∙◌, arith}
 use Rattle.std.proofs.lemmas.List.{append-nil, append_assoc, drop_more, length-append}
 use Rattle.lin_rows.proofs.Lists.{AllByRecursion-front, AllByRecursion-rest}
 use Rattle.c_check.specs.declared.meaning.Variable.{Variable}
@@ -19,7 +17,7 @@ use Rattle.thread_cfg.specs.Path.{Event}
 use Rattle.thread_cfg.specs.Action.{Action, assign_accesses, assign_actions, compare_accesses, compare_action, compare_reads, read_actions, simple, test_action}
 use Rattle.thread_cfg.specs.inside.Adds.{AddsActions, AddsReads, AreWithin}
 use Rattle.thread_cfg.specs.inside.Meant.{frame_of}
-use Rattle.thread_cfg.specs.inside.Sizes.{comparison_size, is_shared, locations, shared_of, shared_operations, shared_variables}
+use Rattle.thread_cfg.specs.inside.Sizes.{comparison_size, locations, shared_of, shared_operations, shared_variables}
 use Rattle.thread_cfg.specs.Within.{ActionWithin}
 use Rattle.thread_cfg.proofs.AddLemmas.{AddsActions-then}
 use Rattle.thread_cfg.proofs.SizeLemmas.{shared_operations-postfix}
@@ -43,7 +41,7 @@ read_actions-append : (from : ℕ) (rs ss : List (Variable × Variable)) (at : �
 read_actions-append from [] ss at = ap (λ n. read_actions from ss n) (omega arith)
 read_actions-append from (r ∷ rs) ss at =
     ap (λ l. simple from (Event.Sets from r.0 (Arithmetic.Value r.1)) (at + 1) ∷ l)
-      (read_actions-append from rs ss (at + 1) ∙ ap (λ n. read_actions from rs (at + 1) ++ read_actions from ss n) (omega arith))
+    (read_actions-append from rs ss (at + 1) ∙ ap (λ n. read_actions from rs (at + 1) ++ read_actions from ss n) (omega arith))
 
 -- the actions of the reads of more variables
 pub variables-append : (from t at : ℕ) (vs ws : List Variable)
@@ -75,7 +73,7 @@ AddsReads-then running from a b c first middle last vs ws one other =
     let t = first.temporary in let at = first.at.0 in
     let behind : at + length (read_actions from (reads t vs) at) ≡ middle.at.0 = omega (arith, length-variables from t at vs, one.at) in
     let same : read_actions from (reads middle.temporary ws) middle.at.0 ≡ read_actions from (reads (t + length vs) ws) (at + length vs) =
-        ap₂ (λ n k. read_actions from (reads n ws) k) one.temporary one.at in
+    ap₂ (λ n k. read_actions from (reads n ws) k) one.temporary one.at in
     record {
       added = subst (λ l. AddsActions running at a c l) (ap (λ l. read_actions from (reads t vs) at ++ l) same ∙ sym (variables-append from t at vs ws))
           (AddsActions-then running at middle.at.0 a b c (read_actions from (reads t vs) at) (read_actions from (reads middle.temporary ws) middle.at.0) behind one.added other.added);
@@ -144,7 +142,7 @@ left-within running from before after vs rest e f all =
     let t = before.temporary in let at = before.at.0 in
     let split = subst (AreWithin running) (variables-append from t at vs rest) all in
     subst (AreWithin running) (sym (ap₂ (λ n k. read_actions from (reads n rest) k) f e))
-      (within-rest running (read_actions from (reads t vs) at) (read_actions from (reads (t + length vs) rest) (at + length vs)) split)
+    (within-rest running (read_actions from (reads t vs) at) (read_actions from (reads (t + length vs) rest) (at + length vs)) split)
 
 -- ---- accesses
 
@@ -195,9 +193,9 @@ pub compare-reads_within : (running : Running) (at from : ℕ) (m : Mark) (a b :
 compare-reads_within running at from m a b t f ls rs is also more all =
     let n = running.temporary in
     subst (λ vs. AreWithin running (read_actions from (reads n vs) at)) (sym (variables-both ls rs a b is also))
-      (within-front running (read_actions from (reads n (shared_in a ++ shared_in b)) at)
-        (test_action from m (over_temporaries n a) (over_temporaries (n + length (shared_in a)) b) t f ∷ [])
-        (subst (AreWithin running) (compare-many n at from m a b t f more) all))
+    (within-front running (read_actions from (reads n (shared_in a ++ shared_in b)) at)
+    (test_action from m (over_temporaries n a) (over_temporaries (n + length (shared_in a)) b) t f ∷ [])
+    (subst (AreWithin running) (compare-many n at from m a b t f more) all))
 
 pub compare-test_within : (running : Running) (at from : ℕ) (m : Mark) (a b : Arithmetic) (t f : Option ℕ) → few (compare_accesses a b) ≡ false
     → AreWithin running (read_actions from (compare_reads running.temporary a b) at ++ compare_action running.temporary from m a b t f ∷ [])
@@ -205,8 +203,8 @@ pub compare-test_within : (running : Running) (at from : ℕ) (m : Mark) (a b : 
 compare-test_within running at from m a b t f more all =
     let n = running.temporary in
     within-rest running (read_actions from (reads n (shared_in a ++ shared_in b)) at)
-      (test_action from m (over_temporaries n a) (over_temporaries (n + length (shared_in a)) b) t f ∷ [])
-      (subst (AreWithin running) (compare-many n at from m a b t f more) all)
+    (test_action from m (over_temporaries n a) (over_temporaries (n + length (shared_in a)) b) t f ∷ [])
+    (subst (AreWithin running) (compare-many n at from m a b t f more) all)
 
 -- the reads of both sides, and then the test
 pub compare-adds : (running : Running) (from : ℕ) (m : Mark) (a b : Arithmetic) (t f : Option ℕ) (ls rs : List Operation) (w x y z : Found) (first middle last : Reading)
@@ -219,9 +217,9 @@ compare-adds running from m a b t f ls rs w x y z first middle last is also more
     let vs = shared_in a ++ shared_in b in
     let both = AddsReads-then running from w x y first middle last (shared_variables ls) (shared_variables rs) one other in
     let added = subst (λ k. AddsActions running at w y (read_actions from (reads k vs) at)) same
-        (subst (λ l. AddsActions running at w y (read_actions from (reads first.temporary l) at)) (variables-both ls rs a b is also) both.added) in
+    (subst (λ l. AddsActions running at w y (read_actions from (reads first.temporary l) at)) (variables-both ls rs a b is also) both.added) in
     let behind : at + length (read_actions from (reads n vs) at) ≡ last.at.0 =
-        omega (arith, length-variables from n at vs, ap length (variables-both ls rs a b is also), both.at) in
+    omega (arith, length-variables from n at vs, ap length (variables-both ls rs a b is also), both.at) in
     subst (AddsActions running at w z) (sym (compare-many n at from m a b t f more))
-      (AddsActions-then running at last.at.0 w y z (read_actions from (reads n vs) at)
-        (test_action from m (over_temporaries n a) (over_temporaries (n + length (shared_in a)) b) t f ∷ []) behind added test)
+    (AddsActions-then running at last.at.0 w y z (read_actions from (reads n vs) at)
+    (test_action from m (over_temporaries n a) (over_temporaries (n + length (shared_in a)) b) t f ∷ []) behind added test)

@@ -1,5 +1,5 @@
 -- A thread's graph has the same steps as its source.
-use Rattle.std.proofs.Common.{◌≡◌, ◌⊎◌, ◌↔◌, ℕ, zero, suc, ◌+◌, ◌-◌, ◌<◌, ◌≤◌, ℤ, pos, negsuc, List, [], ◌∷◌, ◌++◌, length, map, Option, Some, None, option_map, IsSome, true≢false, Ok, inl, inr, refl, sym, ap, subst, arith, slice_get, slice_set, length-append, ◌∙◌}
+use Rattle.std.proofs.Common.{◌≡◌, ◌⊎◌, ◌↔◌, ℕ, zero, suc, ◌+◌, ◌-◌, ◌<◌, ◌≤◌, ℤ, pos, List, [], ◌∷◌, ◌++◌, length, map, Option, Some, None, option_map, IsSome, true≢false, Ok, inl, inr, refl, sym, ap, subst, arith, slice_get, slice_set, length-append, ◌∙◌}
 use Rattle.std.specs.List.{AllByRecursion}
 use Rattle.c_check.specs.Plan.{Stmts}
 use Rattle.c_check.specs.Items.{Grain, Items, items, joined}
@@ -14,32 +14,38 @@ use Rattle.thread_cfg.specs.SameSteps.{EdgeSteps, HasSameSteps, SourceStepsTo, s
 use Rattle.thread_cfg.specs.inside.Left.{left, standing_at, standing_in}
 use Rattle.thread_cfg.specs.Within.{ActionsWithin, EventsWithin}
 use Rattle.thread_cfg.proofs.Taken.{IsTaken, SomeTaken}
-use Rattle.thread_cfg.proofs.Matching.{AllMatch, Lands, Matches, StandsFrom, stands-front}
+use Rattle.thread_cfg.proofs.Matching.{AllMatch, Matches, StandsFrom, stands-front}
 use Rattle.thread_cfg.proofs.Entries.{entry-stands, stmts-length}
 use Rattle.thread_cfg.proofs.Control.{stmts-match}
 use Rattle.thread_cfg.proofs.Edges.{edge-from, edge-is}
 use Rattle.thread_cfg.proofs.Fronts.{assigned-front, counter-get, get-below, get-exists, pos-same, set-counter}
 use Rattle.thread_cfg.proofs.Happenings.{edges-happen, never-happen}
-use Rattle.thread_cfg.proofs.Numbered.{Has, IsAt, IsFit, actions-fit, at-edge, cons-empty, edge-at, has-number, none-some, number-has, some-same}
+use Rattle.thread_cfg.proofs.Numbered.{Has, IsAt, IsFit, actions-fit, at-edge, edge-at, has-number, none-some, number-has, some-same}
 
 -- ---- what is left at each location
 
 -- what stands behind others, from its location on
 stands-all : (pre xs : List Items) → StandsFrom (standing_in (pre ++ xs)) (length pre + 1) xs
 stands-all pre [] = tt
-stands-all pre (x ∷ xs) = ( here pre, subst (λ ys. StandsFrom (standing_in ys) (length pre + 1 + 1) xs) (split pre)
-    (subst (λ n. StandsFrom (standing_in ((pre ++ x ∷ []) ++ xs)) n xs) (more pre) (stands-all (pre ++ x ∷ []) xs)) )
+stands-all pre (x ∷ xs) = (
+  here pre,
+  subst (λ ys. StandsFrom (standing_in ys) (length pre + 1 + 1) xs) (split pre)
+      (subst (λ n. StandsFrom (standing_in ((pre ++ x ∷ []) ++ xs)) n xs) (more pre) (stands-all (pre ++ x ∷ []) xs)),
+)
   where
     more : (pre : List Items) → length (pre ++ x ∷ []) + 1 ≡ length pre + 1 + 1
     more pre = let e = length-append pre (x ∷ []) in omega (arith, e)
+
     split : (pre : List Items) → (pre ++ x ∷ []) ++ xs ≡ pre ++ (x ∷ xs)
     split [] = refl
     split (p ∷ pre) = ap (λ l. p ∷ l) (split pre)
+
     here : (pre : List Items) → standing_in (pre ++ (x ∷ xs)) (length pre + 1) ≡ Some (Standing.Doing x)
     here pre = rw (add-one' (length pre)) (at pre)
       where
         add-one' : (n : ℕ) → n + 1 ≡ suc n
         add-one' n = omega arith
+
         at : (pre : List Items) → option_map Standing.Doing (slice_get (pre ++ (x ∷ xs)) (length pre)) ≡ Some (Standing.Doing x)
         at [] = refl
         at (p ∷ pre) = at pre
@@ -118,8 +124,9 @@ taken-of : (frame : Frame) (values : List ℤ) (as' : List Alternative) (after :
 taken-of frame values [] after to h = absurd h
 taken-of frame values (a ∷ as') after to h =
     elim h [
-        inl g ↦ record { alternative = a; is_there = inl refl; taken = g }
-      | inr g ↦ let more = taken-of frame values as' after to g in record { alternative = more.alternative; is_there = inr more.is_there; taken = more.taken } ]
+      | inl g ↦ record { alternative = a; is_there = inl refl; taken = g }
+      | inr g ↦ let more = taken-of frame values as' after to g in record { alternative = more.alternative; is_there = inr more.is_there; taken = more.taken }
+    ]
 
 of-taken : (frame : Frame) (values : List ℤ) (as' : List Alternative) (a : Alternative) (after : List ℤ) (to : ℕ) → Has as' a → IsTaken frame values a after to → SomeTaken frame values as' after to
 of-taken frame values [] a after to h t = absurd h
@@ -164,12 +171,12 @@ module _ (program : Program) (n k : ℕ) (frame : Frame) (temporary : ℕ) (body
 
   begins : standing_at temporary body 1 ≡ Some (Standing.Doing (read_as (items (Grain.Cut temporary) body)))
   begins = subst (λ is. standing_at temporary body 1 ≡ Some (Standing.Doing (read_as is))) (joined-end (items (Grain.Cut temporary) body))
-    (subst (λ l. standing_at temporary body l ≡ Some (Standing.Doing (read_as (joined (items (Grain.Cut temporary) body) Items.End)))) (entry-first body)
+      (subst (λ l. standing_at temporary body l ≡ Some (Standing.Doing (read_as (joined (items (Grain.Cut temporary) body) Items.End)))) (entry-first body)
       (entry-stands (standing_at temporary body) temporary 1 (exit_of body) body Items.End all-stand exit-stands))
 
   all-match : AllMatch frame (standing_at temporary body) lefts acts
   all-match = stmts-match (standing_at temporary body) (record { frame = frame; temporary = temporary; exit = exit_of body; out = exit_of body }) 1 (exit_of body) body Items.End
-    (record { next_stands = exit-stands; out_stands = exit-stands; exit_stands = exit-stands; fails = refl }) all-stand
+      (record { next_stands = exit-stands; out_stands = exit-stands; exit_stands = exit-stands; fails = refl }) all-stand
 
   -- ---- a step of the source is a step by an edge
 
@@ -181,8 +188,10 @@ module _ (program : Program) (n k : ℕ) (frame : Frame) (temporary : ℕ) (body
       within : EventsWithin n frame t.alternative.events
       within = all-at (λ a. EventsWithin n frame a.events) action.alternatives t.alternative
           (all-at (λ (x : Action). AllByRecursion (λ a. EventsWithin n frame a.events) x.alternatives) acts action is.within (number-has acts action l action_is)) t.is_there
+
       fit : IsFit (n + k) frame (1 + l) t.alternative
       fit = (actions-fit (n + k) frame 1 acts l action is.fits action_is).1 t.alternative t.is_there
+
       by : (made : Option Edge) → fit.made ≡ made → EdgeSteps program frame.thread values locations after to
       by None e = absurd (never-happen n k (1 + l) frame t.alternative values after t.taken.inputs within (rw e at fit.is_made) vs t.taken.happen)
       by (Some edge) e =
@@ -210,8 +219,9 @@ module _ (program : Program) (n k : ℕ) (frame : Frame) (temporary : ℕ) (body
       let d = doing-of (slice_get (lefts ++ Items.End ∷ []) l) standing left_is in
       let stepping : DoesFirst frame values (read_as d.0) after next = subst (λ s. SourceSteps frame values s after next) d.2 steps in
       elim (front-or-last lefts l d.0 d.1) [
-          inl got ↦ by d.0 (pair-of frame (standing_at temporary body) lefts acts l d.0 all-match got) stepping
-        | inr end ↦ absurd (subst (λ x. DoesFirst frame values (read_as x) after next) end stepping) ]
+        | inl got ↦ by d.0 (pair-of frame (standing_at temporary body) lefts acts l d.0 all-match got) stepping
+        | inr end ↦ absurd (subst (λ x. DoesFirst frame values (read_as x) after next) end stepping)
+      ]
     where
       by : (x : Items) → IsPair frame (standing_at temporary body) acts l x → DoesFirst frame values (read_as x) after next
           → (to : ℕ) × (standing_at temporary body to ≡ Some (standing_as next)) × EdgeSteps program frame.thread values locations after to
@@ -233,38 +243,41 @@ module _ (program : Program) (n k : ℕ) (frame : Frame) (temporary : ℕ) (body
           numbered-has : (xs : List Edge) (x : Edge) (e : ℕ) → numbered xs e ≡ Some x → Has xs x
           numbered-has xs x zero h = absurd (none-some x h)
           numbered-has xs x (suc e) h = number-has xs x e h
+
       place : (f : ℕ) → numbered locations f ≡ Some from → 1 ≤ f → slice_get locations (f - 1) ≡ Some from
       place zero h some = absurd (none-some from h)
       place (suc f) h some = rw (back f) h
         where
           back : (f : ℕ) → suc f - 1 ≡ f
           back f = omega arith
+
       source : from ≡ edge.from
       source = pos-same from edge.from (some-same (pos from) (pos edge.from)
           (sym (subst (λ m. slice_get (state_of values locations) (m + (frame.thread - 1)) ≡ Some (pos from)) vs
-              (counter-get values locations (frame.thread - 1) ∙ ap (option_map pos) (place frame.thread at is.some)))
-            ∙ subst (λ c. slice_get (state_of values locations) c ≡ Some (pos edge.from)) is.counter_is s.at_source))
+          (counter-get values locations (frame.thread - 1) ∙ ap (option_map pos) (place frame.thread at is.some)))
+          ∙ subst (λ c. slice_get (state_of values locations) c ≡ Some (pos edge.from)) is.counter_is s.at_source))
+
       found : IsAt (n + k) frame 1 acts edge → SourceStepsTo frame (standing_at temporary body) locations from values state
       found f =
           let a = f.is_of.alternative in
           let within : EventsWithin n frame a.events = all-at (λ x. EventsWithin n frame x.events) f.action.alternatives a
-              (all-at (λ (x : Action). AllByRecursion (λ y. EventsWithin n frame y.events) x.alternatives) acts f.action is.within (number-has acts f.action f.l f.action_is)) f.is_of.is_there in
+          (all-at (λ (x : Action). AllByRecursion (λ y. EventsWithin n frame y.events) x.alternatives) acts f.action is.within (number-has acts f.action f.l f.action_is)) f.is_of.is_there in
           let from_to = edge-from (n + k) frame (1 + f.l) a edge f.is_of.made in
           let at_from : from ≡ 1 + f.l = source ∙ from_to.0 in
           let back : suc f.l ≡ from = omega (arith, at_from) in
           let front = assigned-front edge.sets (state_of values locations ++ inputs) values (map pos locations)
-              (subst (λ m. AllByRecursion (λ (set : ℕ × Form). set.0 < m) edge.sets) (sym vs) (edge-is n (n + k) frame (1 + f.l) a edge within f.is_of.made).sets_no_counter) in
+          (subst (λ m. AllByRecursion (λ (set : ℕ × Form). set.0 < m) edge.sets) (sym vs) (edge-is n (n + k) frame (1 + f.l) a edge within f.is_of.made).sets_no_counter) in
           let counter : thread.counter ≡ length front.front + (frame.thread - 1) = omega (arith, is.counter_is, front.as_long, vs) in
           let set : slice_set (assigned edge.sets (state_of values locations ++ inputs) (state_of values locations)) thread.counter (pos edge.to) ≡ state_of front.front (slice_set locations (frame.thread - 1) edge.to) =
-              ap (λ l. slice_set l thread.counter (pos edge.to)) front.whole_is
-              ∙ ap (λ c. slice_set (state_of front.front locations) c (pos edge.to)) counter
-              ∙ set-counter front.front locations (frame.thread - 1) edge.to in
+          ap (λ l. slice_set l thread.counter (pos edge.to)) front.whole_is
+          ∙ ap (λ c. slice_set (state_of front.front locations) c (pos edge.to)) counter
+          ∙ set-counter front.front locations (frame.thread - 1) edge.to in
           let state_is : state ≡ state_of front.front (slice_set locations (frame.thread - 1) a.to) =
-              s.leads ∙ set ∙ ap (λ x. state_of front.front (slice_set locations (frame.thread - 1) x)) from_to.1 in
+          s.leads ∙ set ∙ ap (λ x. state_of front.front (slice_set locations (frame.thread - 1) x)) from_to.1 in
           let happen : Happen frame values a.events inputs front.front =
-              (edges-happen n k frame.thread (1 + f.l) frame a edge thread values front.front locations inputs within f.is_of.made is.counter_is is.some is.among vs ls
-                (subst (λ x. numbered locations frame.thread ≡ Some x) at_from at)).0
-                (subst (λ x. Steps thread edge (state_of values locations) inputs x) state_is s) in
+          (edges-happen n k frame.thread (1 + f.l) frame a edge thread values front.front locations inputs within f.is_of.made is.counter_is is.some is.among vs ls
+          (subst (λ x. numbered locations frame.thread ≡ Some x) at_from at)).0
+          (subst (λ x. Steps thread edge (state_of values locations) inputs x) state_is s) in
           let pair = pair-at frame (standing_at temporary body) lefts acts f.l f.action all-match f.action_is in
           let step = pair.matches.by_items values front.front a.to (of-taken frame values f.action.alternatives a front.front a.to f.is_of.is_there (record { inputs = inputs; happen = happen; leads = refl })) in
           record {
@@ -296,18 +309,23 @@ module _ (program : Program) (n k : ℕ) (frame : Frame) (temporary : ℕ) (body
       fails-alone : (l : ℕ) → standing_at temporary body l ≡ Some Standing.Failed → l ≡ 0
       fails-alone zero e = refl
       fails-alone (suc l) e = let d = doing-of (slice_get (lefts ++ Items.End ∷ []) l) Standing.Failed e in absurd (doing-failed d.0 d.2)
+
       some-of : {X : Type 0} → (o : Option X) → IsSome o → (x : X) × (o ≡ Some x)
       some-of None h = absurd (true≢false (sym h))
       some-of (Some x) h = (x, refl)
+
       is-some : {X : Type 0} → (o : Option X) (x : X) → o ≡ Some x → IsSome o
       is-some o x e = subst IsSome (sym e) refl
+
       count : length (lefts ++ Items.End ∷ []) + 1 ≡ thread.locations
       count = let m = length-append lefts (Items.End ∷ []) in omega (arith, m, size-lefts, is.locations_are)
+
       at-each : (l : ℕ) → IsSome (standing_at temporary body l) ↔ (l < thread.locations)
       at-each zero = (λ h. omega (arith, count), λ h. refl)
-      at-each (suc l) =
-          ( λ h. let s = some-of (standing_at temporary body (suc l)) h in
-              let d = doing-of (slice_get (lefts ++ Items.End ∷ []) l) s.0 s.1 in
-              let w = get-below (lefts ++ Items.End ∷ []) l d.0 d.1 in omega (arith, w, count)
-          , λ h. let here = get-exists (lefts ++ Items.End ∷ []) l (omega (arith, h, count)) in
-              is-some (standing_at temporary body (suc l)) (Standing.Doing here.0) (ap (option_map Standing.Doing) here.1) )
+      at-each (suc l) = (
+        λ h. let s = some-of (standing_at temporary body (suc l)) h in
+            let d = doing-of (slice_get (lefts ++ Items.End ∷ []) l) s.0 s.1 in
+            let w = get-below (lefts ++ Items.End ∷ []) l d.0 d.1 in omega (arith, w, count),
+        λ h. let here = get-exists (lefts ++ Items.End ∷ []) l (omega (arith, h, count)) in
+            is-some (standing_at temporary body (suc l)) (Standing.Doing here.0) (ap (option_map Standing.Doing) here.1),
+      )

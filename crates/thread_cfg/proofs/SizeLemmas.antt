@@ -1,5 +1,5 @@
 -- The locations of instructions are those of the statements, and so are the places where loops begin.
-use Rattle.std.proofs.Common.{◌≡◌, ℕ, zero, suc, ◌+◌, ◌<◌, ◌≤◌, Bool, true, false, List, [], ◌∷◌, ◌++◌, length, filter, drop, get_or, take, if◌then◌else◌, refl, sym, ap, ap₂, subst, ◌∙◌, arith}
+use Rattle.std.proofs.Common.{◌≡◌, ℕ, zero, suc, ◌+◌, ◌<◌, ◌≤◌, Bool, true, false, List, [], ◌∷◌, ◌++◌, length, filter, drop, get_or, take, if◌then◌else◌, refl, sym, ap, ap₂, ◌∙◌, arith}
 use Rattle.std.proofs.lemmas.List.{append_assoc, drop_more, length-append, take_more}
 use Rattle.std.proofs.lemmas.List.Elements.{filter-append}
 use Rattle.thr_base.specs.Limits.{most_locations}

@@ -1,5 +1,5 @@
 -- Initial states are those in which the variables have values that they may start with, and each thread is at location 1.
-use Rattle.std.proofs.Common.{◌≡◌, ℕ, zero, suc, ◌+◌, ◌≤◌, ℤ, pos, List, [], ◌∷◌, ◌++◌, length, map, Some, refl, sym, ap, subst, slice_get}
+use Rattle.std.proofs.Common.{◌≡◌, ℕ, zero, suc, ◌+◌, ℤ, pos, List, [], ◌∷◌, ◌++◌, length, map, Some, refl, sym, ap, slice_get}
 use Rattle.c_check.specs.declared.plan.Column as stored
 use Rattle.c_check.specs.Columns.{counters_from}
 use Rattle.transition_formula.specs.Step.{IsInitial}

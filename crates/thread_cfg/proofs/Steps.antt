@@ -1,18 +1,15 @@
 -- What is known where a thread of a plan is looked at.
-use Rattle.std.proofs.Common.{◌≡◌, ℕ, zero, suc, ◌+◌, ◌-◌, ◌<◌, ◌≤◌, List, [], ◌∷◌, length, filter, Option, Some, None, refl, sym, ap, subst, arith, slice_get, slice_index_or, ◌∙◌}
+use Rattle.std.proofs.Common.{◌≡◌, ℕ, zero, suc, ◌+◌, ◌<◌, ◌≤◌, List, [], ◌∷◌, length, filter, Some, refl, sym, ap, arith, slice_get, slice_index_or, ◌∙◌}
 use Rattle.std.proofs.lemmas.Option.{slice_get-map}
 use Rattle.std.specs.Option.{option_map}
-use Rattle.thr_base.specs.Limits.{most_columns}
 use Rattle.c_tree.specs.Plain as plain
 use Rattle.c_check.specs.declared.plan.Plan.{Plan}
 use Rattle.c_check.specs.declared.plan.Thread.{Thread}
-use Rattle.c_check.specs.Plan.{code}
 use Rattle.c_check.specs.Temporaries.{need}
 use Rattle.c_check.specs.Program.{functions_of}
 use Rattle.c_check.specs.Check.{stored_function}
 use Rattle.c_check.specs.Columns.{columns_of, threads_of}
 use Rattle.c_check.specs.WellFormed.{counts_in, is_variable}
-use Rattle.transition_formula.specs.Program.{numbered}
 use Rattle.thread_cfg.specs.Graph.{Running, actions_of, threads_running, variables_of}
 use Rattle.thread_cfg.specs.inside.Known.{IsKnownPlan}
 use Rattle.thread_cfg.specs.Within.{ActionsWithin}
@@ -21,7 +18,7 @@ use Rattle.thread_cfg.proofs.Fronts.{get-below}
 use Rattle.thread_cfg.proofs.Graphs.{counters-within}
 use Rattle.thread_cfg.proofs.Numbered.{none-some, some-same}
 use Rattle.thread_cfg.proofs.RunningThreads.{functions-there, running-is, threads-running, variables-counted}
-use Rattle.thread_cfg.proofs.Withins.{HasRoom, thread_actions-within}
+use Rattle.thread_cfg.proofs.Withins.{thread_actions-within}
 
 pub record IsStep (tree : plain.Tree) (plan : Plan) (i : ℕ) (thread : Thread) : Type 0 where
   pub running : Running
@@ -41,12 +38,12 @@ step-is tree plan known i thread at =
     let there : slice_get (threads_of tree) i ≡ Some thread = ap (λ ts. slice_get ts i) (sym known.plan_is.threads_are) ∙ at in
     let r = runs-there (variables_of tree) (functions_of tree) 1 (threads_of tree) i thread (functions-there tree plan known.plan_is known.well_formed) there in
     let variables : variables_of tree ≡ length (filter (λ c. is_variable c.kind) plan.columns) =
-        sym (ap (λ cs. length (filter (λ c. is_variable c.kind) cs)) known.plan_is.columns_are ∙ variables-counted tree) in
+    sym (ap (λ cs. length (filter (λ c. is_variable c.kind) cs)) known.plan_is.columns_are ∙ variables-counted tree) in
     let running : Running = record { frame = record { thread = i + 1; first = thread.first; variables = length (filter (λ c. is_variable c.kind) plan.columns) }; function = r.function } in
     let running_is : slice_get (threads_running tree) i ≡ Some running =
-        r.running_is ∙ (λ d. Some (record { frame = record { thread = number i d; first = thread.first; variables = variables d }; function = r.function })) in
+    r.running_is ∙ (λ d. Some (record { frame = record { thread = number i d; first = thread.first; variables = variables d }; function = r.function })) in
     let function_is : slice_get plan.functions thread.function ≡ Some (stored_function r.function) =
-        ap (λ fs. slice_get fs thread.function) known.plan_is.functions_are ∙ slice_get-map stored_function (functions_of tree) thread.function ∙ ap (option_map stored_function) r.function_is in
+    ap (λ fs. slice_get fs thread.function) known.plan_is.functions_are ∙ slice_get-map stored_function (functions_of tree) thread.function ∙ ap (option_map stored_function) r.function_is in
     let is = running-is tree plan known.plan_is known.well_formed (suc i) running running_is in
     let columns : length plan.columns ≡ length (columns_of tree) = ap length known.plan_is.columns_are in
     let threads : length plan.threads ≡ length (threads_running tree) = sym (threads-running tree plan known.plan_is known.well_formed) in

@@ -1,5 +1,5 @@
 -- Which part is written so.
-use Rattle.std.proofs.Common.{◌≡◌, ℕ, List, [], Option, refl, ap, ap₂, ◌∙◌}
+use Rattle.std.proofs.Common.{◌≡◌, ℕ, List, Option, ap, ap₂, ◌∙◌}
 use Rattle.c_check.specs.declared.meaning.Variable.{Variable}
 use Rattle.c_check.specs.declared.test.Comparison.{Comparison}
 use Rattle.c_check.specs.declared.instruction.Assignment.{Assignment}
@@ -77,9 +77,13 @@ is-Compare c t f (Part.AssignAny from' v' next') h = absurd cc
 is-Compare c t f (Part.Choice from' t' f') h = absurd cc
 is-Compare c t f (Part.Compare from m a b t' f') h =
     let d : Comparison = record { from = from; mark = m; left = postfix a; right = postfix b } in
-    let same : c ≡ d = cc in let on_true : t ≡ t' = cc in let on_false : f ≡ f' = cc in
-    (a, b, ap (λ x. x.left) same, ap (λ x. x.right) same,
-      ap₂ (λ x n. Part.Compare x.from x.mark a b n f) same on_true ∙ ap (λ n. Part.Compare from m a b t' n) on_false)
+    let same : c ≡ d = cc in let on_true : t ≡ t' = cc in let on_false : f ≡ f' = cc in (
+      a,
+      b,
+      ap (λ x. x.left) same,
+      ap (λ x. x.right) same,
+      ap₂ (λ x n. Part.Compare x.from x.mark a b n f) same on_true ∙ ap (λ n. Part.Compare from m a b t' n) on_false,
+    )
 is-Compare c t f (Part.Jump from' to') h = absurd cc
 is-Compare c t f (Part.Lock from' lock' next') h = absurd cc
 is-Compare c t f (Part.Unlock from' lock' next') h = absurd cc

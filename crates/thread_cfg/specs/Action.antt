@@ -1,6 +1,6 @@
 -- The actions of a thread: what happens at each of its locations, and where it leads. Locations are numbered from 1 in the order of
 -- the text; at 0 the thread has failed, and behind the last action it has ended.
-use Rattle.std.specs.Prelude.{ℕ, ◌+◌, ℤ, pos, Bool, true, false, List, [], ◌∷◌, ◌++◌, map, length, Option, Some, None}
+use Rattle.std.specs.Prelude.{ℕ, ◌+◌, pos, Bool, true, false, List, [], ◌∷◌, ◌++◌, map, length, Option, Some, None}
 use Rattle.c_check.specs.declared.meaning.Variable.{Variable}
 use Rattle.c_check.specs.declared.meaning.Variable.TheVariants as variable
 use Rattle.c_check.specs.declared.operation.Mark.{Mark}
@@ -120,19 +120,25 @@ abbrev pub lock_variable : Frame → ℕ → Arithmetic
 lock_variable frame n = Arithmetic.Value (variable.Shared (lock_column frame n))
 
 abbrev pub lock_action : Frame → ℕ → ℕ → ℕ → Action
-lock_action frame from lock next = record { from = from; alternatives = record {
-  events = Event.Requires from related.Equal (lock_variable frame lock) (Arithmetic.Number (pos 0))
-      ∷ Event.Sets from (variable.Shared (lock_column frame lock)) (Arithmetic.Number (pos frame.thread)) ∷ [];
-  to = next
-} ∷ [] }
+lock_action frame from lock next = record {
+  from = from;
+  alternatives = record {
+    events = Event.Requires from related.Equal (lock_variable frame lock) (Arithmetic.Number (pos 0))
+        ∷ Event.Sets from (variable.Shared (lock_column frame lock)) (Arithmetic.Number (pos frame.thread)) ∷ [];
+    to = next;
+  } ∷ [];
+}
 
 -- an unlock of a lock that the thread does not hold fails
 abbrev pub unlock_action : Frame → ℕ → ℕ → ℕ → Action
-unlock_action frame from lock next = record { from = from; alternatives = record {
-  events = Event.Requires from related.Equal (lock_variable frame lock) (Arithmetic.Number (pos frame.thread))
-      ∷ Event.Sets from (variable.Shared (lock_column frame lock)) (Arithmetic.Number (pos 0)) ∷ [];
-  to = next
-} ∷ requiring from (related.Less ∷ related.Greater ∷ []) (lock_variable frame lock) (Arithmetic.Number (pos frame.thread)) (Some 0) }
+unlock_action frame from lock next = record {
+  from = from;
+  alternatives = record {
+    events = Event.Requires from related.Equal (lock_variable frame lock) (Arithmetic.Number (pos frame.thread))
+        ∷ Event.Sets from (variable.Shared (lock_column frame lock)) (Arithmetic.Number (pos 0)) ∷ [];
+    to = next;
+  } ∷ requiring from (related.Less ∷ related.Greater ∷ []) (lock_variable frame lock) (Arithmetic.Number (pos frame.thread)) (Some 0);
+}
 
 -- ---- atomic blocks
 

@@ -1,10 +1,9 @@
 -- The edge of a way on from a location: what is asked and set on it, as rows and forms over the columns before and the inputs.
-use Rattle.std.specs.Prelude.{ℕ, ◌+◌, ℤ, pos, negsuc, neg_ℤ, int_le, Bool, true, false, not, ◌&&◌, ◌||◌, ◌==◌, if◌then◌else◌, List, [], ◌∷◌, ◌++◌, map, filter, filter_map, slice_set, slice_index_or, Option, Some, None, option_and_then, option_map, Result, Ok, Err}
+use Rattle.std.specs.Prelude.{ℕ, ◌+◌, ℤ, pos, negsuc, neg_ℤ, int_le, Bool, true, false, not, ◌&&◌, ◌==◌, if◌then◌else◌, List, [], ◌∷◌, ◌++◌, map, filter, slice_set, slice_index_or, Option, Some, None, option_and_then, Result, Ok, Err}
 use Rattle.std.specs.List.{list_all, list_any, range_with_len}
 use Rattle.std.specs.Ordering.{int_eq}
 use Rattle.thr_base.specs.Number.{fits}
 use Rattle.lin_rows.specs.Row.{Row}
-use Rattle.c_check.specs.declared.meaning.Variable.{Variable}
 use Rattle.c_check.specs.Plan.{Arithmetic}
 use Rattle.transition_formula.specs.Program.{Form, Edge}
 use Rattle.transition_formula.specs.Forms.{column_form, constant_form, fitting_composition, fitting_form, fitting_multiple, fitting_sum, form_multiple, form_sum}
@@ -178,4 +177,4 @@ abbrev pub alternative_edge : ℕ → Frame → ℕ → Alternative → Result (
 alternative_edge columns frame from alternative =
     let width = columns + inputs_of alternative.events in
     on_ok (λ along. Ok (edge_unless_never width columns frame from alternative along))
-      (after_events width columns frame (at_first width columns) alternative.events)
+    (after_events width columns frame (at_first width columns) alternative.events)

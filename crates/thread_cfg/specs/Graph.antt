@@ -1,6 +1,6 @@
 -- The program of a text: its columns, and for each thread that runs its locations and edges; and when there is none, because a limit is
 -- passed or a product or sum does not fit.
-use Rattle.std.specs.Prelude.{◌≡◌, ℕ, ◌+◌, ◌-◌, nat_lt, Bool, true, false, ◌||◌, if◌then◌else◌, List, [], ◌∷◌, ◌++◌, length, map, flat_map, Contains, slice_get, Option, Some, None, option_map, Result, Ok, Err}
+use Rattle.std.specs.Prelude.{◌≡◌, ℕ, ◌+◌, ◌-◌, nat_lt, Bool, ◌||◌, if◌then◌else◌, List, [], ◌∷◌, ◌++◌, length, map, flat_map, Contains, slice_get, Option, Some, None, option_map, Result, Ok, Err}
 use Rattle.std.specs.List.{list_any}
 use Rattle.thr_base.specs.declared.stops.Refusal.{Refusal}
 use Rattle.thr_base.specs.declared.stops.Stop.{Stop}
@@ -13,7 +13,7 @@ use Rattle.c_check.specs.Program.{Function, functions_of, globals_in}
 use Rattle.c_check.specs.Columns.{columns_of, threads_of}
 use Rattle.transition_formula.specs.Program.{Column, Edge, Program, Thread}
 use Rattle.thread_cfg.specs.Source.{Frame}
-use Rattle.thread_cfg.specs.Action.{Action, Alternative, exit_of, size, thread_actions}
+use Rattle.thread_cfg.specs.Action.{Action, Alternative, exit_of, thread_actions}
 use Rattle.thread_cfg.specs.Edge.{alternative_edge}
 
 -- ---- the threads that run

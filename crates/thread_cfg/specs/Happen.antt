@@ -1,6 +1,5 @@
 -- When events happen: from which values, with which inputs, and what they leave.
-use Rattle.std.specs.Prelude.{◌≡◌, ◌⊎◌, ℕ, ℤ, pos, ◌+ℤ◌, ◌-ℤ◌, ◌≤ℤ◌, Bool, true, false, List, [], ◌∷◌}
-use Rattle.c_check.specs.Plan.{Arithmetic}
+use Rattle.std.specs.Prelude.{◌≡◌, ◌⊎◌, ℤ, pos, ◌+ℤ◌, ◌-ℤ◌, ◌≤ℤ◌, Bool, true, false, List, [], ◌∷◌}
 use Rattle.thread_cfg.specs.declared.relation.Relation.{Relation}
 use Rattle.thread_cfg.specs.declared.relation.Relation.TheVariants as related
 use Rattle.thread_cfg.specs.Source.{Frame, value, with_value, WayEnd}

@@ -1,5 +1,5 @@
 -- The interleavings of a text's threads, and when they fail: in the words of the source alone; and what the program says of them.
-use Rattle.std.specs.Prelude.{◌≡◌, ◌⊎◌, ℕ, ◌-◌, ℤ, List, [], ◌∷◌, length, map, take, slice_get, slice_set, Some}
+use Rattle.std.specs.Prelude.{◌≡◌, ℕ, ◌-◌, ℤ, List, [], ◌∷◌, length, map, take, slice_set, Some}
 use Rattle.c_tree.specs.Plain as plain
 use Rattle.c_check.specs.declared.plan.Column.{Column}
 use Rattle.c_check.specs.Check.{function_items}

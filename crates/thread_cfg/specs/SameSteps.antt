@@ -1,5 +1,5 @@
 -- A thread of a program has the same steps as its source: what this says of them, apart from how the program is made.
-use Rattle.std.specs.Prelude.{◌≡◌, ◌↔◌, IsSome, ℕ, ◌+◌, suc, ◌-◌, ◌<◌, ℤ, pos, List, [], ◌∷◌, ◌++◌, length, map, slice_get, slice_set, Option, Some, None}
+use Rattle.std.specs.Prelude.{◌≡◌, ◌↔◌, IsSome, ℕ, ◌-◌, ◌<◌, ℤ, pos, List, ◌++◌, length, map, slice_set, Option, Some}
 use Rattle.c_tree.specs.Plain as plain
 use Rattle.c_check.specs.Items.{Items}
 use Rattle.c_check.specs.Check.{function_items}

@@ -1,5 +1,5 @@
 -- One step of a thread of the source: what its first item does to the values of the variables and locks, and how it goes on.
-use Rattle.std.specs.Prelude.{◌≡◌, ◌⊎◌, ℕ, ◌+◌, ℤ, pos, ◌+ℤ◌, ◌-ℤ◌, ◌*ℤ◌, neg_ℤ, Bool, true, false, not, List, slice_index_or, slice_set, int_lt, int_le, MatchBool, Option, Some, None}
+use Rattle.std.specs.Prelude.{◌≡◌, ◌⊎◌, ℕ, ◌+◌, ℤ, pos, ◌+ℤ◌, ◌-ℤ◌, ◌*ℤ◌, neg_ℤ, Bool, not, List, slice_index_or, slice_set, int_lt, int_le, MatchBool, Option, Some, None}
 use Rattle.std.specs.Ordering.{int_eq}
 use Rattle.c_check.specs.declared.meaning.Variable.{Variable}
 use Rattle.c_check.specs.declared.meaning.Variable.TheVariants as variable
@@ -135,8 +135,8 @@ Does frame values (Item.Lock n) rest after next =
     (value_at values (lock_column frame n) ≡ pos 0) × (after ≡ slice_set values (lock_column frame n) (pos frame.thread)) × (next ≡ Standing.Doing rest)
 Does frame values (Item.Unlock n) rest after next =
     MatchBool (int_eq (value_at values (lock_column frame n)) (pos frame.thread))
-      ((after ≡ slice_set values (lock_column frame n) (pos 0)) × (next ≡ Standing.Doing rest))
-      ((after ≡ values) × (next ≡ Standing.Failed))
+    ((after ≡ slice_set values (lock_column frame n) (pos 0)) × (next ≡ Standing.Doing rest))
+    ((after ≡ values) × (next ≡ Standing.Failed))
 Does frame values (Item.Loop g body last) rest after next = ⊥
 Does frame values (Item.Again g body last) rest after next = ⊥
 Does frame values Item.Break rest after next = (after ≡ values) × (next ≡ Standing.Doing (behind_loop rest))

@@ -4,7 +4,7 @@ use Rattle.std.specs.List.{AllByRecursion}
 use Rattle.c_check.specs.Plan.{Arithmetic}
 use Rattle.thread_cfg.specs.Source.{Frame, column_of}
 use Rattle.thread_cfg.specs.Path.{Event, Path}
-use Rattle.thread_cfg.specs.Action.{Action, Alternative}
+use Rattle.thread_cfg.specs.Action.{Action}
 
 -- The columns that the expression reads are within n.
 abbrev pub IsWithin : ℕ → Frame → Arithmetic → Type 0

@@ -42,13 +42,9 @@ pub(crate) struct Parting<'a> {
 }
 
 impl<'a> Parting<'a> {
-    fn push(
-        &mut self,
-        on_true: Branch<'a>,
-        on_false: Branch<'a>,
-    ) -> Result<(), AllocError>
+    fn push(&mut self, on_true: Branch<'a>, on_false: Branch<'a>) -> Result<(), AllocError>
         ensures { OnOk result (parting_of self.new ≡ record (parting_of self.old) {
-            branches = record { on_true = branch_of on_true.entry; on_false = branch_of on_false.entry } ∷ branches_held self.old.branches.items;
+          branches = record { on_true = branch_of on_true.entry; on_false = branch_of on_false.entry } ∷ branches_held self.old.branches.items;
         }) }
     {
         self.branches.push(Branches { on_true, on_false })?;

@@ -51,5 +51,8 @@ fn is_variable(kind: ColumnKind) -> bool
 pub(crate) fn variable_count(columns: &[c_check::Column]) -> usize
     ensures { result ≡ length (filter (λ c. is_variable c.kind) columns.now) }
 {
-    columns.iter().filter(|column| is_variable(column.kind)).count()
+    columns
+        .iter()
+        .filter(|column| is_variable(column.kind))
+        .count()
 }

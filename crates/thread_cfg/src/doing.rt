@@ -92,10 +92,10 @@ impl Found {
         requires room { at.0 + sizes.comparison_size comparison.now < 2 ^ 32 }
         requires within { (a : Arithmetic) × (b : Arithmetic) × (comparison.now.left ≡ postfix a) × (comparison.now.right ≡ postfix b)
             × AreWithin running.now (actions_of_part running.now at.0
-                (APart.Compare comparison.now.from comparison.now.mark a b (option_map location_of on_true) (option_map location_of on_false))) }
+            (APart.Compare comparison.now.from comparison.now.mark a b (option_map location_of on_true) (option_map location_of on_false))) }
         ensures { (a b : Arithmetic) → comparison.now.left ≡ postfix a → comparison.now.right ≡ postfix b
             → OnOk result (AddsActions running.now at.0 self.old self.new (actions_of_part running.now at.0
-                (APart.Compare comparison.now.from comparison.now.mark a b (option_map location_of on_true) (option_map location_of on_false)))) }
+            (APart.Compare comparison.now.from comparison.now.mark a b (option_map location_of on_true) (option_map location_of on_false)))) }
     {
         let left = comparison.left.as_slice();
         let right = comparison.right.as_slice();
@@ -120,9 +120,7 @@ impl Found {
                 left: Expression::Cut(left, running.temporary),
                 right: Expression::Cut(right, middle.temporary),
             };
-            self.add_test(
-                alloc, running, last.at, mark, &compared, on_true, on_false,
-            )
+            self.add_test(alloc, running, last.at, mark, &compared, on_true, on_false)
         }
     }
 
@@ -157,7 +155,9 @@ impl Found {
             Part::Unlock(from, lock, next) => {
                 self.add_unlock(alloc, running, at, *from, *lock, *next)
             }
-            Part::Block(_, _, _) => Err(AllocError),
+            Part::Block(from, code, next) => {
+                self.add_block(alloc, running, at, *from, code, *next)
+            }
         }
     }
 

@@ -179,10 +179,7 @@ impl<'a> Going<'a> {
 }
 
 /// The paths of an atomic body.
-pub(crate) fn block_ways<'a>(
-    alloc: Global,
-    code: &'a [Instruction],
-) -> Result<Ways<'a>, AllocError>
+pub(crate) fn block_ways<'a>(alloc: Global, code: &'a [Instruction]) -> Result<Ways<'a>, AllocError>
     ensures { IfOk result (λ ways. ways_of ways ≡ (specs.gone_all code.now specs.going_start).ways) }
 {
     let mut going = Going::new(alloc)?;

@@ -2,6 +2,7 @@
 #![tactic(auto)]
 
 mod along;
+mod block;
 mod branches;
 mod building;
 mod columns;
@@ -22,6 +23,7 @@ mod marks;
 mod part;
 mod pass;
 mod paths;
+mod places;
 mod read;
 mod reading;
 mod relation;
@@ -33,7 +35,10 @@ mod stack;
 mod sums;
 mod temporaries;
 mod thread;
+#[cfg(test)]
+mod thread_tests;
 
 pub use building::build;
 pub use laws::{edges_happen, paths_tell_ways, programs_step_alike, texts_fail_alike};
 pub use read::read_program;
+pub use thread::location_places;

@@ -50,12 +50,12 @@ impl Found {
         to: Loc,
     ) -> Result<(), AllocError>
         requires within { WaysWithin running.now (record {
-            events = path.Event.Requires from related.Equal (Arithmetic.Value variable) (Arithmetic.Number (pos was)) ∷ path.Event.Sets from variable (Arithmetic.Number (pos becomes)) ∷ [];
-            to = to.0;
+          events = path.Event.Requires from related.Equal (Arithmetic.Value variable) (Arithmetic.Number (pos was)) ∷ path.Event.Sets from variable (Arithmetic.Number (pos becomes)) ∷ [];
+          to = to.0;
         } ∷ []) }
         ensures { OnOk result (AddsWays running.now at.0 self.old self.new (record {
-            events = path.Event.Requires from related.Equal (Arithmetic.Value variable) (Arithmetic.Number (pos was)) ∷ path.Event.Sets from variable (Arithmetic.Number (pos becomes)) ∷ [];
-            to = to.0;
+          events = path.Event.Requires from related.Equal (Arithmetic.Value variable) (Arithmetic.Number (pos was)) ∷ path.Event.Sets from variable (Arithmetic.Number (pos becomes)) ∷ [];
+          to = to.0;
         } ∷ [])) }
     {
         let events = [

@@ -11,6 +11,7 @@ ghost use Rattle.thread_cfg.specs.Within.{ActionsWithin};
 use crate::counter::count_locations;
 use crate::frame::Frame;
 use crate::pass::parts_of_code;
+use crate::places::places_of_code;
 use crate::running::Running;
 use c_check::Function;
 use std::alloc::{AllocError, Global};
@@ -53,20 +54,21 @@ pub(crate) fn find_edges(
         });
         return Ok(found);
     };
-    found.locations = counter.at + 1;
-    let parts = parts_of_code(alloc, code, Loc(counter.at), counter.loops)?;
+    let exit = counter.at;
+    let parts = parts_of_code(alloc, code, Loc(exit), counter.loops)?;
     let running = Running {
         columns,
         frame: *frame,
         temporary: function.locals,
     };
     found.add_parts(alloc, &running, parts.as_slice())?;
+    found.locations = exit + 1;
     Ok(found)
 }
 
-/// The place of the first token of each location's action, from location 1 on.
-pub(crate) fn find_places(alloc: Global, function: &Function) -> Result<Vec<u32>, AllocError>
+/// The place of the first token of the action at each location of a thread that runs the function, from location 1 on.
+pub fn location_places(alloc: Global, function: &Function) -> Result<Vec<u32>, AllocError>
     ensures { (t : graph.Running) → function.now ≡ stored_function t.function → IfOk result (λ places. places.items ≡ graph.location_places t) }
 {
-    Err(AllocError)
+    places_of_code(alloc, function.body.as_slice())
 }

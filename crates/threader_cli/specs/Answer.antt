@@ -1,7 +1,7 @@
 -- What the program answers: its words, the files that they name, and the status and text that follow from both.
 use Rattle.std.specs.Prelude.{◌≡◌, ◌<◌, ◌≤◌, ℕ, Bool, true, not, List, [], ◌∷◌, ◌++◌, length, replicate, Option, Some, None, codes, decimal, ◌==◌, IsTrue}
 use Rattle.std.specs.List.{list_all}
-use Rattle.thr_base.specs.Limits.{text_limit}
+use Rattle.thr_base.specs.Limits.{text_limit, default_facts, default_jobs}
 use Rattle.thr_base.specs.Outside.{StoreMeaning, SinkMeaning, Appends, WritesFront}
 use Rattle.thr_base.specs.Reading.{IsFileNamed, StopsReading, KeepsFiles}
 use Rattle.thr_base.specs.declared.names.RuleName.TheVariants.{Rg}
@@ -19,7 +19,7 @@ use Rattle.horn_rules.specs.Table.{IsTable, fact_line}
 use Rattle.annotation_form.specs.BadLine.{IsBadLine}
 use Rattle.annotation_form.specs.Lines.{lines_text}
 use Rattle.annotation_form.specs.Predicates.{IsReadAs, IsTextOfPredicates}
-use Rattle.serial_fix.specs.Least.{LeastLeaves}
+use Rattle.serial_fix.specs.Least.{LeastLeaves, HasMoreFacts, HasMoreInstances}
 use Rattle.thread_cfg.specs.Read.{IsProgramText, Refuses}
 use Rattle.thread_cfg.specs.Interleaving.{TextFails}
 use Rattle.threader_cli.specs.Refusals.{not_built_text}
@@ -67,6 +67,10 @@ bad_line_text kind n = kind.label ++ codes " line " ++ decimal n ++ codes "\n"
 
 -- ---- programs
 
+-- what is written where a run meets a limit
+abbrev pub limit_text : List ℕ → ℕ → List ℕ
+limit_text what limit = codes "UNKNOWN " ++ what ++ codes " " ++ decimal limit ++ codes "\n"
+
 -- no predicates: an empty list for each home
 abbrev pub no_predicates : Program → List (List Row)
 no_predicates program = replicate (length (homes program)) []
@@ -78,6 +82,9 @@ pub data AnswersProgram (program : Program) (lists : List (List Row)) : ℕ → 
       → AnswersProgram program lists 0 text
   -- A system that decides an instance over the least set is left undecided.
   leaves : LeastLeaves program lists → AnswersProgram program lists 4 (codes "UNKNOWN leaves\n")
+  -- The least set has more facts, or there are more instances over it, than a run may use.
+  facts : HasMoreFacts program lists default_facts → AnswersProgram program lists 4 (limit_text (codes "facts") default_facts)
+  jobs : HasMoreInstances program lists default_jobs → AnswersProgram program lists 4 (limit_text (codes "jobs") default_jobs)
 
 -- The status and the text that follow from a program and the bytes of a file of predicates.
 pub data AnswersPredicates (program : Program) (bytes : List ℕ) : ℕ → List ℕ → Type 0 where

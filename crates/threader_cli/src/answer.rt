@@ -3,7 +3,7 @@ ghost use Rattle.thr_base.specs.Limits.{text_limit};
 ghost use Rattle.thr_base.specs.Reading.{KeepsFiles};
 ghost use Rattle.horn_rules.specs.Stored.{AreStoredSetsOf};
 ghost use Rattle.threader_cli.specs.Answer as specs;
-ghost use Rattle.threader_cli.specs.Answer.{predicates_text, no_predicates, AnswersFiles, AnswersPredicates, AnswersProgram, AnswersProgramText, AnswersTables, AnswersText, Ends, Frame, TablesTellSafety};
+ghost use Rattle.threader_cli.specs.Answer.{predicates_text, no_predicates, limit_text, AnswersFiles, AnswersPredicates, AnswersProgram, AnswersProgramText, AnswersTables, AnswersText, Ends, Frame, TablesTellSafety};
 ghost use Rattle.threader_cli.specs.inside.Parts.{names, IsReadText, Wrote};
 
 use crate::words::{Files, tables_files};
@@ -14,7 +14,7 @@ use predicate_sets::Sets;
 use serial_fix::{LeastAnswer, least};
 use std::alloc::{AllocError, Global};
 use thr_base::{
-    Failed, LineStop, NOT_BUILT, ReadStop, Refusal, Sink, Stop, Store, TEXT_LIMIT, read_all,
+    DEFAULT_LIMITS, Failed, LineStop, NOT_BUILT, ReadStop, Refusal, Sink, Stop, Store, TEXT_LIMIT, read_all,
     write_all,
 };
 use thread_cfg::{read_program, texts_fail_alike};
@@ -233,11 +233,25 @@ fn tables(alloc: Global, program: &Program, sets: &Sets) -> Result<Answer, Alloc
     requires { AreStoredSetsOf program.now sets.now }
     ensures { IfOk result (λ answer. AnswersProgram program.now sets.now answer.status answer.text.items) }
 {
-    match least(alloc, program, sets)? {
+    match least(alloc, program, sets, DEFAULT_LIMITS)? {
         LeastAnswer::Facts(facts) => Ok(Answer {
             status: 0,
             text: table(alloc, program, &facts)?,
         }),
         LeastAnswer::Leaves => said(alloc, 4, b"UNKNOWN leaves\n"),
+        LeastAnswer::TooManyFacts => too_low(alloc, "facts", DEFAULT_LIMITS.facts),
+        LeastAnswer::TooManyJobs => too_low(alloc, "jobs", DEFAULT_LIMITS.jobs),
     }
+}
+
+/// That a run met its limit on what is named.
+fn too_low(alloc: Global, what: &str, limit: u32) -> Result<Answer, AllocError>
+    ensures { IfOk result (λ answer. (answer.status ≡ 4) × (answer.text.items ≡ limit_text what.now limit)) }
+{
+    let mut text = Vec::from_slice(alloc, b"UNKNOWN ")?;
+    text.extend_from_slice(what.as_bytes())?;
+    text.extend_from_slice(b" ")?;
+    text.extend_from_slice(Buffer::new().format(limit).as_bytes())?;
+    text.extend_from_slice(b"\n")?;
+    Ok(Answer { status: 4, text })
 }

@@ -145,10 +145,15 @@ fn the_longest_comment_is_skipped(rt: HostRuntime) -> Result<(), Fail> {
 }
 
 #[test]
-fn the_longest_body_has_too_many_locations(rt: HostRuntime) -> Result<(), Fail> {
-    let front = "int x; void *f(void *a) { ";
-    let written = run_long(rt.alloc(), front, 262_120, "x=1;", "  } MAIN")?;
+fn a_long_body_has_too_many_locations(rt: HostRuntime) -> Result<(), Fail> {
+    let filling = times(rt.alloc(), 60_000, "x=1;")?;
+    let text = spelled(
+        rt.alloc(),
+        &format!(in rt.alloc(); "int x; void *f(void *a) {{ {filling} }} MAIN")?,
+    )?;
+    let (status, written) = run(rt.alloc(), "tables x.c", &text)?;
     assert_eq!(rt; written.as_str(), "program E11 13\n");
+    assert_eq!(rt; status, 3);
     Ok(())
 }
 

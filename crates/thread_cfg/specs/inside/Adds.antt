@@ -12,9 +12,11 @@ use Rattle.c_check.specs.Plan.{Arithmetic}
 use Rattle.thread_cfg.specs.declared.comparing.Compared.{Compared}
 use Rattle.thread_cfg.specs.declared.reading.Reading.{Reading}
 use Rattle.thread_cfg.specs.declared.running.Running.{Running}
-use Rattle.thread_cfg.specs.Action.{Action, Alternative, read_actions}
+use Rattle.thread_cfg.specs.Action.{Action, Alternative, path_alternative, read_actions}
 use Rattle.thread_cfg.specs.Edge.{alternative_edge}
 use Rattle.thread_cfg.specs.Graph.{edge_made, edges_from, refusals_from, unfit}
+use Rattle.thread_cfg.specs.Path.{Path}
+use Rattle.thread_cfg.specs.inside.Few.{WrittenPath, path_written}
 use Rattle.thread_cfg.specs.inside.Meant.{Means, frame_of}
 use Rattle.thread_cfg.specs.inside.Parts.{Part, Written, part_actions, parts_actions, parts_size, written}
 use Rattle.thread_cfg.specs.Within.{ActionsWithin, EventsWithin}
@@ -77,3 +79,11 @@ pub record AreDone (running : Running) (old new : Found) (at : ℕ) (remaining :
   pub added : AddsActions running 1 old new done
   pub far : 1 + length done ≡ at
   pub all : done ++ actions_of_parts running at rest ≡ actions_of_parts running 1 whole
+
+-- Of the ways of paths all are added but for those that are left.
+pub record WaysDone (running : Running) (at next : ℕ) (old new : Found) (remaining : List WrittenPath) (whole : List Path) : Type 0 where
+  pub rest : List Path
+  pub rest_is : remaining ≡ map path_written rest
+  pub done : List Alternative
+  pub added : AddsWays running at old new done
+  pub all : done ++ map (path_alternative next) rest ≡ map (path_alternative next) whole

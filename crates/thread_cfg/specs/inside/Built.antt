@@ -1,13 +1,10 @@
 -- What is found of the threads of a plan, one after another.
-use Rattle.std.specs.Prelude.{◌≡◌, ℕ, ◌+◌, ◌-◌, List, [], ◌∷◌, ◌++◌, length, map, flat_map, take, Option}
+use Rattle.std.specs.Prelude.{◌≡◌, ℕ, List, [], map, flat_map, Option}
 use Rattle.thr_base.specs.declared.stops.Refusal.{Refusal}
-use Rattle.c_tree.specs.Plain as plain
 use Rattle.c_check.specs.First.{first_of}
-use Rattle.c_check.specs.Columns.{columns_of}
-use Rattle.transition_formula.specs.Program.{Thread}
 use Rattle.transition_formula.specs.Stored.{thread_of}
 use Rattle.transition_formula.specs.declared.graph.ThreadGraph.{ThreadGraph}
-use Rattle.thread_cfg.specs.Graph.{Running, thread_graph, thread_refusals, threads_running}
+use Rattle.thread_cfg.specs.Graph.{Running, thread_graph, thread_refusals}
 
 -- Of these threads the first refusal was found, or where there is none their graphs.
 pub record AreFound (columns threads : ℕ) (ts : List Running) (graphs : List ThreadGraph) (refusal : Option Refusal) : Type 0 where

@@ -1,5 +1,5 @@
 -- What the code holds while it counts.
-use Rattle.std.specs.Prelude.{◌≡◌, ℕ, ◌<◌, ◌≤◌, Bool, true, false, List, map, reverse, Option, Some, None}
+use Rattle.std.specs.Prelude.{◌≡◌, ℕ, ◌<◌, ◌≤◌, Bool, true, false, map, reverse, Option, Some, None}
 use Rattle.thr_base.specs.Limits.{most_locations}
 use Rattle.thread_cfg.specs.declared.counter.Counter.{Counter}
 use Rattle.thread_cfg.specs.inside.Sizes.{Counted}

@@ -1,5 +1,5 @@
 -- What is found of a thread.
-use Rattle.std.specs.Prelude.{◌≡◌, ℕ, List, [], map}
+use Rattle.std.specs.Prelude.{◌≡◌, ℕ, [], map}
 use Rattle.c_check.specs.First.{first_of}
 use Rattle.transition_formula.specs.Stored.{edge_of}
 use Rattle.thread_cfg.specs.declared.thread.Found.{Found}

@@ -1,5 +1,6 @@
 -- What the code holds while it finds the paths of an atomic body.
-use Rattle.std.specs.Prelude.{List, map, reverse, Option, Some, None}
+use Rattle.std.specs.Prelude.{nat_lt, Bool, List, length, map, reverse, Option, Some, None}
+use Rattle.thr_base.specs.Limits.{most_tests}
 use Rattle.c_check.specs.declared.operation.Operation.{Operation}
 use Rattle.thread_cfg.specs.declared.event.Expression.{Expression}
 use Rattle.thread_cfg.specs.declared.event.Expression.TheVariants as expression
@@ -51,3 +52,7 @@ ways_held ws = reverse (map ways_of ws)
 
 abbrev pub going_of : StoredGoing → Going
 going_of s = record { ways = ways_of s.ways; opened = ways_held s.opened.items; depth = s.depth }
+
+-- more happens on it than an edge may have tests or inputs
+abbrev pub is_long_path : Path → Bool
+is_long_path path = nat_lt most_tests (length path.events.items)

@@ -1,5 +1,5 @@
 -- A thread as a list of parts: each is what is done at one location, with the reads in front of it, and where it leads.
-use Rattle.std.specs.Prelude.{ℕ, ◌+◌, List, [], ◌∷◌, ◌++◌, length, map, reverse, Option, Some, None}
+use Rattle.std.specs.Prelude.{ℕ, ◌+◌, List, [], ◌∷◌, ◌++◌, length, Option, Some, None}
 use Rattle.c_check.specs.declared.meaning.Variable.{Variable}
 use Rattle.c_check.specs.declared.operation.Mark.{Mark}
 use Rattle.c_check.specs.declared.test.Comparison as stored_comparison

@@ -1,5 +1,5 @@
 -- The parts of instructions, found from the last instruction to the first: behind each it is known where it leads.
-use Rattle.std.specs.Prelude.{ℕ, zero, suc, ◌+◌, ◌-◌, List, [], ◌∷◌, ◌++◌, Option, Some, None}
+use Rattle.std.specs.Prelude.{ℕ, zero, suc, ◌-◌, List, [], ◌∷◌, Option, Some, None}
 use Rattle.c_check.specs.declared.test.TestOperation.{TestOperation}
 use Rattle.c_check.specs.declared.test.TestOperation.TheVariants as test_operation
 use Rattle.c_check.specs.declared.test.Condition as stored_condition

@@ -1,5 +1,5 @@
 -- What the code holds while it goes from the last instruction to the first.
-use Rattle.std.specs.Prelude.{ℕ, zero, suc, ◌-◌, List, [], map, reverse, take, drop, Option, Some, None, option_map}
+use Rattle.std.specs.Prelude.{ℕ, zero, suc, ◌-◌, List, [], map, reverse, take, drop, option_map}
 use Rattle.thr_base.specs.declared.names.Loc.{Loc}
 use Rattle.c_check.specs.declared.instruction.Instruction.{Instruction}
 use Rattle.thread_cfg.specs.declared.part.Part.{Part}

@@ -1,5 +1,5 @@
 -- How many locations instructions have, and where loops begin: one instruction after another, from the first to the last.
-use Rattle.std.specs.Prelude.{ℕ, zero, suc, ◌+◌, Bool, true, false, List, [], ◌∷◌, filter, flat_map, length}
+use Rattle.std.specs.Prelude.{ℕ, zero, suc, pred, ◌+◌, Bool, true, false, List, [], ◌∷◌, ◌++◌, filter, flat_map, length, replicate}
 use Rattle.c_check.specs.declared.meaning.Variable.{Variable}
 use Rattle.c_check.specs.declared.meaning.Variable.TheVariants as variable
 use Rattle.c_check.specs.declared.operation.Operation.{Operation}
@@ -125,3 +125,52 @@ abbrev pub written_size : Written → ℕ
 written_size (Written.Assign a next) = assignment_size a
 written_size (Written.Compare c t f) = comparison_size c
 written_size _ = 1
+
+-- ---- the places of locations
+
+-- as many times as it has locations
+abbrev pub places_of : TestOperation → List ℕ
+places_of (test_operation.Compare c) = replicate (comparison_size c) c.from
+places_of test_operation.Not = []
+places_of test_operation.And = []
+places_of test_operation.Or = []
+
+abbrev pub test_places : List TestOperation → List ℕ
+test_places tests = flat_map places_of tests
+
+abbrev pub condition_places : Condition → List ℕ
+condition_places (stored.Choice from) = from ∷ []
+condition_places (stored.Test from tests) = test_places tests
+
+abbrev pub instruction_places : Instruction → List ℕ
+instruction_places (instruction.Assign a) = replicate (assignment_size a) a.from
+instruction_places (instruction.AssignAny from v) = from ∷ []
+instruction_places (instruction.If from c) = condition_places c
+instruction_places instruction.Else = []
+instruction_places instruction.EndIf = []
+instruction_places (instruction.Loop from c) = condition_places c
+instruction_places instruction.Last = []
+instruction_places instruction.EndLoop = []
+instruction_places (instruction.Break from) = from ∷ []
+instruction_places (instruction.Exit from) = from ∷ []
+instruction_places (instruction.Lock from lock) = from ∷ []
+instruction_places (instruction.Unlock from lock) = from ∷ []
+instruction_places (instruction.Assert from tests) = test_places tests
+instruction_places (instruction.Assume from tests) = test_places tests
+instruction_places (instruction.Atomic from) = from ∷ []
+instruction_places instruction.EndAtomic = []
+
+-- so many atomic blocks are around what is behind the instruction
+abbrev pub deeper : ℕ → Instruction → ℕ
+deeper depth (instruction.Atomic from) = suc depth
+deeper depth instruction.EndAtomic = pred depth
+deeper depth i = depth
+
+-- in an atomic block there are none
+abbrev pub places_at : ℕ → Instruction → List ℕ
+places_at zero i = instruction_places i
+places_at (suc more) i = []
+
+abbrev pub places_from : ℕ → List Instruction → List ℕ
+places_from depth [] = []
+places_from depth (i ∷ is) = places_at depth i ++ places_from (deeper depth i) is

@@ -1,7 +1,7 @@
 use Rattle.std.proofs.Common.{◌≡◌, ◌≤◌, false, ap, arith, rules}
 use Rattle.thr_base.specs.Limits.{most_locations}
 use Rattle.thread_cfg.specs.inside.Sizes.{count_start, counted, counted_all}
-use Rattle.thread_cfg.specs.inside.Counter.{IsCounted, counted_of}
+use Rattle.thread_cfg.specs.inside.Counter.{counted_of}
 use Rattle.thread_cfg.proofs.SizeLemmas.{counted-over}
 use Rattle.thread_cfg.proofs.counter.count_locations.Goals as goal
 

@@ -1,4 +1,4 @@
-use Rattle.std.proofs.Common.{◌≡◌, ◌+◌, ◌-◌, ◌<◌, get_or, length, sym, ap, ◌∙◌, arith}
+use Rattle.std.proofs.Common.{◌≡◌, ◌+◌, ◌-◌, get_or, sym, ap, ◌∙◌, arith}
 use Rattle.c_check.specs.declared.instruction.Instruction.TheVariants as instruction
 use Rattle.thread_cfg.specs.inside.Pass.{pass_start, passed}
 use Rattle.thread_cfg.specs.inside.Passing.{locations_held, passed_at}

@@ -1,6 +1,5 @@
 -- Each pass answers for the bytes.
 use Rattle.std.proofs.lemmas.Result.{err_from_is_err_and}
-use Rattle.c_check.specs.declared.plan.Plan.{Plan}
 use Rattle.thread_cfg.specs.Read.{IsPlanOfText}
 use Rattle.thread_cfg.proofs.StopLemmas.{reads-built, stops-plan, stops-tokens, stops-tree}
 use Rattle.thread_cfg.proofs.read.read_text.Goals as goal
@@ -23,5 +22,5 @@ returns-in_err-plan c =
 pub returns : goal.returns
 returns c =
     let is : IsPlanOfText c.args.text.now c.in_ok-tree.tree c.in_ok-plan.plan =
-        record { is_tree = c.in_ok-tree.ensures.tree; accepted = c.in_ok-plan.ensures.0; plan_is = c.in_ok-plan.ensures.1 } in
+    record { is_tree = c.in_ok-tree.ensures.tree; accepted = c.in_ok-plan.ensures.0; plan_is = c.in_ok-plan.ensures.1 } in
     reads-built c.build.result c.args.text.now c.in_ok-tree.tree c.in_ok-plan.plan c.requires.utf8 is (c.build.ensures c.args.text.now c.in_ok-tree.tree is)

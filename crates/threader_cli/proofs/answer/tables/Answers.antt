@@ -1,16 +1,26 @@
 use Rattle.std.proofs.Common.{subst}
 use Rattle.serial_fix.specs.Least.{IsLeastAnswer}
 use Rattle.threader_cli.proofs.AnswerLemmas.{said, table-answers}
-use Rattle.threader_cli.specs.Answer.{AnswersProgram, leaves}
+use Rattle.threader_cli.specs.Answer.{AnswersProgram, leaves, facts, jobs}
 use Rattle.threader_cli.proofs.answer.tables.Goals as goal
 
 pub returns-in_ok-table-in-Facts : goal.returns-in_ok-table-in-Facts
 returns-in_ok-table-in-Facts c =
-    let least = subst (IsLeastAnswer c.args.program.now c.args.sets.now) c.in-Facts.is c.in_ok-facts.ensures in
+    let least = subst (IsLeastAnswer c.args.program.now c.args.sets.now _) c.in-Facts.is c.in_ok-facts.ensures in
     table-answers c.args.program.now c.args.sets.now c.in-Facts.facts.items c.deref.result.now c.in_ok-table-in-Facts.field-0.items least c.deref.ensures.value
     c.in_ok-table-in-Facts.ensures.least
 
 pub returns-in-Leaves : goal.returns-in-Leaves
 returns-in-Leaves c =
-    let undecided = subst (IsLeastAnswer c.args.program.now c.args.sets.now) c.in-Leaves.is c.in_ok-facts.ensures in
+    let undecided = subst (IsLeastAnswer c.args.program.now c.args.sets.now _) c.in-Leaves.is c.in_ok-facts.ensures in
     said (AnswersProgram c.args.program.now c.args.sets.now) c.said.result 4 _ c.said.ensures (leaves undecided)
+
+pub returns-in-TooManyFacts : goal.returns-in-TooManyFacts
+returns-in-TooManyFacts c =
+    let more = subst (IsLeastAnswer c.args.program.now c.args.sets.now _) c.in-TooManyFacts.is c.in_ok-facts.ensures in
+    said (AnswersProgram c.args.program.now c.args.sets.now) c.too_low.result 4 _ c.too_low.ensures (facts more)
+
+pub returns-in-TooManyJobs : goal.returns-in-TooManyJobs
+returns-in-TooManyJobs c =
+    let more = subst (IsLeastAnswer c.args.program.now c.args.sets.now _) c.in-TooManyJobs.is c.in_ok-facts.ensures in
+    said (AnswersProgram c.args.program.now c.args.sets.now) c.too_low.result 4 _ c.too_low.ensures (jobs more)

@@ -1,6 +1,5 @@
-use Rattle.std.proofs.Common.{◌≡◌, ◌+◌, ◌-◌, ◌<◌, ℕ, suc, length, get_or, sym, ◌∙◌, arith}
+use Rattle.std.proofs.Common.{◌≡◌, ◌<◌, length, get_or, sym, ◌∙◌, arith}
 use Rattle.std.proofs.lemmas.List.{get_or_read}
-use Rattle.c_check.specs.declared.instruction.Instruction.{Instruction}
 use Rattle.c_check.specs.declared.instruction.Instruction.TheVariants as instruction
 use Rattle.thread_cfg.proofs.PassSteps.{inside-atomic, inside-end_atomic, inside-other, on_ok-then}
 use Rattle.thread_cfg.proofs.pass.Pass.enter_inside.Goals as goal

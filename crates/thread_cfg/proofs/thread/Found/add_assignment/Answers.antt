@@ -1,5 +1,5 @@
 use Rattle.std.proofs.Common.{◌≡◌, ◌+◌, ◌<◌, ◌≤◌, ◌∷◌, [], OnOk, true, false, length, refl, sym, ap, subst, ◌∙◌, arith}
-use Rattle.c_check.specs.Plan.{Arithmetic, postfix}
+use Rattle.c_check.specs.Plan.{postfix}
 use Rattle.c_check.specs.Items.{few, over_temporaries, reads, shared_in, written}
 use Rattle.thread_cfg.specs.Path.{Event}
 use Rattle.thread_cfg.specs.Action.{assign_accesses, read_actions, simple}
@@ -23,7 +23,7 @@ add_simple-requires c =
         a.from,
         Event.Sets a.at a.variable e,
         (refl, refl, is),
-        subst (AreWithin c.args.running.now) (assign-few c.args.running.now.temporary c.args.at.0 c.args.next.0 a.from a.at a.variable e one) c.requires.within.2
+        subst (AreWithin c.args.running.now) (assign-few c.args.running.now.temporary c.args.at.0 c.args.next.0 a.from a.at a.variable e one) c.requires.within.2,
       );
     }
 
@@ -35,8 +35,8 @@ returns-then-accesses_of-lt2 c e given =
     let n = assign_accesses-is a.variable c.shared_operations-reads.result c.accesses_of.result os e is c.shared_operations-reads.ensures.value c.accesses_of.ensures in
     let one : few (assign_accesses a.variable e) ≡ true = few-true (assign_accesses a.variable e) (subst (λ k. k < 2) n c.if-accesses_of-lt2.true) in
     subst (λ l. OnOk c.add_simple.result (AddsActions c.args.running.now c.args.at.0 c.args.self.now c.add_simple.new.self l))
-      (sym (assign-few c.args.running.now.temporary c.args.at.0 c.args.next.0 a.from a.at a.variable e one))
-      (c.add_simple.ensures a.from (Event.Sets a.at a.variable e) (refl, refl, is))
+    (sym (assign-few c.args.running.now.temporary c.args.at.0 c.args.next.0 a.from a.at a.variable e one))
+    (c.add_simple.ensures a.from (Event.Sets a.at a.variable e) (refl, refl, is))
 
 pub add_reads-requires-clause-room : goal.add_reads-requires-clause-room
 add_reads-requires-clause-room c =
@@ -58,8 +58,8 @@ add_reads-requires-clause-within c =
     let more : few (assign_accesses a.variable e) ≡ false = few-false (assign_accesses a.variable e) (subst (λ k. 2 ≤ k) n c.if-accesses_of-lt2.false) in
     let all = subst (AreWithin running) (assign-many running.temporary c.args.at.0 c.args.next.0 a.from a.at a.variable e more) c.requires.within.2 in
     subst (λ vs. AreWithin running (read_actions a.from (reads running.temporary vs) c.args.at.0)) (sym (variables-is os e is))
-      (within-front running (read_actions a.from (reads running.temporary (shared_in e)) c.args.at.0)
-        (simple a.from (Event.Sets a.at a.variable (over_temporaries running.temporary e)) c.args.next.0 ∷ []) all)
+    (within-front running (read_actions a.from (reads running.temporary (shared_in e)) c.args.at.0)
+    (simple a.from (Event.Sets a.at a.variable (over_temporaries running.temporary e)) c.args.next.0 ∷ []) all)
 
 pub add_simple-requires-else-accesses_of-lt2 : goal.add_simple-requires-else-accesses_of-lt2
 add_simple-requires-else-accesses_of-lt2 c =
@@ -77,7 +77,7 @@ add_simple-requires-else-accesses_of-lt2 c =
         Event.Sets a.at a.variable (over_temporaries running.temporary e),
         (refl, refl, (e, is, refl)),
         within-rest running (read_actions a.from (reads running.temporary (shared_in e)) c.args.at.0)
-          (simple a.from (Event.Sets a.at a.variable (over_temporaries running.temporary e)) c.args.next.0 ∷ []) all
+            (simple a.from (Event.Sets a.at a.variable (over_temporaries running.temporary e)) c.args.next.0 ∷ []) all,
       );
     }
 
@@ -95,10 +95,10 @@ returns-in_ok-last c e given =
     let set = simple a.from (Event.Sets a.at a.variable (over_temporaries running.temporary e)) c.args.next.0 in
     let added = subst (λ l. AddsActions running at c.args.self.now c.add_reads.new.self (read_actions a.from (reads running.temporary l) at)) (variables-is os e is) c.in_ok-last.ensures.added in
     let behind : at + length rs ≡ c.in_ok-last.last.at.0 =
-        omega (arith, length-variables a.from running.temporary at (shared_in e), ap length (variables-is os e is), c.in_ok-last.ensures.at) in
+    omega (arith, length-variables a.from running.temporary at (shared_in e), ap length (variables-is os e is), c.in_ok-last.ensures.at) in
     subst (λ l. OnOk c.add_simple-else-accesses_of-lt2.result (AddsActions running at c.args.self.now c.add_simple-else-accesses_of-lt2.new.self l))
-      (sym (assign-many running.temporary at c.args.next.0 a.from a.at a.variable e more))
-      (on_ok-then
-        (AddsActions-then running at c.in_ok-last.last.at.0 c.args.self.now c.add_reads.new.self c.add_simple-else-accesses_of-lt2.new.self rs (set ∷ []) behind added)
-        c.add_simple-else-accesses_of-lt2.result
-        (c.add_simple-else-accesses_of-lt2.ensures a.from (Event.Sets a.at a.variable (over_temporaries running.temporary e)) (refl, refl, (e, is, refl))))
+    (sym (assign-many running.temporary at c.args.next.0 a.from a.at a.variable e more))
+    (on_ok-then
+    (AddsActions-then running at c.in_ok-last.last.at.0 c.args.self.now c.add_reads.new.self c.add_simple-else-accesses_of-lt2.new.self rs (set ∷ []) behind added)
+    c.add_simple-else-accesses_of-lt2.result
+    (c.add_simple-else-accesses_of-lt2.ensures a.from (Event.Sets a.at a.variable (over_temporaries running.temporary e)) (refl, refl, (e, is, refl))))

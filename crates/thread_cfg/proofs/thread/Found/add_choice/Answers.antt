@@ -15,7 +15,7 @@ returns c from =
     let first : Alternative = record { events = []; to = c.args.on_true.0 } in
     let second : Alternative = record { events = []; to = c.args.on_false.0 } in
     on_ok-then
-      (λ more. AddsActions-ways c.args.running.now c.args.at.0 c.args.self.now c.add_way-2.new.self (choice from c.args.on_true.0 c.args.on_false.0) refl
-        (AddsWays-then c.args.running.now c.args.at.0 c.args.self.now c.add_way.new.self c.add_way-2.new.self (first ∷ []) (second ∷ [])
-          (c.in_ok-add_way.ensures [] tt) more))
-      c.add_way-2.result (c.add_way-2.ensures [] tt)
+    (λ more. AddsActions-ways c.args.running.now c.args.at.0 c.args.self.now c.add_way-2.new.self (choice from c.args.on_true.0 c.args.on_false.0) refl
+    (AddsWays-then c.args.running.now c.args.at.0 c.args.self.now c.add_way.new.self c.add_way-2.new.self (first ∷ []) (second ∷ [])
+    (c.in_ok-add_way.ensures [] tt) more))
+    c.add_way-2.result (c.add_way-2.ensures [] tt)

@@ -1,5 +1,5 @@
-use Rattle.std.proofs.Common.{◌≡◌, ◌+◌, ◌<◌, ◌≤◌, ◌++◌, ◌∷◌, [], OnOk, true, false, option_map, length, refl, sym, ap, subst, ◌∙◌, arith}
-use Rattle.c_check.specs.Plan.{Arithmetic, postfix}
+use Rattle.std.proofs.Common.{◌≡◌, ◌+◌, ◌<◌, ◌≤◌, OnOk, true, false, option_map, length, refl, sym, ap, subst, ◌∙◌, arith}
+use Rattle.c_check.specs.Plan.{postfix}
 use Rattle.c_check.specs.Items.{few, over_temporaries, reads, shared_in}
 use Rattle.thread_cfg.specs.declared.reading.Reading.{Reading}
 use Rattle.thread_cfg.specs.Action.{compare_accesses, read_actions}
@@ -25,8 +25,12 @@ add_test-requires c =
     let n = compare_accesses-is c.shared_operations.result c.shared_operations-2.result ls rs a b is also c.shared_operations.ensures.value c.shared_operations-2.ensures.value in
     let one : few (compare_accesses a b) ≡ true = few-true (compare_accesses a b) (subst (λ k. k < 2) n c.if-shared_operations-lt2.true) in
     record {
-      within = (a, b, (is, also),
-        subst (AreWithin running) (compare-few running.temporary c.args.at.0 q.from q.mark a b t f one) c.requires.within.4);
+      within = (
+        a,
+        b,
+        (is, also),
+        subst (AreWithin running) (compare-few running.temporary c.args.at.0 q.from q.mark a b t f one) c.requires.within.4,
+      );
     }
 
 pub returns-then-shared_operations-lt2 : goal.returns-then-shared_operations-lt2
@@ -42,8 +46,8 @@ returns-then-shared_operations-lt2 c a b left right =
     let n = compare_accesses-is c.shared_operations.result c.shared_operations-2.result ls rs a b is also c.shared_operations.ensures.value c.shared_operations-2.ensures.value in
     let one : few (compare_accesses a b) ≡ true = few-true (compare_accesses a b) (subst (λ k. k < 2) n c.if-shared_operations-lt2.true) in
     subst (λ l. OnOk c.add_test.result (AddsActions running c.args.at.0 c.args.self.now c.add_test.new.self l))
-      (sym (compare-few running.temporary c.args.at.0 q.from q.mark a b t f one))
-      (c.add_test.ensures a b (is, also))
+    (sym (compare-few running.temporary c.args.at.0 q.from q.mark a b t f one))
+    (c.add_test.ensures a b (is, also))
 
 pub add_reads-requires-clause-room : goal.add_reads-requires-clause-room
 add_reads-requires-clause-room c =
@@ -53,8 +57,12 @@ add_reads-requires-clause-room c =
     let f = option_map location_of c.args.on_false in
     let ls = c.as_slice-left.result.now in
     let rs = c.as_slice-right.result.now in
-    omega (arith, c.requires.room, comparison-room q c.shared_operations.result c.shared_operations-2.result ls rs c.as_slice-left.ensures c.as_slice-right.ensures
-      c.shared_operations.ensures.value c.shared_operations-2.ensures.value c.if-shared_operations-lt2.false)
+    omega (
+      arith,
+      c.requires.room,
+      comparison-room q c.shared_operations.result c.shared_operations-2.result ls rs c.as_slice-left.ensures c.as_slice-right.ensures
+          c.shared_operations.ensures.value c.shared_operations-2.ensures.value c.if-shared_operations-lt2.false,
+    )
 
 pub add_reads-requires-clause-within : goal.add_reads-requires-clause-within
 add_reads-requires-clause-within c =
@@ -74,7 +82,7 @@ add_reads-requires-clause-within c =
     let ws = shared_variables rs in
     let all = compare-reads_within running c.args.at.0 q.from q.mark a b t f ls rs is also more c.requires.within.4 in
     within-front running (read_actions q.from (reads running.temporary vs) c.args.at.0) (read_actions q.from (reads (running.temporary + length vs) ws) (c.args.at.0 + length vs))
-      (subst (AreWithin running) (variables-append q.from running.temporary c.args.at.0 vs ws) all)
+    (subst (AreWithin running) (variables-append q.from running.temporary c.args.at.0 vs ws) all)
 
 pub add_reads-requires-else-shared_operations-lt2-clause-room :
     goal.add_reads-requires-else-shared_operations-lt2-clause-room
@@ -85,8 +93,13 @@ add_reads-requires-else-shared_operations-lt2-clause-room c =
     let f = option_map location_of c.args.on_false in
     let ls = c.as_slice-left.result.now in
     let rs = c.as_slice-right.result.now in
-    omega (arith, c.requires.room, c.in_ok-middle.ensures.at, comparison-room q c.shared_operations.result c.shared_operations-2.result ls rs c.as_slice-left.ensures c.as_slice-right.ensures
-      c.shared_operations.ensures.value c.shared_operations-2.ensures.value c.if-shared_operations-lt2.false)
+    omega (
+      arith,
+      c.requires.room,
+      c.in_ok-middle.ensures.at,
+      comparison-room q c.shared_operations.result c.shared_operations-2.result ls rs c.as_slice-left.ensures c.as_slice-right.ensures
+          c.shared_operations.ensures.value c.shared_operations-2.ensures.value c.if-shared_operations-lt2.false,
+    )
 
 pub add_reads-requires-else-shared_operations-lt2-clause-within :
     goal.add_reads-requires-else-shared_operations-lt2-clause-within
@@ -105,7 +118,7 @@ add_reads-requires-else-shared_operations-lt2-clause-within c =
     let more : few (compare_accesses a b) ≡ false = few-false (compare_accesses a b) (subst (λ k. 2 ≤ k) n c.if-shared_operations-lt2.false) in
     let first : Reading = record { at = c.args.at; temporary = running.temporary } in
     left-within running q.from first c.in_ok-middle.middle (shared_variables ls) (shared_variables rs) c.in_ok-middle.ensures.at c.in_ok-middle.ensures.temporary
-      (compare-reads_within running c.args.at.0 q.from q.mark a b t f ls rs is also more c.requires.within.4)
+    (compare-reads_within running c.args.at.0 q.from q.mark a b t f ls rs is also more c.requires.within.4)
 
 pub add_test-requires-else-shared_operations-lt2 :
     goal.add_test-requires-else-shared_operations-lt2
@@ -123,13 +136,13 @@ add_test-requires-else-shared_operations-lt2 c =
     let n = compare_accesses-is c.shared_operations.result c.shared_operations-2.result ls rs a b is also c.shared_operations.ensures.value c.shared_operations-2.ensures.value in
     let more : few (compare_accesses a b) ≡ false = few-false (compare_accesses a b) (subst (λ k. 2 ≤ k) n c.if-shared_operations-lt2.false) in
     let next : running.temporary + length (shared_in a) ≡ c.in_ok-middle.middle.temporary =
-        ap (λ l. running.temporary + length l) (sym (variables-is ls a is)) ∙ sym c.in_ok-middle.ensures.temporary in
+    ap (λ l. running.temporary + length l) (sym (variables-is ls a is)) ∙ sym c.in_ok-middle.ensures.temporary in
     record {
       within = (
         over_temporaries running.temporary a,
         over_temporaries (running.temporary + length (shared_in a)) b,
         ((a, is, refl), (b, also, ap (λ k. over_temporaries k b) next)),
-        compare-test_within running c.args.at.0 q.from q.mark a b t f more c.requires.within.4
+        compare-test_within running c.args.at.0 q.from q.mark a b t f more c.requires.within.4,
       );
     }
 
@@ -147,10 +160,10 @@ returns-in_ok-last c a b left right =
     let more : few (compare_accesses a b) ≡ false = few-false (compare_accesses a b) (subst (λ k. 2 ≤ k) n c.if-shared_operations-lt2.false) in
     let first : Reading = record { at = c.args.at; temporary = running.temporary } in
     let next : running.temporary + length (shared_in a) ≡ c.in_ok-middle.middle.temporary =
-        ap (λ l. running.temporary + length l) (sym (variables-is ls a is)) ∙ sym c.in_ok-middle.ensures.temporary in
+    ap (λ l. running.temporary + length l) (sym (variables-is ls a is)) ∙ sym c.in_ok-middle.ensures.temporary in
     on_ok-then
-      (compare-adds running q.from q.mark a b t f ls rs c.args.self.now c.add_reads.new.self c.add_reads-else-shared_operations-lt2.new.self
-        c.add_test-else-shared_operations-lt2.new.self first c.in_ok-middle.middle c.in_ok-last.last is also more refl c.in_ok-middle.ensures c.in_ok-last.ensures)
-      c.add_test-else-shared_operations-lt2.result
-      (c.add_test-else-shared_operations-lt2.ensures (over_temporaries running.temporary a) (over_temporaries (running.temporary + length (shared_in a)) b)
-        ((a, is, refl), (b, also, ap (λ k. over_temporaries k b) next)))
+    (compare-adds running q.from q.mark a b t f ls rs c.args.self.now c.add_reads.new.self c.add_reads-else-shared_operations-lt2.new.self
+    c.add_test-else-shared_operations-lt2.new.self first c.in_ok-middle.middle c.in_ok-last.last is also more refl c.in_ok-middle.ensures c.in_ok-last.ensures)
+    c.add_test-else-shared_operations-lt2.result
+    (c.add_test-else-shared_operations-lt2.ensures (over_temporaries running.temporary a) (over_temporaries (running.temporary + length (shared_in a)) b)
+    ((a, is, refl), (b, also, ap (λ k. over_temporaries k b) next)))

@@ -10,4 +10,4 @@ add_way-requires-clause-within c = ([], tt, (tt, tt))
 pub returns : goal.returns
 returns c from =
     on_ok-then (AddsActions-ways c.args.running.now c.args.at.0 c.args.self.now c.add_way.new.self (jump from c.args.to.0) refl)
-      c.add_way.result (c.add_way.ensures [] tt)
+    c.add_way.result (c.add_way.ensures [] tt)

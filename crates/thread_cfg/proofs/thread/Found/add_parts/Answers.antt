@@ -1,4 +1,4 @@
-use Rattle.std.proofs.Common.{◌≡◌, ◌+◌, ◌-◌, take, ap, sym, subst, ◌∙◌, arith}
+use Rattle.std.proofs.Common.{◌≡◌, ◌+◌, ◌-◌, take, subst, arith}
 use Rattle.thread_cfg.specs.inside.Adds.{AreDone, AreLeft}
 use Rattle.thread_cfg.specs.inside.Passing.{parts_held, written_of}
 use Rattle.thread_cfg.specs.inside.Sizes.{written_size}
@@ -42,8 +42,8 @@ parts-preserved c =
       left = subst (λ n. AreLeft running n rest) size next.left;
       far = λ whole e. subst (λ n. AreDone running c.args.self.now c.add_part.new.self n rest whole) size
           (done-next running c.args.self.now c.parts.self c.add_part.new.self c.parts.at.0 (written_of item) rest whole
-            (subst (λ l. AreDone running c.args.self.now c.parts.self c.parts.at.0 l whole) split (c.parts.invariant.far whole e))
-            (λ p is. c.in_ok-add_part.ensures p is));
+          (subst (λ l. AreDone running c.args.self.now c.parts.self c.parts.at.0 l whole) split (c.parts.invariant.far whole e))
+          (λ p is. c.in_ok-add_part.ensures p is));
     }
 
 pub returns : goal.returns
@@ -51,4 +51,4 @@ returns c ps e =
     let running = c.args.running.now in
     let none : c.parts.index ≡ 0 = omega arith in
     done-all running c.args.self.now c.parts.self c.parts.at.0 ps
-      (subst (λ n. AreDone running c.args.self.now c.parts.self c.parts.at.0 (parts_held (take n c.args.parts.now)) ps) none (c.parts.invariant.far ps e))
+    (subst (λ n. AreDone running c.args.self.now c.parts.self c.parts.at.0 (parts_held (take n c.args.parts.now)) ps) none (c.parts.invariant.far ps e))

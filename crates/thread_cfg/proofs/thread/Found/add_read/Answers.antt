@@ -10,6 +10,6 @@ add_simple-requires c = record {
     c.args.from,
     Event.Sets c.args.from (variable.Own c.args.reading.temporary) (Arithmetic.Value (variable.Shared c.args.number)),
     (refl, refl, refl),
-    c.requires.within
+    c.requires.within,
   );
 }

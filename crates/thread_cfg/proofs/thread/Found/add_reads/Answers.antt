@@ -1,4 +1,4 @@
-use Rattle.std.proofs.Common.{◌≡◌, ◌+◌, ◌<◌, ◌++◌, pos, drop, get_or, length, sym, ap, subst, ◌∙◌, arith}
+use Rattle.std.proofs.Common.{◌≡◌, ◌+◌, ◌++◌, pos, drop, get_or, length, sym, ap, subst, ◌∙◌, arith}
 use Rattle.std.proofs.lemmas.List.{append_assoc, length-append}
 use Rattle.c_check.specs.declared.operation.Operation.TheVariants as operation
 use Rattle.c_check.specs.Items.{reads}
@@ -28,6 +28,6 @@ operations-preserved c =
       far = (
         far.0 ++ shared_of o,
         append_assoc far.0 (shared_of o) rest ∙ ap (λ l. far.0 ++ l) (sym split) ∙ far.1,
-        AddsReads-then running from c.args.self.now c.operations.self c.add_operation.new.self c.args.first before after far.0 (shared_of o) far.2 step
+        AddsReads-then running from c.args.self.now c.operations.self c.add_operation.new.self c.args.first before after far.0 (shared_of o) far.2 step,
       );
     }

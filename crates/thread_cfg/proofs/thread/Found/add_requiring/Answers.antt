@@ -1,5 +1,4 @@
 use Rattle.std.proofs.Common.{[], ◌∷◌}
-use Rattle.c_check.specs.Plan.{Arithmetic}
 use Rattle.thread_cfg.specs.declared.relation.Relation.{Relation}
 use Rattle.thread_cfg.specs.Path.{Event}
 use Rattle.thread_cfg.specs.Action.{Alternative}
@@ -11,7 +10,7 @@ pub returns-in-Some-second : goal.returns-in-Some-second
 returns-in-Some-second c a b means =
     let way = λ (r : Relation). let w : Alternative = record { events = Event.Requires c.args.compared.now.from r a b ∷ []; to = c.in-Some.to.0 } in w in
     rw (c.in-Some.is, c.in-Some-second.is) (
-      on_ok-then
-        (AddsWays-then c.args.running.now c.args.at.0 c.args.self.now c.add_relation.new.self c.add_relation-in-Some-second.new.self
-          (way c.args.relations.first ∷ []) (way c.in-Some-second.second ∷ []) (c.in_ok-add_relation.ensures a b means))
-        c.add_relation-in-Some-second.result (c.add_relation-in-Some-second.ensures a b means))
+    on_ok-then
+    (AddsWays-then c.args.running.now c.args.at.0 c.args.self.now c.add_relation.new.self c.add_relation-in-Some-second.new.self
+    (way c.args.relations.first ∷ []) (way c.in-Some-second.second ∷ []) (c.in_ok-add_relation.ensures a b means))
+    c.add_relation-in-Some-second.result (c.add_relation-in-Some-second.ensures a b means))

@@ -10,4 +10,4 @@ add_way-requires-clause-within c = (c.requires.within.1 ∷ [], (c.requires.with
 pub returns : goal.returns
 returns c from e stands =
     on_ok-then (AddsActions-ways c.args.running.now c.args.at.0 c.args.self.now c.add_way.new.self (simple from e c.args.to.0) refl)
-      c.add_way.result (c.add_way.ensures (e ∷ []) (stands, tt))
+    c.add_way.result (c.add_way.ensures (e ∷ []) (stands, tt))

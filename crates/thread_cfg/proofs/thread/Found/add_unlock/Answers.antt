@@ -22,9 +22,9 @@ returns c =
     } in
     let first = rw c.lock_variable-variable.ensures at c.in_ok-add_exchange.ensures in
     let second = rw c.lock_variable-variable.ensures at
-        (c.add_requiring.ensures (Arithmetic.Value c.lock_variable-variable.result) thread (refl, c.number.ensures)) in
+    (c.add_requiring.ensures (Arithmetic.Value c.lock_variable-variable.result) thread (refl, c.number.ensures)) in
     on_ok-then
-      (λ more. AddsActions-ways c.args.running.now c.args.at.0 c.args.self.now c.add_requiring.new.self (unlock_action frame from c.args.lock c.args.next.0) refl
-        (AddsWays-then c.args.running.now c.args.at.0 c.args.self.now c.add_exchange.new.self c.add_requiring.new.self
-          (held ∷ []) (requiring from (related.Less ∷ (related.Greater ∷ [])) lock thread (Some 0)) first more))
-      c.add_requiring.result second
+    (λ more. AddsActions-ways c.args.running.now c.args.at.0 c.args.self.now c.add_requiring.new.self (unlock_action frame from c.args.lock c.args.next.0) refl
+    (AddsWays-then c.args.running.now c.args.at.0 c.args.self.now c.add_exchange.new.self c.add_requiring.new.self
+    (held ∷ []) (requiring from (related.Less ∷ (related.Greater ∷ [])) lock thread (Some 0)) first more))
+    c.add_requiring.result second
