@@ -14,7 +14,7 @@ use Rattle.horn_rules.specs.Stored.{sets_of}
 use Rattle.horn_rules.specs.Table.{IsTable, fact_line, positions_text}
 use Rattle.horn_rules.specs.Cover.{HasNoneFailing, NoRunFails, CoveredLeastIsSafe}
 use Rattle.thread_cfg.specs.Laws.{TextsFailAlike}
-use Rattle.threader_cli.specs.Answer.{AnswersProgram, table, leaves, facts, jobs, AnswersPredicates, bad_line, read, AnswersText, unread, read_whole, AnswersUnread, fault, long, AnswersTables, alone, second_thread, with_predicates, HasFailingLine, TextKind, TablesTellSafety}
+use Rattle.threader_cli.specs.Answer.{AnswersProgram, table, leaves, many_facts, many_jobs, AnswersPredicates, bad_line, read, AnswersText, unread, read_whole, AnswersUnread, fault, long, AnswersTables, alone, second_thread, with_predicates, HasFailingLine, TextKind, TablesTellSafety}
 
 -- ---- lines
 
@@ -75,8 +75,8 @@ program-safe : {program : Program} {lists : List (List Row)} {status : ℕ} {tex
 program-safe {program = program} {lists = lists} safe (table text is covers) done none =
     safe program Rg (sets_of program lists) covers (λ i. none-failing program (sets_of program lists) text i is none)
 program-safe safe (leaves why) done none = cc
-program-safe safe (facts why) done none = cc
-program-safe safe (jobs why) done none = cc
+program-safe safe (many_facts why) done none = cc
+program-safe safe (many_jobs why) done none = cc
 
 predicates-safe : {program : Program} {bytes : List ℕ} {status : ℕ} {text : List ℕ} → CoveredLeastIsSafe → AnswersPredicates program bytes status text → status ≡ 0 → ¬ HasFailingLine text
     → NoRunFails program

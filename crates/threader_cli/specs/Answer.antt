@@ -83,8 +83,8 @@ pub data AnswersProgram (program : Program) (lists : List (List Row)) : ℕ → 
   -- A system that decides an instance over the least set is left undecided.
   leaves : LeastLeaves program lists → AnswersProgram program lists 4 (codes "UNKNOWN leaves\n")
   -- The least set has more facts, or there are more instances over it, than a run may use.
-  facts : HasMoreFacts program lists default_facts → AnswersProgram program lists 4 (limit_text (codes "facts") default_facts)
-  jobs : HasMoreInstances program lists default_jobs → AnswersProgram program lists 4 (limit_text (codes "jobs") default_jobs)
+  many_facts : HasMoreFacts program lists default_facts → AnswersProgram program lists 4 (limit_text (codes "facts") default_facts)
+  many_jobs : HasMoreInstances program lists default_jobs → AnswersProgram program lists 4 (limit_text (codes "jobs") default_jobs)
 
 -- The status and the text that follow from a program and the bytes of a file of predicates.
 pub data AnswersPredicates (program : Program) (bytes : List ℕ) : ℕ → List ℕ → Type 0 where

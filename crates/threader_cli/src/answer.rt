@@ -14,8 +14,8 @@ use predicate_sets::Sets;
 use serial_fix::{LeastAnswer, least};
 use std::alloc::{AllocError, Global};
 use thr_base::{
-    DEFAULT_LIMITS, Failed, LineStop, NOT_BUILT, ReadStop, Refusal, Sink, Stop, Store, TEXT_LIMIT, read_all,
-    write_all,
+    DEFAULT_LIMITS, Failed, LineStop, NOT_BUILT, ReadStop, Refusal, Sink, Stop, Store, TEXT_LIMIT,
+    read_all, write_all,
 };
 use thread_cfg::{read_program, texts_fail_alike};
 use transition_formula::Program;
