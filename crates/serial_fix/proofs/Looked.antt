@@ -7,6 +7,7 @@ use Rattle.std.proofs.lemmas.Option.{slice_get-map, slice_get_within, get_or_fro
 use Rattle.std.proofs.lemmas.Bool.{cases_lt}
 use Rattle.thr_base.specs.declared.names.RuleName.TheVariants.{Rg}
 use Rattle.thr_base.specs.declared.names.FactId.{FactId}
+use Rattle.thr_base.specs.declared.names.Home.{Home as StoredHome}
 use Rattle.thr_base.specs.declared.names.Instance.{Instance as StoredInstance}
 use Rattle.thr_base.specs.declared.names.Fact.{Fact as StoredFact}
 use Rattle.thr_base.specs.declared.limits.Limits.{Limits}
@@ -21,7 +22,7 @@ use Rattle.horn_rules.specs.Instances.{IsResolved}
 use Rattle.horn_rules.specs.Case.{Case, init_case}
 use Rattle.horn_rules.specs.Case as rules
 use Rattle.horn_rules.specs.Least.{Least}
-use Rattle.horn_rules.specs.Stored.{fact_of, facts_of, sets_of, instance_of}
+use Rattle.horn_rules.specs.Stored.{fact_of, facts_of, home_of, sets_of, instance_of, HasItsHome}
 use Rattle.horn_rules.proofs.Lists.{Contains-slice_get}
 use Rattle.horn_rules.proofs.Places.{slice_get-append_left}
 use Rattle.serial_fix.specs.Least.{IsLeastInstance, HasMoreInstances}
@@ -29,7 +30,7 @@ use Rattle.serial_fix.specs.inside.Cases.{own_case, guar_case, env_case}
 use Rattle.serial_fix.specs.inside.Found.{FoundFacts}
 use Rattle.serial_fix.specs.inside.Jobs.{Says, IsJobCase, init, own, guar, env}
 use Rattle.serial_fix.specs.inside.Looked.{IsKnown, IsNumbered, IsOver, AreLookedAt, place_in_run, turn, first_pair}
-use Rattle.serial_fix.specs.inside.Run.{IsRun, Extends, IsInstance, IsPosted, IsStep}
+use Rattle.serial_fix.specs.inside.Run.{IsStored, IsRun, Extends, IsInstance, IsPosted, IsStep}
 use Rattle.serial_fix.specs.declared.run.Known.{Known}
 use Rattle.serial_fix.specs.declared.step.Step.{Step}
 use Rattle.serial_fix.specs.declared.step.Step.TheVariants.{Done, Stopped}
@@ -43,7 +44,7 @@ numbered-there xs zero x e = cc
 numbered-there xs (suc k) x e = Contains-slice_get xs k x e
 
 -- a fact that stands at its number is there
-pub known-there : {facts : List StoredFact} {known : Known} → IsKnown facts known → Contains facts known.fact
+pub known-there : {program : Program} {facts : List StoredFact} {known : Known} → IsKnown program facts known → Contains facts known.fact
 known-there {facts = facts} {known = known} is = numbered-there facts known.id.0 known.fact is.at
 
 numbered-lasts : {A : Type 0} (xs more : List A) (n : ℕ) (x : A) → numbered xs n ≡ Some x → numbered (xs ++ more) n ≡ Some x
@@ -51,15 +52,25 @@ numbered-lasts xs more zero x e = cc
 numbered-lasts xs more (suc k) x e = slice_get-append_left xs more k (slice_get_within xs k x e) ∙ e
 
 -- and stands there in a longer list
-pub known-lasts : {earlier later : List StoredFact} {known : Known} → Extends earlier later → IsKnown earlier known → IsKnown later known
+pub known-lasts : {program : Program} {earlier later : List StoredFact} {known : Known} → Extends earlier later → IsKnown program earlier known → IsKnown program later known
 known-lasts {earlier = earlier} {known = known} on is =
-    record { at = ap (λ l. numbered l known.id.0) on.is ∙ numbered-lasts earlier on.more known.id.0 known.fact is.at }
+    record { at = ap (λ l. numbered l known.id.0) on.is ∙ numbered-lasts earlier on.more known.id.0 known.fact is.at; home_is = is.home_is }
 
 -- the n-th fact, from 0, has number n + 1
-pub known-at : (facts : List StoredFact) (n : ℕ) (known : Known) → slice_get facts n ≡ Some known.fact → known.id.0 ≡ n + 1 → IsKnown facts known
-known-at facts n known at id =
+pub known-at : (program : Program) (facts : List StoredFact) (n : ℕ) (known : Known) → slice_get facts n ≡ Some known.fact → known.id.0 ≡ n + 1
+    → numbered (homes program) known.fact.home.0 ≡ Some (home_of known.home) → IsKnown program facts known
+known-at program facts n known at id home =
     let number : known.id.0 ≡ suc n = omega (arith, id) in
-    record { at = ap (numbered facts) number ∙ at }
+    record { at = ap (numbered facts) number ∙ at; home_is = home }
+
+-- a known home is that of its number
+pub at-home : {program : Program} {facts : List StoredFact} {known : Known} {home : StoredHome} → IsKnown program facts known → known.home ≡ home
+    → numbered (homes program) known.fact.home.0 ≡ Some (home_of home)
+at-home is same = is.home_is ∙ ap (λ h. Some (home_of h)) same
+
+-- each fact of a run has its home
+pub run-homes : (program : Program) (lists : List (List Row)) (found : FoundFacts) → IsRun program lists found → AllByRecursion (HasItsHome program) found.facts
+run-homes program lists found run = AllByRecursion-weaken (IsStored program lists) (HasItsHome program) (λ stored is. is.has_home) found.facts run.facts_are
 
 some-lasts : {A : Type 0} (xs more : List A) (n : ℕ) → IsSome (numbered xs n) → numbered (xs ++ more) n ≡ numbered xs n
 some-lasts xs more n some =

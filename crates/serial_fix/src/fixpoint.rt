@@ -119,7 +119,7 @@ fn look_at(
     requires looked { AreLookedAt program.now sets.now found.old (turn (n + 1) 0) }
     ensures { IfOk result (IsStep program.now sets.now limits found.old found.new (turn (n + 2) 0) (IsLookedAt program.now sets.now n found.old.facts)) }
 {
-    let known = nth(found, n);
+    let known = nth(program, found, n);
     let own = own_steps(program, sets, limits, found, known)?;
     match own {
         Step::Stopped(ending) => Ok(Step::Stopped(ending)),
@@ -137,14 +137,14 @@ fn pairs(
     n: u32,
 ) -> Result<Step, AllocError>
     requires run { IsRun program.now sets.now found.old }
-    requires known { IsKnown found.old.facts known }
+    requires known { IsKnown program.now found.old.facts known }
     requires few { n ≤ length found.old.facts }
     requires id { known.id.0 ≡ n + 1 }
     requires looked { AreLookedAt program.now sets.now found.old (turn (n + 1) first_pair) }
     ensures { IfOk result (IsStep program.now sets.now limits found.old found.new (turn (n + 2) 0) (PairsAreSettled program.now sets.now (fact_of program.now known.fact) n found.old.facts)) }
 {
     for m in 0..n {
-        let other = nth(found, m);
+        let other = nth(program, found, m);
         let step = both_ways(program, sets, limits, found, known, other)?;
         match step {
             Step::Stopped(ending) => return Ok(Step::Stopped(ending)),
@@ -164,8 +164,8 @@ fn both_ways(
     other: Known,
 ) -> Result<Step, AllocError>
     requires run { IsRun program.now sets.now found.old }
-    requires one { IsKnown found.old.facts one }
-    requires other { IsKnown found.old.facts other }
+    requires one { IsKnown program.now found.old.facts one }
+    requires other { IsKnown program.now found.old.facts other }
     requires before { other.id.0 < one.id.0 }
     requires looked { AreLookedAt program.now sets.now found.old (place_in_run (Environment one.id.0 other.id.0)) }
     ensures { IfOk result (IsStep program.now sets.now limits found.old found.new (place_in_run (Environment other.id.0 one.id.0) + 1) (BothAreSettled program.now sets.now (fact_of program.now one.fact) (fact_of program.now other.fact))) }

@@ -1,12 +1,13 @@
 ghost use Rattle.std.specs.Prelude.{◌≡◌, ◌+◌, ◌<◌, Some, length, slice_get, IsSome, IfOk};
+ghost use Rattle.std.specs.List.{AllByRecursion};
 ghost use Rattle.horn_rules.specs.Instance.{Init, Own, Guar, Env as Environment};
 ghost use Rattle.predicate_sets.specs.Sets.{HasHome, set_at};
 ghost use Rattle.transition_formula.specs.Program.{Thread, IsEdgeOf, numbered};
 ghost use Rattle.transition_formula.specs.Program as specs;
 ghost use Rattle.transition_formula.specs.Stored.{edge_of};
 ghost use Rattle.horn_rules.specs.Instances.{tells_another};
-ghost use Rattle.horn_rules.specs.Stored.{fact_of, home_of};
-ghost use Rattle.horn_rules.specs.Home.{State};
+ghost use Rattle.horn_rules.specs.Stored.{fact_of, home_of, HasItsHome};
+ghost use Rattle.horn_rules.specs.Home.{State, homes};
 ghost use Rattle.serial_fix.specs.inside.Looked.{AreLookedAt, IsKnown, first_pair, place_in_run, turn};
 ghost use Rattle.serial_fix.specs.inside.Run.{EdgeIsSettled, GuarIsSettled, HasEdge, IsFrom, IsRun, IsStep, OwnAreSettled, OwnIsSettled, PairIsSettled, StartIsSettled};
 
@@ -18,23 +19,27 @@ use std::alloc::AllocError;
 use thr_base::{EdgeNo, Fact, FactId, Home, Instance, Limits, Loc, ThreadNo};
 use transition_formula::{Edge, Program};
 
-/// A fact that was found, with its number.
+/// A fact that was found, with its number and its home.
 #[derive(Clone, Copy)]
 pub(crate) struct Known {
     id: FactId,
     fact: Fact,
+    home: Home,
 }
 
 /// The n-th fact, from 0.
-pub(crate) fn nth(found: &Found, n: u32) -> Known
-    requires { n < length found.now.facts }
+pub(crate) fn nth(program: &Program, found: &Found, n: u32) -> Known
+    requires there { n < length found.now.facts }
+    requires homes { AllByRecursion (HasItsHome program.now) found.now.facts }
     ensures at { slice_get found.now.facts n ≡ Some result.fact }
     ensures id { result.id.0 ≡ n + 1 }
+    ensures home { numbered (homes program.now) result.fact.home.0 ≡ Some (home_of result.home) }
 {
-    let facts = found.facts();
+    let fact = found.facts()[n as usize];
     Known {
         id: FactId(n + 1),
-        fact: facts[n as usize],
+        fact,
+        home: named(program, fact.home),
     }
 }
 
@@ -96,7 +101,7 @@ fn own_step(
     e: EdgeNo,
 ) -> Result<Step, AllocError>
     requires run { IsRun program.now sets.now found.old }
-    requires known { IsKnown found.old.facts known }
+    requires known { IsKnown program.now found.old.facts known }
     requires from { IsFrom program.now i.0 e.0 (fact_of program.now known.fact) }
     requires looked { AreLookedAt program.now sets.now found.old (place_in_run (Own known.id.0 e.0)) }
     ensures { IfOk result (IsStep program.now sets.now limits found.old found.new (place_in_run (Own known.id.0 e.0) + 1) (OwnIsSettled program.now sets.now i.0 e.0 (fact_of program.now known.fact))) }
@@ -127,7 +132,7 @@ fn guarantee(
     e: EdgeNo,
 ) -> Result<Step, AllocError>
     requires run { IsRun program.now sets.now found.old }
-    requires known { IsKnown found.old.facts known }
+    requires known { IsKnown program.now found.old.facts known }
     requires from { IsFrom program.now i.0 e.0 (fact_of program.now known.fact) }
     requires looked { AreLookedAt program.now sets.now found.old (place_in_run (Guar known.id.0 e.0)) }
     ensures { IfOk result (IsStep program.now sets.now limits found.old found.new (place_in_run (Guar known.id.0 e.0) + 1) (GuarIsSettled program.now sets.now i.0 e.0 (fact_of program.now known.fact))) }
@@ -157,7 +162,7 @@ fn edge_steps(
     e: EdgeNo,
 ) -> Result<Step, AllocError>
     requires run { IsRun program.now sets.now found.old }
-    requires known { IsKnown found.old.facts known }
+    requires known { IsKnown program.now found.old.facts known }
     requires at { (fact_of program.now known.fact).home ≡ State at.0.0 at.1.0 }
     requires edge { HasEdge program.now at.0.0 e.0 }
     requires looked { AreLookedAt program.now sets.now found.old (place_in_run (Own known.id.0 e.0)) }
@@ -184,7 +189,7 @@ fn steps_from(
     at: (ThreadNo, Loc),
 ) -> Result<Step, AllocError>
     requires run { IsRun program.now sets.now found.old }
-    requires known { IsKnown found.old.facts known }
+    requires known { IsKnown program.now found.old.facts known }
     requires at { (fact_of program.now known.fact).home ≡ State at.0.0 at.1.0 }
     requires thread { IsSome (numbered program.now.threads at.0.0) }
     requires looked { AreLookedAt program.now sets.now found.old (turn known.id.0 0) }
@@ -210,11 +215,11 @@ pub(crate) fn own_steps(
     known: Known,
 ) -> Result<Step, AllocError>
     requires run { IsRun program.now sets.now found.old }
-    requires known { IsKnown found.old.facts known }
+    requires known { IsKnown program.now found.old.facts known }
     requires looked { AreLookedAt program.now sets.now found.old (turn known.id.0 0) }
     ensures { IfOk result (IsStep program.now sets.now limits found.old found.new (turn known.id.0 first_pair) (OwnAreSettled program.now sets.now (fact_of program.now known.fact))) }
 {
-    match named(program, known.fact.home) {
+    match known.home {
         Home::State(i, l) => steps_from(program, sets, limits, found, known, (i, l)),
         Home::Env(..) => Ok(Step::Done),
     }
@@ -230,15 +235,12 @@ pub(crate) fn environment_step(
     told: Known,
 ) -> Result<Step, AllocError>
     requires run { IsRun program.now sets.now found.old }
-    requires one { IsKnown found.old.facts one }
-    requires told { IsKnown found.old.facts told }
+    requires one { IsKnown program.now found.old.facts one }
+    requires told { IsKnown program.now found.old.facts told }
     requires looked { AreLookedAt program.now sets.now found.old (place_in_run (Environment one.id.0 told.id.0)) }
     ensures { IfOk result (IsStep program.now sets.now limits found.old found.new (place_in_run (Environment one.id.0 told.id.0) + 1) (PairIsSettled program.now sets.now (fact_of program.now one.fact) (fact_of program.now told.fact))) }
 {
-    if !tells_another(
-        named(program, one.fact.home),
-        named(program, told.fact.home),
-    ) {
+    if !tells_another(one.home, told.home) {
         return Ok(Step::Done);
     }
     let first = as_premise(sets, one)?;

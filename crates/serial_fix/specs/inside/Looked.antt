@@ -10,7 +10,8 @@ use Rattle.horn_rules.specs.Fact.{Fact, statement_of}
 use Rattle.horn_rules.specs.Instance.{Instance, Init, Own, Guar, Env as Environment, Inter, HasKind, map_instance}
 use Rattle.horn_rules.specs.Instances.{IsResolved}
 use Rattle.horn_rules.specs.Case.{Case, IsCaseOf}
-use Rattle.horn_rules.specs.Stored.{facts_of, sets_of}
+use Rattle.horn_rules.specs.Home.{homes}
+use Rattle.horn_rules.specs.Stored.{facts_of, home_of, sets_of}
 use Rattle.serial_fix.specs.inside.Found.{FoundFacts}
 use Rattle.serial_fix.specs.declared.run.Known.{Known}
 
@@ -34,9 +35,10 @@ place_in_run (Inter n m e) = 0
 
 -- ---- what was looked at
 
--- The fact stands at its number.
-pub record IsKnown (facts : List StoredFact) (known : Known) : Type 0 where
+-- The fact stands at its number, and its home is this one.
+pub record IsKnown (program : Program) (facts : List StoredFact) (known : Known) : Type 0 where
   pub at : numbered facts known.id.0 ≡ Some known.fact
+  pub home_is : numbered (homes program) known.fact.home.0 ≡ Some (home_of known.home)
 
 -- So does that of the premise, if it is there.
 abbrev pub IsNumbered : List StoredFact → Option Premise → Type 0

@@ -1,12 +1,15 @@
 use Rattle.std.proofs.Common.{arith}
 use Rattle.horn_rules.specs.Stored.{fact_of}
 use Rattle.serial_fix.specs.inside.Run.{OwnAreSettled, PairsAreSettled, IsLookedAt}
-use Rattle.serial_fix.proofs.Looked.{known-at, known-lasts, looked-later}
+use Rattle.serial_fix.proofs.Looked.{known-at, known-lasts, looked-later, run-homes}
 use Rattle.serial_fix.proofs.Rounds.{if-both, looked-at, Extends-length}
 use Rattle.serial_fix.proofs.fixpoint.look_at.Goals as goal
 
+pub nth-known-requires-clause-homes : goal.nth-known-requires-clause-homes
+nth-known-requires-clause-homes c = run-homes c.args.program.now c.args.sets.now c.args.found.now c.requires.run
+
 pub own_steps-requires-clause-known : goal.own_steps-requires-clause-known
-own_steps-requires-clause-known c = known-at c.args.found.now.facts c.args.n c.nth-known.result c.nth-known.ensures.at c.nth-known.ensures.id
+own_steps-requires-clause-known c = known-at c.args.program.now c.args.found.now.facts c.args.n c.nth-known.result c.nth-known.ensures.at c.nth-known.ensures.id c.nth-known.ensures.home
 
 pub own_steps-requires-clause-looked : goal.own_steps-requires-clause-looked
 own_steps-requires-clause-looked c = looked-later c.args.program.now c.args.sets.now c.args.found.now _ _ c.requires.looked (omega (arith, c.nth-known.ensures.id))
@@ -17,7 +20,7 @@ pairs-requires-clause-run c = let done = rw c.in-Done.is at c.in_ok-own.ensures 
 pub pairs-requires-clause-known : goal.pairs-requires-clause-known
 pairs-requires-clause-known c =
     let done = rw c.in-Done.is at c.in_ok-own.ensures in
-    known-lasts done.1 (known-at c.args.found.now.facts c.args.n c.nth-known.result c.nth-known.ensures.at c.nth-known.ensures.id)
+    known-lasts done.1 (known-at c.args.program.now c.args.found.now.facts c.args.n c.nth-known.result c.nth-known.ensures.at c.nth-known.ensures.id c.nth-known.ensures.home)
 
 pub pairs-requires-clause-few : goal.pairs-requires-clause-few
 pairs-requires-clause-few c =

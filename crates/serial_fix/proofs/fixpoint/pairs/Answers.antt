@@ -1,6 +1,6 @@
 use Rattle.std.proofs.Common.{arith}
 use Rattle.horn_rules.specs.Stored.{fact_of}
-use Rattle.serial_fix.proofs.Looked.{known-at, known-lasts, looked-later, pair-place, told-place}
+use Rattle.serial_fix.proofs.Looked.{known-at, known-lasts, looked-later, run-homes, pair-place, told-place}
 use Rattle.serial_fix.proofs.Steps.{Extends-same}
 use Rattle.serial_fix.proofs.Rounds.{Extends-trans, Extends-length, pairs-none, pairs-more, pairs-upto}
 use Rattle.serial_fix.proofs.fixpoint.pairs.Goals as goal
@@ -13,8 +13,11 @@ loop-m-init c = record {
   looked = looked-later c.args.program.now c.args.sets.now c.args.found.now _ _ c.requires.looked (omega arith);
 }
 
-pub nth-other-requires : goal.nth-other-requires
-nth-other-requires c = omega (arith, Extends-length c.args.found.now.facts c.loop-m.found.facts c.loop-m.invariant.on, c.requires.few, c.loop-m-test.true)
+pub nth-other-requires-clause-homes : goal.nth-other-requires-clause-homes
+nth-other-requires-clause-homes c = run-homes c.args.program.now c.args.sets.now c.loop-m.found c.loop-m.invariant.run
+
+pub nth-other-requires-clause-there : goal.nth-other-requires-clause-there
+nth-other-requires-clause-there c = omega (arith, Extends-length c.args.found.now.facts c.loop-m.found.facts c.loop-m.invariant.on, c.requires.few, c.loop-m-test.true)
 
 pub both_ways-requires-clause-run : goal.both_ways-requires-clause-run
 both_ways-requires-clause-run c = c.loop-m.invariant.run
@@ -23,7 +26,7 @@ pub both_ways-requires-clause-one : goal.both_ways-requires-clause-one
 both_ways-requires-clause-one c = known-lasts c.loop-m.invariant.on c.requires.known
 
 pub both_ways-requires-clause-other : goal.both_ways-requires-clause-other
-both_ways-requires-clause-other c = known-at c.loop-m.found.facts c.loop-m.m c.nth-other.result c.nth-other.ensures.at c.nth-other.ensures.id
+both_ways-requires-clause-other c = known-at c.args.program.now c.loop-m.found.facts c.loop-m.m c.nth-other.result c.nth-other.ensures.at c.nth-other.ensures.id c.nth-other.ensures.home
 
 pub both_ways-requires-clause-before : goal.both_ways-requires-clause-before
 both_ways-requires-clause-before c = omega (arith, c.requires.id, c.nth-other.ensures.id, c.loop-m-test.true)

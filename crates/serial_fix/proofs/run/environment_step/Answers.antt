@@ -12,8 +12,8 @@ returns-then-not-tells_another c = (
   c.requires.run,
   Extends-same c.args.found.now.facts,
   pair-vacuous c.args.program.now c.args.sets.now c.args.found.now.facts (fact_of c.args.program.now c.args.one.fact) (fact_of c.args.program.now c.args.told.fact)
-      (sym (same-test c.args.program.now c.args.sets.now c.args.found.now c.args.one.fact c.args.told.fact (home_of c.named.result) (home_of c.named-2.result) c.tells_another.result
-      c.requires.run (known-there c.requires.one) (known-there c.requires.told) c.named.ensures c.named-2.ensures c.tells_another.ensures) ∙ c.if-not-tells_another.true),
+      (sym (same-test c.args.program.now c.args.sets.now c.args.found.now c.args.one.fact c.args.told.fact (home_of c.args.one.home) (home_of c.args.told.home) c.tells_another.result
+      c.requires.run (known-there c.requires.one) (known-there c.requires.told) c.requires.one.home_is c.requires.told.home_is c.tells_another.ensures) ∙ c.if-not-tells_another.true),
   looked-later c.args.program.now c.args.sets.now c.args.found.now _ _ c.requires.looked (omega arith),
 )
 
@@ -27,8 +27,8 @@ pub add-requires-clause-instance : goal.add-requires-clause-instance
 add-requires-clause-instance c =
     env-instance c.args.program.now c.args.sets.now c.args.found.now c.args.one.fact c.args.told.fact c.args.one.id c.args.told.id c.in_ok-first.first c.in_ok-second.second
     c.requires.run (known-there c.requires.one) (known-there c.requires.told) c.requires.one.at c.requires.told.at (record { id_is = c.in_ok-first.ensures.id; fact_is = c.in_ok-first.ensures.fact; set_is = c.in_ok-first.ensures.set }) (record { id_is = c.in_ok-second.ensures.id; fact_is = c.in_ok-second.ensures.fact; set_is = c.in_ok-second.ensures.set })
-    (sym (same-test c.args.program.now c.args.sets.now c.args.found.now c.args.one.fact c.args.told.fact (home_of c.named.result) (home_of c.named-2.result) c.tells_another.result
-    c.requires.run (known-there c.requires.one) (known-there c.requires.told) c.named.ensures c.named-2.ensures c.tells_another.ensures) ∙ c.if-not-tells_another.false)
+    (sym (same-test c.args.program.now c.args.sets.now c.args.found.now c.args.one.fact c.args.told.fact (home_of c.args.one.home) (home_of c.args.told.home) c.tells_another.result
+    c.requires.run (known-there c.requires.one) (known-there c.requires.told) c.requires.one.home_is c.requires.told.home_is c.tells_another.ensures) ∙ c.if-not-tells_another.false)
 
 pub returns : goal.returns
 returns c =

@@ -6,4 +6,4 @@ pub returns : goal.returns
 returns c = search (rules, slice_get-get_or)
 
 pub overflow_add-result : goal.overflow_add-result
-overflow_add-result c = omega (arith, c.facts-facts.ensures.few)
+overflow_add-result c = omega (arith, c.facts.ensures.few)
