@@ -42,9 +42,9 @@ sound_refuted system number ms h = by_fit (overflow_of system.rows (nonzero_pair
   by_fit None e = (record { refutes = h.0; fits = e }, h.1)
   by_fit (Some place) e = tt
 
-tested_sound : (system : System) (number : ℕ) (work : Work) → AllDerived system work.lines → IsSoundNext system (constant_test system number work)
+constant_test-sound : (system : System) (number : ℕ) (work : Work) → AllDerived system work.lines → IsSoundNext system (constant_test system number work)
 unfolding constant_test
-tested_sound system number work h = by_found (find (is_false system.columns) work.lines) refl where
+constant_test-sound system number work h = by_found (find (is_false system.columns) work.lines) refl where
   by_found : (o : Option Line) → find (is_false system.columns) work.lines ≡ o → IsSoundNext system (constant_test_by system number work o)
   by_found None e = all_filter (IsDerived system) (has_variable system.columns) work.lines h
   by_found (Some line) e =
@@ -159,22 +159,22 @@ pair_stage_sound system work h = by_limit (are_too_many system made) where
       (all_filter (IsDerived system) (λ line. not (is_nonzero (coefficient_at c line))) work.lines h)
       (pairs_derived system c work.lines split.0 h split.1)))
 
-taken_out_sound : (system : System) (work : Work) → AllDerived system work.lines → IsSoundNext system (take_column_out system work)
+take_column_out-sound : (system : System) (work : Work) → AllDerived system work.lines → IsSoundNext system (take_column_out system work)
 unfolding take_column_out
-taken_out_sound system work h = by_found (find (λ line. line.equal) work.lines) refl where
+take_column_out-sound system work h = by_found (find (λ line. line.equal) work.lines) refl where
   by_found : (o : Option Line) → find (λ line. line.equal) work.lines ≡ o → IsSoundNext system (take_column_out_by system work o)
   by_found None e = pair_stage_sound system work h
   by_found (Some equality) e =
       let at = found (IsDerived system) (λ line. line.equal) work.lines equality h e in
       equality_stage_sound system work equality at.1 at.0 h
 
-then_tested_sound : (system : System) (next : Next) → IsSoundNext system next → IsSoundNext system (then_constant_test system next)
-then_tested_sound system (Goes work) h = tested_sound system (length work.kept) work h
-then_tested_sound system (Ends outcome) h = h
+then_constant_test-sound : (system : System) (next : Next) → IsSoundNext system next → IsSoundNext system (then_constant_test system next)
+then_constant_test-sound system (Goes work) h = constant_test-sound system (length work.kept) work h
+then_constant_test-sound system (Ends outcome) h = h
 
 stage_sound : (system : System) (work : Work) → AllDerived system work.lines → IsSoundNext system (stage system work)
 unfolding stage
-stage_sound system work h = then_tested_sound system (take_column_out system work) (taken_out_sound system work h)
+stage_sound system work h = then_constant_test-sound system (take_column_out system work) (take_column_out-sound system work h)
 
 -- ---- the whole
 
@@ -207,7 +207,7 @@ pub outcome_sound : (fuel : ℕ) (system : System) → HasWidths system → IsSo
 unfolding outcome_within beginning
 outcome_sound fuel system w =
     or_ends_sound system (stages fuel system) (beginning system) (stages_sound fuel system)
-    (tested_sound system 0 (record { lines = given_lines (length system.rows) 0 system.rows; kept = []; made = 0 }) (all_given_derived system 0 system.rows refl w))
+    (constant_test-sound system 0 (record { lines = given_lines (length system.rows) 0 system.rows; kept = []; made = 0 }) (all_given_derived system 0 system.rows refl w))
 
 pub certificate_is_sound : (system : System) (pairs : Pairs) → HasWidths system → outcome_of system ≡ Refuted pairs
     → IsSound system (Refuted pairs)

@@ -7,23 +7,23 @@ use Rattle.farkas_cert.specs.Elimination.{Outcome, Work, Next, Goes, Ends, const
 use Rattle.farkas_cert.proofs.OpenColumns.{count_open, close, close_falls, IsWithin, AllWithin, AllVary, IsOpen, lowest_open, lowest_of_open, Closes, ClosesTested, equality_stage_closes, pair_stage_closes}
 use Rattle.farkas_cert.proofs.Lists.{all_filter, filter_all, all_both, found}
 
-tested_closes : (system : System) (f : ℕ → Bool) (number : ℕ) (work : Work) → Closes system.columns f (Goes work)
+constant_test-closes : (system : System) (f : ℕ → Bool) (number : ℕ) (work : Work) → Closes system.columns f (Goes work)
     → ClosesTested system.columns f (constant_test system number work)
 unfolding constant_test
-tested_closes system f number work h = by_found (find (is_false system.columns) work.lines) where
+constant_test-closes system f number work h = by_found (find (is_false system.columns) work.lines) where
   by_found : (o : Option Line) → ClosesTested system.columns f (constant_test_by system number work o)
   by_found None = (h.0, h.1, all_filter (IsWithin system.columns (close h.0 f)) (has_variable system.columns) work.lines h.2, filter_all (has_variable system.columns) work.lines)
   by_found (Some line) = tt
 
-then_tested_closes : (system : System) (f : ℕ → Bool) (next : Next) → Closes system.columns f next
+then_constant_test-closes : (system : System) (f : ℕ → Bool) (next : Next) → Closes system.columns f next
     → ClosesTested system.columns f (then_constant_test system next)
-then_tested_closes system f (Goes work) h = tested_closes system f (length work.kept) work h
-then_tested_closes system f (Ends outcome) h = tt
+then_constant_test-closes system f (Goes work) h = constant_test-closes system f (length work.kept) work h
+then_constant_test-closes system f (Ends outcome) h = tt
 
-taken_out_closes : (system : System) (f : ℕ → Bool) (work : Work) (line : Line) (lines : List Line) → work.lines ≡ line ∷ lines
+take_column_out-closes : (system : System) (f : ℕ → Bool) (work : Work) (line : Line) (lines : List Line) → work.lines ≡ line ∷ lines
     → AllWithin system.columns f work.lines → AllVary system.columns work.lines → Closes system.columns f (take_column_out system work)
 unfolding take_column_out
-taken_out_closes system f work line lines s h v = by_found (find (λ line. line.equal) work.lines) refl where
+take_column_out-closes system f work line lines s h v = by_found (find (λ line. line.equal) work.lines) refl where
   n : ℕ
   n = system.columns
 
@@ -38,7 +38,7 @@ taken_out_closes system f work line lines s h v = by_found (find (λ line. line.
 pub stage_closes : (system : System) (f : ℕ → Bool) (work : Work) (line : Line) (lines : List Line) → work.lines ≡ line ∷ lines
     → AllWithin system.columns f work.lines → AllVary system.columns work.lines → ClosesTested system.columns f (stage system work)
 unfolding stage
-stage_closes system f work line lines s h v = then_tested_closes system f (take_column_out system work) (taken_out_closes system f work line lines s h v)
+stage_closes system f work line lines s h v = then_constant_test-closes system f (take_column_out system work) (take_column_out-closes system f work line lines s h v)
 
 -- No line is left where no column is open.
 pub none_left : (n : ℕ) (f : ℕ → Bool) (lines : List Line) → AllWithin n f lines → AllVary n lines → count_open n f ≤ 0 → lines ≡ []
@@ -88,21 +88,21 @@ abbrev pub Varies : System → Next → Type 0
 Varies system (Goes work) = AllVary system.columns work.lines
 Varies system (Ends outcome) = ⊤
 
-pub begun_varies : (system : System) → Varies system (beginning system)
+pub beginning-varies : (system : System) → Varies system (beginning system)
 unfolding beginning constant_test
-begun_varies system = by_found (find (is_false system.columns) (given_lines (length system.rows) 0 system.rows)) where
+beginning-varies system = by_found (find (is_false system.columns) (given_lines (length system.rows) 0 system.rows)) where
   by_found : (o : Option Line)
       → Varies system (constant_test_by system 0 (record { lines = given_lines (length system.rows) 0 system.rows; kept = []; made = 0 }) o)
   by_found None = filter_all (has_variable system.columns) (given_lines (length system.rows) 0 system.rows)
   by_found (Some line) = tt
 
-same_begun : (fuel : ℕ) (system : System) (next : Next) → system.columns ≤ fuel → Varies system next
+same_from : (fuel : ℕ) (system : System) (next : Next) → system.columns ≤ fuel → Varies system next
     → or_ends (stages fuel system) next ≡ or_ends (stages system.columns system) next
-same_begun fuel system (Goes work) l v =
+same_from fuel system (Goes work) l v =
     let c = count_all system.columns in
     same_stages fuel system.columns system all_open work (omega arith) c (all_within system.columns work.lines) v
-same_begun fuel system (Ends outcome) l v = refl
+same_from fuel system (Ends outcome) l v = refl
 
 pub same_outcome : (fuel : ℕ) (system : System) → system.columns ≤ fuel → outcome_within fuel system ≡ outcome_of system
 unfolding outcome_within
-same_outcome fuel system l = same_begun fuel system (beginning system) l (begun_varies system)
+same_outcome fuel system l = same_from fuel system (beginning system) l (beginning-varies system)

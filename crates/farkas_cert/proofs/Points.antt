@@ -19,7 +19,7 @@ use Rattle.farkas_cert.proofs.Refuting.{not_true, no_variable, product_of_zeros,
 use Rattle.farkas_cert.proofs.Lists.{all_from, all_left, all_right, all_parts, all_back, all_unfilter, found, none_found, all_both, filter_all}
 use Rattle.farkas_cert.proofs.Certificates.{appended}
 use Rattle.farkas_cert.proofs.OpenColumns.{count_open, close, close_falls, IsWithin, AllWithin, AllVary, IsOpen, lowest_is, lowest_of_open, substituted_closes, closed_here, zero_by_test, ClosesTested}
-use Rattle.farkas_cert.proofs.Fuel.{stage_closes, none_left, all_open, all_within, count_all, Varies, begun_varies}
+use Rattle.farkas_cert.proofs.Fuel.{stage_closes, none_left, all_open, all_within, count_all, Varies, beginning-varies}
 use Rattle.farkas_cert.proofs.Slack.{slack, Holds, MeetsLine, and_then_is}
 use Rattle.farkas_cert.proofs.Moves.{Moved, assigned_moved, moved_length, moved_positive, still_meets}
 use Rattle.farkas_cert.proofs.Sides.{bound_is, solved_meets, substituted_back}
@@ -67,9 +67,9 @@ by_variable n point line d f h = at (has_variable n line) refl where
   at true v = h v
   at false v = constant_meets n point line d f v
 
-all_tested : (n : ℕ) (point : RationalPoint) (lines : List Line) → pos 0 <ℤ point.denominator → find (is_false n) lines ≡ None
+constant_test-holds : (n : ℕ) (point : RationalPoint) (lines : List Line) → pos 0 <ℤ point.denominator → find (is_false n) lines ≡ None
     → AllMeet n point (filter (has_variable n) lines) → AllMeet n point lines
-all_tested n point lines d e h =
+constant_test-holds n point lines d e h =
     all_from (λ line. (is_false n line ≡ false) × (has_variable n line ≡ true → MeetsLine n point line)) (MeetsLine n point) lines
     (λ line k. by_variable n point line d k.0 k.1)
     (all_both (λ line. is_false n line ≡ false) (λ line. has_variable n line ≡ true → MeetsLine n point line) lines
@@ -89,11 +89,11 @@ no_point_refuted system number ms x d = at (is_none (overflow_of system.rows (no
   at true e = cc
   at false e = cc
 
-tested_leads : (system : System) (number : ℕ) (work : Work) → Leads system work.lines work.kept → NextLeads system (constant_test system number work)
+constant_test-leads : (system : System) (number : ℕ) (work : Work) → Leads system work.lines work.kept → NextLeads system (constant_test system number work)
 unfolding constant_test
-tested_leads system number work h = at (find (is_false system.columns) work.lines) refl where
+constant_test-leads system number work h = at (find (is_false system.columns) work.lines) refl where
   at : (o : Option Line) → find (is_false system.columns) work.lines ≡ o → NextLeads system (constant_test_by system number work o)
-  at None e = λ point x d over meets. h point x d over (all_tested system.columns point work.lines over.positive e meets)
+  at None e = λ point x d over meets. h point x d over (constant_test-holds system.columns point work.lines over.positive e meets)
   at (Some line) e = no_point_refuted system number (refuting system.columns line)
 
 -- ---- the step of the point
@@ -202,10 +202,10 @@ pair_stage_leads system work l q h = by_limit (are_too_many system made) where
       (λ lines e. let split = appended (without_column c work.lines) (pairs_at c work.lines) lines e in
       subst (λ (all : List Line). Leads system all (Bounded c (with_column c work.lines) ∷ work.kept)) split.2 (pair_leads system work c split.0 l q split.1 h))
 
-taken_out_leads : (system : System) (work : Work) (line : Line) (lines : List Line) → work.lines ≡ line ∷ lines → AllVary system.columns work.lines
+take_column_out-leads : (system : System) (work : Work) (line : Line) (lines : List Line) → work.lines ≡ line ∷ lines → AllVary system.columns work.lines
     → Leads system work.lines work.kept → NextLeads system (take_column_out system work)
 unfolding take_column_out
-taken_out_leads system work line lines s v h = at (find (λ line. line.equal) work.lines) refl where
+take_column_out-leads system work line lines s v h = at (find (λ line. line.equal) work.lines) refl where
   n : ℕ
   n = system.columns
 
@@ -218,14 +218,14 @@ taken_out_leads system work line lines s v h = at (find (λ line. line.equal) wo
       let k = found (λ l. has_variable n l ≡ true) (λ line. line.equal) work.lines equality v e in
       equality_stage_leads system work equality e k.1 k.0 h
 
-then_tested_leads : (system : System) (next : Next) → NextLeads system next → NextLeads system (then_constant_test system next)
-then_tested_leads system (Goes work) h = tested_leads system (length work.kept) work h
-then_tested_leads system (Ends outcome) h = h
+then_constant_test-leads : (system : System) (next : Next) → NextLeads system next → NextLeads system (then_constant_test system next)
+then_constant_test-leads system (Goes work) h = constant_test-leads system (length work.kept) work h
+then_constant_test-leads system (Ends outcome) h = h
 
 stage_leads : (system : System) (work : Work) (line : Line) (lines : List Line) → work.lines ≡ line ∷ lines → AllVary system.columns work.lines
     → Leads system work.lines work.kept → NextLeads system (stage system work)
 unfolding stage
-stage_leads system work line lines s v h = then_tested_leads system (take_column_out system work) (taken_out_leads system work line lines s v h)
+stage_leads system work line lines s v h = then_constant_test-leads system (take_column_out system work) (take_column_out-leads system work line lines s v h)
 
 -- ---- the whole
 
@@ -294,5 +294,5 @@ outcome_by system (Ends outcome) x d v h e = absurd (h x d e)
 pub point_is_sound : (system : System) (x : List ℤ) (d : ℤ) → HasWidths system → outcome_of system ≡ Point x d → IsRationalPoint system x d
 unfolding outcome_within beginning
 point_is_sound system x d w e =
-    outcome_by system (beginning system) x d (begun_varies system)
-    (tested_leads system 0 (record { lines = given_lines (length system.rows) 0 system.rows; kept = []; made = 0 }) (given_leads system w)) e
+    outcome_by system (beginning system) x d (beginning-varies system)
+    (constant_test-leads system 0 (record { lines = given_lines (length system.rows) 0 system.rows; kept = []; made = 0 }) (given_leads system w)) e

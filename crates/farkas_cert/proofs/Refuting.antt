@@ -14,7 +14,7 @@ use Rattle.farkas_cert.specs.Line.{Line, given_line, given_lines, bound_of, mult
 use Rattle.lin_rows.proofs.Divisors.{DividesAll, AllZero}
 use Rattle.lin_rows.proofs.Integers.{zero-mul_ℤ, one-mul_ℤ, neg-mul_ℤ}
 use Rattle.farkas_cert.proofs.Integers.{linear}
-use Rattle.farkas_cert.proofs.Signs.{Signs, RowSign, signs_neg, split_at, listed_in_order}
+use Rattle.farkas_cert.proofs.Signs.{Signs, RowSign, signs_neg, split_at, nonzero_pairs-in_order}
 use Rattle.farkas_cert.proofs.Weighted.{values_at, bounds_of, weighted_coefficients, weighted_bound, zeros_from_products, multiple_product, divides_from_multiple, divides_listed, divides_neg, divides_parts}
 use Rattle.farkas_cert.proofs.Derived.{IsDerived}
 
@@ -141,7 +141,7 @@ product_neg (m ∷ ms) (z ∷ zs) = omega (arith, linear, neg-mul_ℤ m z, produ
 refutes_by : (system : System) (equal : Bool) (ms : List ℤ) → Signs equal system.rows ms
     → ((y : List ℤ) → product_of ms (values_at y system.rows) ≡ pos 0) → product_of ms (bounds_of system.rows) <ℤ pos 0 → Refutes system (nonzero_pairs 1 ms)
 refutes_by system equal ms s c b = record {
-  in_order = listed_in_order system.rows system.rows 0 0 equal ms (omega arith) refl s;
+  in_order = nonzero_pairs-in_order system.rows system.rows 0 0 equal ms (omega arith) refl s;
   contradicts = record {
     cancels = zeros_from_products (weighted_sum system.rows (nonzero_pairs 1 ms)).coefficients (λ y. weighted_coefficients system.rows system.rows 0 equal ms y refl s ∙ c y);
     negative = rw (weighted_bound system.rows system.rows 0 equal ms refl s) b;

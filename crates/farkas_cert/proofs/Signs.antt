@@ -111,20 +111,20 @@ allowed_at : (all rows : List Row) (k : ℕ) (row : Row) (equal : Bool) (m : ℤ
     → AllowsAt (row_numbered all (suc k)) m
 allowed_at all rows k row equal m e h = subst (λ (o : Option Row). AllowsAt o m) (sym (split_at all rows k row e).0) (row_allows row equal m h)
 
-pub listed_in_order : (all rows : List Row) (last k : ℕ) (equal : Bool) (ms : List ℤ) → last ≤ k → drop k all ≡ rows → Signs equal rows ms
+pub nonzero_pairs-in_order : (all rows : List Row) (last k : ℕ) (equal : Bool) (ms : List ℤ) → last ≤ k → drop k all ≡ rows → Signs equal rows ms
     → InOrder all last (nonzero_pairs (suc k) ms)
 unfolding nonzero_pairs
-listed_in_order all rows last k equal [] l e h = tt
-listed_in_order all [] last k equal (m ∷ ms) l e h = absurd h
-listed_in_order all (row ∷ rows) last k equal (pos zero ∷ ms) l e h =
-    listed_in_order all rows last (suc k) equal ms (omega arith) (split_at all rows k row e).1 h.1
-listed_in_order all (row ∷ rows) last k equal (pos (suc m) ∷ ms) l e h = (
+nonzero_pairs-in_order all rows last k equal [] l e h = tt
+nonzero_pairs-in_order all [] last k equal (m ∷ ms) l e h = absurd h
+nonzero_pairs-in_order all (row ∷ rows) last k equal (pos zero ∷ ms) l e h =
+    nonzero_pairs-in_order all rows last (suc k) equal ms (omega arith) (split_at all rows k row e).1 h.1
+nonzero_pairs-in_order all (row ∷ rows) last k equal (pos (suc m) ∷ ms) l e h = (
   omega arith,
   allowed_at all rows k row equal (pos (suc m)) e h.0,
-  listed_in_order all rows (suc k) (suc k) equal ms (omega arith) (split_at all rows k row e).1 h.1,
+  nonzero_pairs-in_order all rows (suc k) (suc k) equal ms (omega arith) (split_at all rows k row e).1 h.1,
 )
-listed_in_order all (row ∷ rows) last k equal (negsuc m ∷ ms) l e h = (
+nonzero_pairs-in_order all (row ∷ rows) last k equal (negsuc m ∷ ms) l e h = (
   omega arith,
   allowed_at all rows k row equal (negsuc m) e h.0,
-  listed_in_order all rows (suc k) (suc k) equal ms (omega arith) (split_at all rows k row e).1 h.1,
+  nonzero_pairs-in_order all rows (suc k) (suc k) equal ms (omega arith) (split_at all rows k row e).1 h.1,
 )

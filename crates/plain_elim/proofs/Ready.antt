@@ -179,21 +179,21 @@ pair_stage_wide system work h s = by_limit (are_too_many system made) where
       (AllByRecursion-append (IsWide system) (without_column c work.lines) m.0 (all_filter (IsWide system) (λ line. not (is_nonzero (coefficient_at c line))) work.lines wide)
       (pairs_wide system c work.lines m.0 wide m.1)))
 
-taken_out_by_wide : (system : System) (work : Work) (o : Option Line) → find (λ line. line.equal) work.lines ≡ o → IsReady system work → 0 < length work.lines
+take_column_out_by-wide : (system : System) (work : Work) (o : Option Line) → find (λ line. line.equal) work.lines ≡ o → IsReady system work → 0 < length work.lines
     → IsWideNext system (take_column_out_by system work o)
-taken_out_by_wide system work None e h s = pair_stage_wide system work h s
-taken_out_by_wide system work (Some equality) e h s =
+take_column_out_by-wide system work None e h s = pair_stage_wide system work h s
+take_column_out_by-wide system work (Some equality) e h s =
     equality_stage_wide system work equality h (found (IsOpen system) (λ line. line.equal) work.lines equality h.lines e).0
 
-pub taken_out_wide : (system : System) (work : Work) → IsReady system work → 0 < length work.lines → IsWideNext system (take_column_out system work)
+pub take_column_out-wide : (system : System) (work : Work) → IsReady system work → 0 < length work.lines → IsWideNext system (take_column_out system work)
 unfolding take_column_out
-taken_out_wide system work h s = taken_out_by_wide system work (find (λ line. line.equal) work.lines) refl h s
+take_column_out-wide system work h s = take_column_out_by-wide system work (find (λ line. line.equal) work.lines) refl h s
 
 -- ---- the constant test
 
-pub tested_ready : (system : System) (number : ℕ) (work : Work) → IsWideWork system work → IsReadyNext system (constant_test system number work)
+pub constant_test-ready : (system : System) (number : ℕ) (work : Work) → IsWideWork system work → IsReadyNext system (constant_test system number work)
 unfolding constant_test
-tested_ready system number work h = by_found (find (is_false system.columns) work.lines) where
+constant_test-ready system number work h = by_found (find (is_false system.columns) work.lines) where
   p : Line → Bool
   p = has_variable system.columns
 
@@ -216,16 +216,16 @@ by_limit_keeps : (work : Work) (b : Bool) (kept : Kept) (made : ℕ) (o : Option
 by_limit_keeps work true kept made o = tt
 by_limit_keeps work false kept made o = follows_keeps work kept made o
 
-taken_out_by_keeps : (system : System) (work : Work) (o : Option Line) → KeepsOneMore (length work.kept) (take_column_out_by system work o)
+take_column_out_by-keeps : (system : System) (work : Work) (o : Option Line) → KeepsOneMore (length work.kept) (take_column_out_by system work o)
 unfolding equality_stage pair_stage
-taken_out_by_keeps system work None =
+take_column_out_by-keeps system work None =
     let c = lowest_of system.columns work.lines in
     let made = work.made + length (positives c work.lines) * length (negatives c work.lines) in
     by_limit_keeps work (are_too_many system made) (Bounded c (with_column c work.lines)) made (option_map (λ pairs. without_column c work.lines ++ pairs) (pairs_at c work.lines))
-taken_out_by_keeps system work (Some equality) =
+take_column_out_by-keeps system work (Some equality) =
     let c = lowest_column system.columns equality in
     follows_keeps work (Solved c equality) work.made (every (map (substituted_line c equality) (without_equality work.lines)))
 
-pub taken_out_keeps : (system : System) (work : Work) → KeepsOneMore (length work.kept) (take_column_out system work)
+pub take_column_out-keeps : (system : System) (work : Work) → KeepsOneMore (length work.kept) (take_column_out system work)
 unfolding take_column_out
-taken_out_keeps system work = taken_out_by_keeps system work (find (λ line. line.equal) work.lines)
+take_column_out-keeps system work = take_column_out_by-keeps system work (find (λ line. line.equal) work.lines)

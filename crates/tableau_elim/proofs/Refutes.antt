@@ -22,7 +22,7 @@ use Rattle.farkas_cert.proofs.Derived.{divided_primitive}
 use Rattle.farkas_cert.proofs.Integers.{linear}
 use Rattle.farkas_cert.proofs.Linear.{product-linear, divided_vanishes, of_divided}
 use Rattle.farkas_cert.proofs.Refuting.{IsProvedBy, product_of_zeros}
-use Rattle.farkas_cert.proofs.Signs.{Signs, RowSign, signs_over, listed_in_order, split_at}
+use Rattle.farkas_cert.proofs.Signs.{Signs, RowSign, signs_over, nonzero_pairs-in_order, split_at}
 use Rattle.farkas_cert.proofs.Weighted.{values_at, bounds_of, weighted_coefficients, weighted_bound, zeros_from_products, divides_listed}
 use Rattle.tableau_elim.specs.Tableau.{Line, Tableau, divisor_of, comes_before, value_at_place, given, given_lines, sum_of_line}
 use Rattle.tableau_elim.specs.Rounds.{standing_of, standing_by_basic, standing_by, compared, chosen, lower, suitable_from, with_places, with_multiplier, signed, multipliers}
@@ -213,7 +213,7 @@ proved_by system ms s c b =
     let bound : product_of (divided ms) (bounds_of system.rows) <ℤ pos 0 =
     negative_over (gcd_of ms) (product_of ms (bounds_of system.rows)) (product_of (divided ms) (bounds_of system.rows)) (of_divided (λ xs. product_of xs (bounds_of system.rows)) (product-linear (bounds_of system.rows)) ms) b in (
       record {
-        in_order = listed_in_order system.rows system.rows 0 0 false (divided ms) (omega arith) refl signs;
+        in_order = nonzero_pairs-in_order system.rows system.rows 0 0 false (divided ms) (omega arith) refl signs;
         contradicts = record {
           cancels = zeros_from_products (weighted_sum system.rows (nonzero_pairs 1 (divided ms))).coefficients (λ z. weighted_coefficients system.rows system.rows 0 false (divided ms) z refl signs ∙ cancels z);
           negative = rw (weighted_bound system.rows system.rows 0 false (divided ms) refl signs) bound;

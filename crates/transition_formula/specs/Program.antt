@@ -2,7 +2,7 @@
 -- columns and locations from 0, where location 0 is the failing one.
 use Rattle.std.specs.Prelude.{◌≡◌, ◌≢◌, ◌↔◌, ◌+◌, ◌-◌, ◌<◌, ◌≤◌, ℕ, zero, suc, ℤ, pos, List, length, map, take, nat_eq, Option, Some, None, IsSome, IsNone, slice_get, AllPairs}
 use Rattle.std.specs.List.{AllByRecursion, IsDistinct}
-use Rattle.thr_base.specs.Limits.{most_threads, most_locations, most_edges, most_inputs, most_tests}
+use Rattle.thr_base.specs.Limits.{most_threads, most_columns, most_locations, most_edges, most_inputs, most_tests}
 use Rattle.thr_base.specs.Number.{Fits}
 use Rattle.lin_rows.specs.Row.{Row}
 use Rattle.lin_rows.specs.System.{IsRowOver}
@@ -106,13 +106,9 @@ pub record IsThread (program : Program) (i : ℕ) (thread : Thread) : Type 0 whe
   pub few_edges : length thread.edges ≤ most_edges
   pub edges_are : AllByRecursion (IsEdge program thread) thread.edges
 
--- how many columns a program has at most
-abbrev pub most_program_columns : ℕ
-most_program_columns = 4096
-
 -- What is asked of a program.
 pub record IsProgram (program : Program) : Type 0 where
-  pub few_columns : length program.columns ≤ most_program_columns
+  pub few_columns : length program.columns ≤ most_columns
   pub few_threads : length program.threads ≤ most_threads
   pub has_counters : length program.threads ≤ length program.columns
   pub columns_are : AllByRecursion (IsColumn (length program.threads)) program.columns

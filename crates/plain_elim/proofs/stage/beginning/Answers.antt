@@ -6,7 +6,7 @@ use Rattle.plain_elim.specs.declared.work.Next.{Next as HeldNext}
 use Rattle.plain_elim.specs.declared.kept.Kept.{Kept as HeldKept}
 use Rattle.std.specs.List.{AllByRecursion}
 use Rattle.plain_elim.specs.inside.Held.{next_of, kept_of, BoundsItsColumn, IsReadyNext}
-use Rattle.plain_elim.proofs.Ready.{tested_ready}
+use Rattle.plain_elim.proofs.Ready.{constant_test-ready}
 use Rattle.plain_elim.proofs.StageLemmas.{if_ok, begun_is}
 use Rattle.plain_elim.proofs.stage.beginning.Goals as goal
 
@@ -25,5 +25,5 @@ returns-clause-ready c =
     let lines = c.in_ok-lines.lines.items in
     let work : specs.Work = record { lines = lines; kept = reverse (map kept_of c.new.result.items); made = 0 } in
     let none = subst (λ (ks : List HeldKept). AllByRecursion (BoundsItsColumn system.columns) (reverse (map kept_of ks))) (sym c.new.ensures.items) tt in
-    let ready = tested_ready system (length c.new.result.items) work (record { lines = c.in_ok-lines.ensures.wide; kept = none }) in
+    let ready = constant_test-ready system (length c.new.result.items) work (record { lines = c.in_ok-lines.ensures.wide; kept = none }) in
     if_ok _ (λ (next : HeldNext). IsReadyNext system (next_of system next)) c.constant_test.result (λ next h. subst (λ (m : specs.Next). IsReadyNext system m) (sym h) ready) c.constant_test.ensures

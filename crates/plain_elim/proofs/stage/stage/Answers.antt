@@ -6,7 +6,7 @@ use Rattle.plain_elim.specs.declared.work.Next.{Next as HeldNext}
 use Rattle.plain_elim.specs.declared.work.Next.TheVariants as next
 use Rattle.plain_elim.specs.inside.Held.{work_of, next_of, IsReady, IsReadyNext}
 use Rattle.plain_elim.specs.inside.Stages.{IsWideWork, IsWideNext, KeepsOneMore}
-use Rattle.plain_elim.proofs.Ready.{taken_out_wide, taken_out_keeps, tested_ready}
+use Rattle.plain_elim.proofs.Ready.{take_column_out-wide, take_column_out-keeps, constant_test-ready}
 use Rattle.plain_elim.proofs.StageLemmas.{if_ok, kept_count, stage_goes, stage_ends}
 use Rattle.plain_elim.proofs.stage.stage.Goals as goal
 
@@ -17,7 +17,7 @@ goes system work held after e is = ap (next_of system) (sym is) ∙ e
 
 wide : (system : System) (work : specs.Work) (after : HeldWork) → IsReady system work → 0 < length work.lines → specs.Goes (work_of after) ≡ specs.take_column_out system work
     → IsWideWork system (work_of after)
-wide system work after r s e = subst (λ (n : specs.Next). IsWideNext system n) (sym e) (taken_out_wide system work r s)
+wide system work after r s e = subst (λ (n : specs.Next). IsWideNext system n) (sym e) (take_column_out-wide system work r s)
 
 pub constant_test-requires-clause-wide : goal.constant_test-requires-clause-wide
 constant_test-requires-clause-wide c =
@@ -31,7 +31,7 @@ constant_test-requires-clause-few c =
     let system = c.args.rows.now in
     let work = work_of c.args.work in
     let e = goes system work c.in_ok-next.next c.in-Goes.work c.in_ok-next.ensures c.in-Goes.is in
-    let more = subst (λ (n : specs.Next). KeepsOneMore (length work.kept) n) (sym e) (taken_out_keeps system work) in
+    let more = subst (λ (n : specs.Next). KeepsOneMore (length work.kept) n) (sym e) (take_column_out-keeps system work) in
     omega (arith, more, kept_count c.args.work.kept.items, kept_count c.in-Goes.work.kept.items, c.requires.few)
 
 pub returns-in-Goes-clause-next : goal.returns-in-Goes-clause-next
@@ -49,7 +49,7 @@ returns-in-Goes-clause-ready c =
     let work = work_of c.args.work in
     let after = c.in-Goes.work in
     let e = goes system work c.in_ok-next.next after c.in_ok-next.ensures c.in-Goes.is in
-    let ready = tested_ready system (length after.kept.items) (work_of after) (wide system work after c.requires.ready c.requires.some e) in
+    let ready = constant_test-ready system (length after.kept.items) (work_of after) (wide system work after c.requires.ready c.requires.some e) in
     if_ok _ (λ (n : HeldNext). IsReadyNext system (next_of system n)) c.constant_test.result (λ n h. subst (λ (m : specs.Next). IsReadyNext system m) (sym h) ready) c.constant_test.ensures
 
 pub returns-in-Refutes : goal.returns-in-Refutes

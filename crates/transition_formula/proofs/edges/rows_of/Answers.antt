@@ -19,7 +19,7 @@ sets_are program edge sets n count same below = rw (count, same) (sets-within pr
 -- how many rows there are before those of the sets, step by step: none, one for the counter before, one for it after, at most one for each
 -- of n columns, one for each test
 room : (none one two kept tested tests sets n : ℕ) → none ≡ 0 → one ≡ none + 1 → two ≡ one + 1 → kept ≤ two + n → tested ≡ kept + tests
-    → n ≤ 4096 → tests ≤ 1048576 → sets ≤ 4096 → tested + sets < 2 ^ 32 - 1
+    → n ≤ 64 → tests ≤ 1048576 → sets ≤ 64 → tested + sets < 2 ^ 32 - 1
 room none one two kept tested tests sets n is_none is_one is_two are_kept are_tested few_columns few_tests few = omega arith
 
 pub push_sets-requires-clause-within : goal.push_sets-requires-clause-within
@@ -36,6 +36,6 @@ push_sets-requires-clause-room c =
     let two = length-with_row _ _ _ c.in_ok-push_column_is-2.ensures.ok in
     let tested = length-with_rows (test_row c.columns-columns.result) _ _ _ c.in_ok-push_tests.ensures in
     let tests = subst (λ (k : ℕ). k ≤ 1048576) (sym (ap (λ system. length system.rows) c.view.ensures)) c.requires.edge.few_tests in
-    let n = subst (λ (k : ℕ). k ≤ 4096) (sym c.columns-columns.ensures.columns) columns in
-    let sets = subst (λ (k : ℕ). k ≤ 4096) (sym (ap length c.as_slice.ensures.value ∙ sym (length-map c.args.edge.now.sets.items set_of))) (le_trans few columns) in
+    let n = subst (λ (k : ℕ). k ≤ 64) (sym c.columns-columns.ensures.columns) columns in
+    let sets = subst (λ (k : ℕ). k ≤ 64) (sym (ap length c.as_slice.ensures.value ∙ sym (length-map c.args.edge.now.sets.items set_of))) (le_trans few columns) in
     room _ _ _ _ _ _ _ _ none one two c.in_ok-push_kept_rows.ensures.few tested n tests sets
