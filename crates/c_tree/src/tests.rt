@@ -54,56 +54,49 @@ fn texts(rt: HostRuntime) -> Result<(), Fail> {
     Ok(())
 }
 
+// What stands in `main`, each behind the code and the place of its refusal, or 0 twice where it is accepted.
+const STATEMENTS: &str = "\
+0 0 if (1) if (2) ; else ;\n\
+4 13 else ;\n\
+0 0 for (;;) ;\n\
+0 0 for (int i = 0, j; i < 3; i++) { break; }\n\
+0 0 for (i = 0; ; ++i) ;\n\
+4 19 for (;) ;\n\
+4 13 break;\n\
+0 0 while (1) { if (x) break; }\n\
+0 0 __VERIFIER_atomic_begin(); x = 1; __VERIFIER_atomic_end();\n\
+0 0 while (1) { __VERIFIER_atomic_begin(); break; __VERIFIER_atomic_end(); }\n\
+4 40 __VERIFIER_atomic_begin(); break; __VERIFIER_atomic_end();\n\
+4 13 1;\n\
+4 14 f();\n\
+4 15 x + 1;\n\
+5 14 a[1] = 2;\n\
+5 19 x = y / 2;\n\
+4 23 x = (1 + 2;\n\
+4 18 x += __VERIFIER_nondet_int();\n\
+4 41 x = __VERIFIER_nondet_int() + 1;\n\
+0 0 pthread_create(&t, NULL, f, NULL); pthread_join(t, 0);\n\
+4 32 pthread_create(&t, 1, f, 0);\n\
+0 0 assert(x == 1 && !y || -z * 2 < 2 + (3)); reach_error();\n\
+4 13 main = 1;\n\
+4 23 int x = 1 int y;\n\
+0 0 x++; ++x; x -= 1; return;\n\
+4 32 pthread_mutex_lock(m);";
+
 #[test]
 fn statements(rt: HostRuntime) -> Result<(), Fail> {
-    let cases = [
-        ("if (1) if (2) ; else ;", (0, 0)),
-        ("else ;", (4, 13)),
-        ("for (;;) ;", (0, 0)),
-        ("for (int i = 0, j; i < 3; i++) { break; }", (0, 0)),
-        ("for (i = 0; ; ++i) ;", (0, 0)),
-        ("for (;) ;", (4, 19)),
-        ("break;", (4, 13)),
-        ("while (1) { if (x) break; }", (0, 0)),
-        (
-            "__VERIFIER_atomic_begin(); x = 1; __VERIFIER_atomic_end();",
-            (0, 0),
-        ),
-        (
-            "while (1) { __VERIFIER_atomic_begin(); break; __VERIFIER_atomic_end(); }",
-            (0, 0),
-        ),
-        (
-            "__VERIFIER_atomic_begin(); break; __VERIFIER_atomic_end();",
-            (4, 40),
-        ),
-        ("1;", (4, 13)),
-        ("f();", (4, 14)),
-        ("x + 1;", (4, 15)),
-        ("a[1] = 2;", (5, 14)),
-        ("x = y / 2;", (5, 19)),
-        ("x = (1 + 2;", (4, 23)),
-        ("x += __VERIFIER_nondet_int();", (4, 18)),
-        ("x = __VERIFIER_nondet_int() + 1;", (4, 41)),
-        (
-            "pthread_create(&t, NULL, f, NULL); pthread_join(t, 0);",
-            (0, 0),
-        ),
-        ("pthread_create(&t, 1, f, 0);", (4, 32)),
-        (
-            "assert(x == 1 && !y || -z * 2 < 2 + (3)); reach_error();",
-            (0, 0),
-        ),
-        ("main = 1;", (4, 13)),
-        ("int x = 1 int y;", (4, 23)),
-        ("x++; ++x; x -= 1; return;", (0, 0)),
-        ("pthread_mutex_lock(m);", (4, 32)),
-    ];
-    for (stmts, answer) in cases {
+    for case in STATEMENTS.lines() {
+        let (code, rest) = case.split_once(' ').ok_or("code")?;
+        let (place, stmts) = rest.split_once(' ').ok_or("place")?;
         let text = format!(in rt.alloc(); "int main() {{ {stmts} }}")?;
         let text = text.as_str();
         assert!(rt; text.len() <= TEXT_LIMIT as usize);
-        assert_eq!(rt; refused(rt.alloc(), text)?, answer, "in {text}");
+        let (found, at) = refused(rt.alloc(), text)?;
+        assert_eq!(rt;
+            format!(in rt.alloc(); "{found} {at}")?,
+            format!(in rt.alloc(); "{code} {place}")?,
+            "in {text}"
+        );
     }
     Ok(())
 }
@@ -118,23 +111,37 @@ fn repeated(alloc: Global, start: &str, more: &str, count: u8, end: &str) -> Res
     Ok(text)
 }
 
+// Texts of a start, so many copies of what stands behind it, and an end, each behind the code and the place of its refusal, or 0
+// twice where it is accepted.
+const NESTINGS: &str = "\
+4 76 64 int main() {~{~\n\
+11 76 65 int main() {~{~\n\
+11 76 65 int main() {~{~)\n\
+11 76 66 int main() {~{~\n\
+0 0 63 int main() { x = ~!~1; }\n\
+11 80 64 int main() { x = ~!~1; }\n\
+11 80 64 int main() { x = ~(~\n\
+11 652 64 int main() {~while (1) ~; }\n\
+4 652 64 int main() {~while (1) ~} }\n\
+0 0 200 int main() { x = 1~ + 1~; }";
+
 #[test]
 fn nesting(rt: HostRuntime) -> Result<(), Fail> {
-    let cases = [
-        ("int main() {", "{", 64, "", (4, 76)),
-        ("int main() {", "{", 65, "", (11, 76)),
-        ("int main() { x = ", "!", 63, "1; }", (0, 0)),
-        ("int main() { x = ", "!", 64, "1; }", (11, 80)),
-        ("int main() { x = ", "(", 64, "", (11, 80)),
-        ("int main() {", "while (1) ", 64, "; }", (11, 652)),
-        ("int main() {", "while (1) ", 64, "} }", (4, 652)),
-        ("int main() { x = 1", " + 1", 200, "; }", (0, 0)),
-    ];
-    for (start, more, count, end, answer) in cases {
-        let text = repeated(rt.alloc(), start, more, count, end)?;
+    for case in NESTINGS.lines() {
+        let (code, rest) = case.split_once(' ').ok_or("code")?;
+        let (place, rest) = rest.split_once(' ').ok_or("place")?;
+        let (count, rest) = rest.split_once(' ').ok_or("count")?;
+        let (start, rest) = rest.split_once('~').ok_or("start")?;
+        let (more, end) = rest.split_once('~').ok_or("end")?;
+        let text = repeated(rt.alloc(), start, more, count.parse::<u8>()?, end)?;
         let text = text.as_str();
         assert!(rt; text.len() <= TEXT_LIMIT as usize);
-        assert_eq!(rt; refused(rt.alloc(), text)?, answer, "in {text}");
+        let (found, at) = refused(rt.alloc(), text)?;
+        assert_eq!(rt;
+            format!(in rt.alloc(); "{found} {at}")?,
+            format!(in rt.alloc(); "{code} {place}")?,
+            "in {text}"
+        );
     }
     Ok(())
 }
