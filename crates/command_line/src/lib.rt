@@ -6,12 +6,17 @@ mod arguments;
 mod commands;
 mod given;
 mod kinds;
+mod laws;
 mod numbers;
 mod options;
 mod reading;
 mod works;
 
 pub use commands::Command;
+pub use laws::words_ask_for_one;
 pub use options::Options;
 pub use reading::{Request, read_words};
 pub use works::Work;
+
+#[cfg(test)]
+mod tests;
