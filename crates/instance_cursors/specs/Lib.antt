@@ -1,2 +1,5 @@
 pub mod Layout
 pub mod Turns
+pub mod Cursors
+pub mod Choice
+pub mod inside

@@ -123,7 +123,7 @@ fn is_told(layout: &Layout) -> bool
 }
 
 /// A home, by number from 1.
-fn home_at(layout: &Layout, home: HomeNo) -> Option<HomeOf>
+pub(crate) fn home_at(layout: &Layout, home: HomeNo) -> Option<HomeOf>
     ensures { result ≡ specs.home_at layout.now home.0 }
 {
     if home.0 == 0 {
