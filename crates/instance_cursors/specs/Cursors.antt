@@ -27,6 +27,24 @@ at_beginning series = record { series = series; passed = beginning }
 abbrev pub beside : HomeNo → FactId → Series
 beside home id = Beside home id
 
+-- two cursors for each of so many edges, at their beginnings
+abbrev pub edge_cursors : ℕ → List Cursor
+edge_cursors zero = []
+edge_cursors (suc edge) = edge_cursors edge ++ (at_beginning (Own edge) ∷ at_beginning (Told edge) ∷ [])
+
+-- The fact with this id is live.
+abbrev pub is_live : List LiveFact → FactId → Bool
+is_live live id = is_some (live_at live id.0)
+
+-- the series is of an edge, or of a live fact
+abbrev pub series_is_of_live : List LiveFact → Series → Bool
+series_is_of_live live (Own edge) = true
+series_is_of_live live (Told edge) = true
+series_is_of_live live (Beside home id) = is_live live id
+
+abbrev pub is_of_live : List LiveFact → Cursor → Bool
+is_of_live live cursor = series_is_of_live live cursor.series
+
 -- the starts, of which the one at a place is taken
 abbrev pub taken_at : List Start → ℕ → List Start
 taken_at [] place = []

@@ -1,4 +1,4 @@
-ghost use Rattle.std.specs.Prelude.{◌≡◌, ◌+◌, ◌<◌, ◌≤◌, ◌++◌, ◌∷◌, [], true, length, map, filter, IfOk};
+ghost use Rattle.std.specs.Prelude.{◌≡◌, ◌+◌, ◌<◌, ◌≤◌, ◌++◌, ◌∷◌, [], ◌^◌, length, map, filter, take, IfOk};
 ghost use Rattle.std.specs.Vec.{vec_capacity};
 ghost use Rattle.instance_cursors.specs.Cursors as specs;
 
@@ -43,6 +43,26 @@ impl Model for Cursors {
 }
 
 impl Cursors {
+    /// No start is taken yet, and no fact is live: two cursors for each edge, with room for one more for each of so many facts.
+    pub fn new(
+        alloc: Global,
+        layout: &Layout,
+        starts: Vec<Start>,
+        facts: u32,
+    ) -> Result<Cursors, AllocError>
+        ensures starts { IfOk result (λ made. made.starts ≡ starts.items) }
+        ensures cursors { IfOk result (λ made. made.cursors ≡ specs.edge_cursors (length layout.now.edges.items)) }
+        ensures room { IfOk result (λ made. made.room ≡ length made.cursors + facts) }
+    {
+        let mut cursors = edge_cursors(alloc, layout.edges.len())?;
+        cursors.reserve(facts as usize)?;
+        Ok(Cursors {
+            room: cursors.len() + facts as usize,
+            starts,
+            cursors,
+        })
+    }
+
     pub fn starts(&self) -> &[Start]
         ensures { result.now ≡ self.now.starts }
     {
@@ -64,6 +84,13 @@ impl Cursors {
         if self.cursors.push(cursor).is_err() {
             unreachable!()
         }
+    }
+
+    /// Facts went: the cursors of those that are no longer live go too.
+    pub fn went(&mut self, table: &Table)
+        ensures { self.new ≡ record self.old { cursors = filter (specs.is_of_live table.now.live) self.old.cursors } }
+    {
+        keep_live(&mut self.cursors, table);
     }
 
     /// A thread's start is taken.
@@ -105,6 +132,61 @@ pub(crate) fn at_beginning(series: Series) -> Cursor
             step: 0,
         },
     }
+}
+
+fn edge_cursors(alloc: Global, edges: usize) -> Result<Vec<Cursor>, AllocError>
+    requires { edges < 2 ^ 32 }
+    ensures { IfOk result (λ cursors. cursors.items ≡ specs.edge_cursors edges) }
+{
+    let mut cursors = Vec::new(alloc);
+    for edge in 0..edges as u32 {
+        cursors.push(at_beginning(Series::Own(edge)))?;
+        cursors.push(at_beginning(Series::Told(edge)))?;
+    }
+    Ok(cursors)
+}
+
+/// Whether a cursor is of an edge, or of a live fact.
+fn is_of_live(table: &Table, cursor: Cursor) -> bool
+    ensures { result ≡ specs.is_of_live table.now.live cursor }
+{
+    match cursor.series {
+        Series::Own(_) => true,
+        Series::Told(_) => true,
+        Series::Beside(_, id) => is_live(table, id),
+    }
+}
+
+fn is_live(table: &Table, id: FactId) -> bool
+    ensures { result ≡ specs.is_live table.now.live id }
+{
+    match table.kept(id) {
+        Some(_) => true,
+        None => false,
+    }
+}
+
+fn keep_live(cursors: &mut Vec<Cursor>, table: &Table)
+    ensures cursors { cursors.new.items ≡ filter (specs.is_of_live table.now.live) cursors.old.items }
+    ensures capacity { vec_capacity cursors.new ≡ vec_capacity cursors.old }
+{
+    let kept = move_live(cursors, table);
+    cursors.truncate(kept);
+}
+
+/// Moves the cursors that stay to the front, and says how many they are.
+fn move_live(cursors: &mut [Cursor], table: &Table) -> usize
+    ensures { take result cursors.new ≡ filter (specs.is_of_live table.now.live) cursors.old }
+{
+    let mut kept = 0;
+    for place in 0..cursors.len() {
+        let cursor = cursors[place];
+        if is_of_live(table, cursor) {
+            cursors[kept] = cursor;
+            kept += 1;
+        }
+    }
+    kept
 }
 
 fn take_at(starts: &mut Vec<Start>, place: usize)

@@ -28,12 +28,11 @@ pub struct EdgeHomes {
     pub to_failing: u32,
 }
 
-/// What cursors need to know of a program: its rule, its homes by number, the home at which each thread starts, and all edges.
+/// What cursors need to know of a program: its rule, its homes by number, and all edges.
 #[derive(Drop)]
 pub struct Layout {
     pub rule: RuleName,
     pub homes: Vec<HomeOf>,
-    pub starts: Vec<HomeNo>,
     pub edges: Vec<EdgeHomes>,
     pub ghost few: { length edges.items < 2 ^ 32 },
 }

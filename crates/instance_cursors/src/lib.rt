@@ -4,6 +4,7 @@
 
 mod choosing;
 mod cursors;
+mod instances;
 mod key;
 mod laws;
 mod layout;
@@ -11,6 +12,7 @@ mod turns;
 
 pub use choosing::{Choice, choose};
 pub use cursors::{Cursors, Start};
+pub use instances::instance_of;
 pub use laws::{beginnings_pass_nothing, heads_are_open, passing_moves_one};
 pub use layout::{EdgeHomes, HomeKind, HomeOf, Layout};
 pub use turns::{Cursor, Series, Turn, head};
