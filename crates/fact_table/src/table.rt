@@ -1,12 +1,12 @@
 ghost use Rattle.std.specs.Prelude.{◌≡◌, ◌+◌, ◌-◌, ◌^◌, ◌<◌, ◌≤◌, length, map, option_map, IfOk};
 ghost use Rattle.std.specs.Vec.{vec_capacity};
-ghost use Rattle.fact_table.specs.Live.{ArePremisesLive, IsLive, NoneIsMarked, ids_at, is_marked, live_at, unmarked, with_mark};
+ghost use Rattle.fact_table.specs.Live.{ArePremisesLive, IsLive, NoneIsMarked, ids_at, is_marked, live_at, rank_at as rank_in, unmarked, with_mark};
 ghost use Rattle.fact_table.specs.Table.{HasHome, IsInsertAnswer, IsTable, NamesLive, no_facts};
 ghost use Rattle.fact_table.specs.inside.Stored.{marked_at};
 
 use crate::index::{Index, fill, push_within};
-use crate::live_fact::LiveFact;
-use crate::lookup::{fact_with, place_of, rank_of};
+use crate::live_fact::{LiveFact, Rank};
+use crate::lookup::{fact_with, place_of, rank_at, rank_of};
 use std::alloc::{AllocError, Global};
 use std::marker::Model;
 use thr_base::{Fact, FactId, HomeNo, Instance};
@@ -144,6 +144,13 @@ impl Table {
             Some(fact) => fact.marked,
             None => false,
         }
+    }
+
+    /// The rank of a live fact.
+    pub fn rank(&self, id: FactId) -> Rank
+        ensures { result ≡ rank_in self.now.live id }
+    {
+        rank_at(&self.facts, &self.index.ids, id)
     }
 
     /// Takes out the facts that are marked, and says how many.

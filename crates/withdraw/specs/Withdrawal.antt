@@ -1,10 +1,14 @@
 -- Which facts go where homes change: those at these homes, and whatever rests on one that goes.
 use Rattle.std.specs.Prelude.{◌≡◌, ◌<◌, ◌⊎◌, List, [], ◌∷◌}
 use Rattle.std.specs.List.{AllByRecursion, Contains}
+use Rattle.thr_base.specs.declared.names.Fact.{Fact}
 use Rattle.thr_base.specs.declared.names.FactId.{FactId}
 use Rattle.thr_base.specs.declared.names.HomeNo.{HomeNo}
+use Rattle.thr_base.specs.declared.names.Instance.{Instance}
 use Rattle.fact_table.specs.declared.live_fact.LiveFact.{LiveFact}
-use Rattle.fact_table.specs.Live.{IsLive, premises_of}
+use Rattle.fact_table.specs.declared.table.Inserted.{Inserted}
+use Rattle.fact_table.specs.Live.{ArePremisesLive, IsLive, premises_of}
+use Rattle.fact_table.specs.Table.{FactTable, IsInsertAnswer, IsTable}
 
 -- The live fact is withdrawn: its home is listed, or a premise of its kept instance is withdrawn.
 pub data IsWithdrawn (homes : List HomeNo) (live : List LiveFact) : LiveFact → Type 0 where
@@ -23,3 +27,11 @@ CameBefore live f premise = IsLive live premise × (premise.0 < f.id.0)
 -- Each fact rests on live facts that came before it.
 abbrev pub RestOnEarlier : List LiveFact → Type 0
 RestOnEarlier live = AllByRecursion (λ f. AllByRecursion (CameBefore live f) (premises_of f.kept)) live
+
+-- ---- laws
+
+-- What comes into a table rests on what came before, so that each fact there does.
+abbrev pub InsertionsRestOnEarlier : Type 0
+InsertionsRestOnEarlier =
+    (table later : FactTable) (fact : Fact) (instance : Instance) (answer : Inserted) → IsTable table → ArePremisesLive table.live instance
+    → IsInsertAnswer table fact instance answer later → RestOnEarlier table.live → RestOnEarlier later.live
