@@ -131,7 +131,7 @@ behind live (Inter f g e) all =
     record { premises = Inter one other e; facts_are = ap₂ (λ x y. Inter x y e) same same_other; are_live = (there, (there_other, tt)) }
 
 -- in a quiet state each instance over live facts is posted
-quiet-posted : (opening : Opening) (state : State) (instance : Instance Fact) (given : Case) → Keeps opening state → IsQuiet opening state → HasKind opening.rule instance
+pub quiet-posted : (opening : Opening) (state : State) (instance : Instance Fact) (given : Case) → Keeps opening state → IsQuiet opening state → HasKind opening.rule instance
     → IsCaseOf opening.program (map_instance (statement_of state.sets) instance) given
     → AllByRecursion (Contains (map (λ (f : KeptFact). f.fact) state.live)) (premises_of instance) → IsPosted state given
 quiet-posted opening state instance given keeps quiet has is all =

@@ -5,3 +5,4 @@ pub mod Keeps
 pub mod Events
 pub mod Refines
 pub mod Histories
+pub mod Safe

@@ -1,4 +1,4 @@
-ghost use Rattle.core_steps.specs.Laws.{LiveFactsArePosts, LiveFactsAreLeast, DoneInstancesArePosted, InstancesAreDoneHeldOrPending, QuietStatesHaveTheLeastSet, NoJobIsPublishedTwice};
+ghost use Rattle.core_steps.specs.Laws.{LiveFactsArePosts, LiveFactsAreLeast, DoneInstancesArePosted, InstancesAreDoneHeldOrPending, QuietStatesHaveTheLeastSet, ClearStatesAreSafe, NoJobIsPublishedTwice};
 
 /// After a legal history each live fact is the post of its kept instance, and in the least set of the predicates that homes have: a
 /// law, and no code.
@@ -17,9 +17,10 @@ pub fn instances_are_done_held_or_pending()
     ensures { InstancesAreDoneHeldOrPending }
 {}
 
-/// In a quiet state the live facts are exactly the least set: a law, and no code.
+/// In a quiet state the live facts are exactly the least set, and in a clear one no run fails: a law, and no code.
 pub fn quiet_states_have_the_least_set()
-    ensures { QuietStatesHaveTheLeastSet }
+    ensures least { QuietStatesHaveTheLeastSet }
+    ensures safe { ClearStatesAreSafe }
 {}
 
 /// No job is published twice: a law, and no code.
