@@ -12,7 +12,7 @@ use Rattle.c_check.specs.Broken as broken
 use Rattle.c_check.specs.First.{first_of}
 use Rattle.c_check.specs.inside.Found.{first_found, found, loop_end, other_found, refused, stmt_found, stmts_found, tested, together}
 use Rattle.c_check.proofs.Found.{together-none}
-use Rattle.c_check.proofs.Compound.{exit_found, jump_found, simple_done}
+use Rattle.c_check.proofs.Compound.{exit_found, jump_found}
 use Rattle.c_check.proofs.Arms.{atomic_done, behind-if_layer, block_found, declares_found, for_done, if_layer_done, length-outside, stmts_body, stmts_scopes, together-no_stmts, while_done}
 use Rattle.c_check.proofs.Scoped.{drop-behind, drop-behind_all, drop-with_first}
 use Rattle.c_check.proofs.body.Body.+statements.Goals as goal
