@@ -3,3 +3,4 @@ pub mod Heads
 pub mod Passing
 pub mod Places
 pub mod Best
+pub mod Completes

@@ -3,4 +3,5 @@ pub mod Turns
 pub mod Cursors
 pub mod Choice
 pub mod Instances
+pub mod Complete
 pub mod inside

@@ -1,4 +1,4 @@
-ghost use Rattle.std.specs.Prelude.{◌≡◌, ◌+◌, ◌<◌, ◌≤◌, ◌++◌, ◌∷◌, [], ◌^◌, length, map, filter, take, IfOk};
+ghost use Rattle.std.specs.Prelude.{◌≡◌, ◌+◌, ◌<◌, ◌≤◌, ◌↔◌, ◌++◌, ◌∷◌, [], ◌^◌, length, map, filter, take, IfOk, IsTrue};
 ghost use Rattle.std.specs.Vec.{vec_capacity};
 ghost use Rattle.instance_cursors.specs.Cursors as specs;
 
@@ -73,6 +73,13 @@ impl Cursors {
         ensures { result.now ≡ self.now.cursors }
     {
         self.cursors.as_slice()
+    }
+
+    /// Whether one more fact may come.
+    pub fn has_room(&self) -> bool
+        ensures { IsTrue result ↔ (length self.now.cursors < self.now.room) }
+    {
+        self.cursors.len() < self.room
     }
 
     /// A fact became live: it has a cursor, at its beginning. It takes no memory.

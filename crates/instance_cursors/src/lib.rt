@@ -3,6 +3,7 @@
 #![tactic(auto)]
 
 mod choosing;
+mod complete_laws;
 mod cursors;
 mod instances;
 mod key;
@@ -11,8 +12,12 @@ mod layout;
 mod turns;
 
 pub use choosing::{Choice, choose};
+pub use complete_laws::{no_heads_pass_all, series_keep_their_cursors};
 pub use cursors::{Cursors, Start};
 pub use instances::instance_of;
 pub use laws::{beginnings_pass_nothing, heads_are_open, passing_moves_one};
 pub use layout::{EdgeHomes, HomeKind, HomeOf, Layout};
 pub use turns::{Cursor, Series, Turn, head};
+
+#[cfg(test)]
+mod tests;

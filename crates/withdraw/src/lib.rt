@@ -6,3 +6,6 @@ mod withdrawal;
 
 pub use laws::insertions_rest_on_earlier;
 pub use withdrawal::withdraw;
+
+#[cfg(test)]
+mod tests;
