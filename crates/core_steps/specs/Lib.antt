@@ -6,4 +6,5 @@ pub mod Predicates
 pub mod After
 pub mod Allowed
 pub mod Legal
+pub mod Answers
 pub mod Laws
