@@ -7,4 +7,5 @@ pub mod After
 pub mod Allowed
 pub mod Legal
 pub mod Answers
+pub mod Ends
 pub mod Laws
