@@ -1,11 +1,11 @@
 -- What an index finds when one more fact comes in.
-use Rattle.std.proofs.Common.{◌≡◌, ◌≢◌, ℕ, zero, suc, ◌+◌, ◌<◌, eqb, Bool, true, false, cond, List, [], ◌∷◌, ◌++◌, length, map, get_or, Option, Some, None, inl, inr, ◌⊎◌, replicate, eq-eqb, refl, ap, ◌∙◌, arith}
+use Rattle.std.proofs.Common.{◌≡◌, ◌≢◌, ℕ, zero, suc, ◌+◌, ◌<◌, eqb, Bool, true, false, not, cond, List, [], ◌∷◌, ◌++◌, length, map, get_or, Option, Some, None, inl, inr, ◌⊎◌, replicate, eq-eqb, refl, ap, ◌∙◌, arith}
 use Rattle.std.proofs.lemmas.Bool.{eqb-true}
 use Rattle.std.specs.List.{filter, range_with_len}
 use Rattle.thr_base.specs.declared.names.Fact.{Fact}
 use Rattle.thr_base.specs.declared.names.FactId.{FactId}
 use Rattle.fact_table.specs.declared.live_fact.LiveFact.{LiveFact}
-use Rattle.fact_table.specs.Live.{ids_at, Lacks, HasFact}
+use Rattle.fact_table.specs.Live.{ids_at, HasFact, IsLive, Lacks, NoneIsMarked, unmarked}
 use Rattle.fact_table.specs.inside.FactIds.{key_of, is_key}
 use Rattle.fact_table.specs.inside.HomeIds.{with_id}
 use Rattle.fact_table.specs.inside.Index.{id_of, later}
@@ -130,3 +130,23 @@ lists_from-at k zero place live within = absurd (omega arith)
 lists_from-at k (suc n) zero live within = ap (λ h. ids_at h live) (omega arith)
 lists_from-at k (suc n) (suc place) live within =
     lists_from-at (k + 1) n place live (omega arith) ∙ ap (λ h. ids_at h live) (omega arith)
+
+-- ---- live
+
+pub IsLive-fact : (live : List LiveFact) (id : FactId) (fact : Fact) → HasFact live id fact → IsLive live id
+IsLive-fact live id fact has = (has.0, has.1, ap (λ (x : FactId). x.0) has.2)
+
+last_is : (live : List LiveFact) (f : LiveFact) → (length live < length (live ++ f ∷ [])) × (get_or (live ++ f ∷ []) (length live) f ≡ f)
+last_is [] f = (omega arith, refl)
+last_is (g ∷ live) f = let rest = last_is live f in (omega (arith, rest.0), rest.1)
+
+pub IsLive-push : (live : List LiveFact) (f : LiveFact) → IsLive (live ++ f ∷ []) f.id
+IsLive-push live f = let last = last_is live f in (f, (length live, last.0, last.1), refl)
+
+kept_unmarked : (b : Bool) (f : LiveFact) (kept : List LiveFact) → f.marked ≡ b → NoneIsMarked kept → NoneIsMarked (cond (not b) (f ∷ kept) kept)
+kept_unmarked true f kept is none = none
+kept_unmarked false f kept is none = (is, none)
+
+pub NoneIsMarked-unmarked : (live : List LiveFact) → NoneIsMarked (unmarked live)
+NoneIsMarked-unmarked [] = tt
+NoneIsMarked-unmarked (f ∷ live) = kept_unmarked f.marked f (unmarked live) refl (NoneIsMarked-unmarked live)

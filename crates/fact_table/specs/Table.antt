@@ -7,7 +7,7 @@ use Rattle.thr_base.specs.declared.names.Instance.{Instance}
 use Rattle.fact_table.specs.declared.live_fact.LiveFact.{LiveFact}
 use Rattle.fact_table.specs.declared.table.Inserted.{Inserted}
 use Rattle.fact_table.specs.declared.table.Inserted.TheVariants.{New, Same, Full}
-use Rattle.fact_table.specs.Live.{Lacks, HasFact, rank_of}
+use Rattle.fact_table.specs.Live.{IsLive, Lacks, HasFact, rank_of}
 
 -- A table: how many homes there are, how many facts may be live, how many ids were given, and the live facts by rising id.
 pub record FactTable : Type 0 where
@@ -54,3 +54,9 @@ IsInsertAnswer table fact instance (New id) later =
     × (later ≡ record table { given = table.given + 1; live = table.live ++ new_fact table fact instance ∷ [] })
 IsInsertAnswer table fact instance (Same id) later = HasFact table.live id fact × (later ≡ table)
 IsInsertAnswer table fact instance Full later = Lacks table.live fact × (length table.live ≡ table.limit) × (later ≡ table)
+
+-- What is named in the answer is live.
+abbrev pub NamesLive : Inserted → List LiveFact → Type 0
+NamesLive (New id) live = IsLive live id
+NamesLive (Same id) live = IsLive live id
+NamesLive Full live = Unit {0}

@@ -11,3 +11,6 @@ mod table;
 
 pub use live_fact::{LiveFact, Rank};
 pub use table::{Inserted, Table};
+
+#[cfg(test)]
+mod tests;

@@ -49,7 +49,7 @@ pub(crate) fn fact_with<'a>(
     }
 }
 
-fn rank_at(facts: &[LiveFact], ids: &[FactId], id: FactId) -> Rank
+pub(crate) fn rank_at(facts: &[LiveFact], ids: &[FactId], id: FactId) -> Rank
     requires ids { ids.now ≡ map (λ f. f.id) facts.now }
     requires rise { Rise 0 (map (λ f. f.id.0) facts.now) }
     ensures { result ≡ specs.rank_at facts.now id }

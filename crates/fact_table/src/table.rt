@@ -1,12 +1,12 @@
 ghost use Rattle.std.specs.Prelude.{◌≡◌, ◌+◌, ◌-◌, ◌^◌, ◌<◌, ◌≤◌, length, map, option_map, IfOk};
 ghost use Rattle.std.specs.Vec.{vec_capacity};
-ghost use Rattle.fact_table.specs.Live.{ArePremisesLive, IsLive, NoneIsMarked, ids_at, is_marked, live_at, unmarked, with_mark};
-ghost use Rattle.fact_table.specs.Table.{HasHome, IsInsertAnswer, IsTable, no_facts};
+ghost use Rattle.fact_table.specs.Live.{ArePremisesLive, IsLive, NoneIsMarked, ids_at, is_marked, live_at, rank_at as rank_in, unmarked, with_mark};
+ghost use Rattle.fact_table.specs.Table.{HasHome, IsInsertAnswer, IsTable, NamesLive, no_facts};
 ghost use Rattle.fact_table.specs.inside.Stored.{marked_at};
 
 use crate::index::{Index, fill, push_within};
-use crate::live_fact::LiveFact;
-use crate::lookup::{fact_with, place_of, rank_of};
+use crate::live_fact::{LiveFact, Rank};
+use crate::lookup::{fact_with, place_of, rank_at, rank_of};
 use std::alloc::{AllocError, Global};
 use std::marker::Model;
 use thr_base::{Fact, FactId, HomeNo, Instance};
@@ -67,7 +67,11 @@ impl Table {
         requires premises { ArePremisesLive self.old.live kept }
         requires ids { self.old.given < 2 ^ 32 - 1 }
         requires unmarked { NoneIsMarked self.old.live }
-        ensures { IsInsertAnswer self.old fact kept result self.new }
+        ensures answer { IsInsertAnswer self.old fact kept result self.new }
+        ensures live { NamesLive result self.new.live }
+        ensures unmarked { NoneIsMarked self.new.live }
+        ensures homes { self.new.homes ≡ self.old.homes }
+        ensures given { self.new.given ≤ self.old.given + 1 }
     {
         if let Some(id) = self.index.by_fact.get(fact) {
             return Inserted::Same(id);
@@ -142,10 +146,18 @@ impl Table {
         }
     }
 
+    /// The rank of a live fact.
+    pub fn rank(&self, id: FactId) -> Rank
+        ensures { result ≡ rank_in self.now.live id }
+    {
+        rank_at(&self.facts, &self.index.ids, id)
+    }
+
     /// Takes out the facts that are marked, and says how many.
     pub fn sweep(&mut self) -> u32
         ensures live { self.new ≡ record self.old { live = unmarked self.old.live } }
         ensures count { result + length self.new.live ≡ length self.old.live }
+        ensures unmarked { NoneIsMarked self.new.live }
     {
         let before = self.facts.len();
         keep_unmarked(&mut self.facts);

@@ -85,7 +85,6 @@ const BAD_LINES: &str = "\
 1 => s 1 2 : t2.$pc <= 0NEWLINEendNEWLINE
 1 => s 1 2 : x <= 0\rNEWLINEendNEWLINE
 2 => s 1 2 : x <= 0NEWLINEs 1 2 : x <= 0NEWLINEendNEWLINE
-3 => s 1 2 : x <= 0NEWLINEs 1 2 : x <= 1NEWLINEs 1 2 : x <= 2NEWLINEendNEWLINE
 4 => s 1 2 : x <= 0NEWLINEs 1 3 : x <= 0NEWLINEe 1 1 : x <= 0NEWLINEs 1 2 : x <= 0NEWLINEend";
 
 /// The program that these are predicates of.

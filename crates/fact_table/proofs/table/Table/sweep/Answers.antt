@@ -1,9 +1,11 @@
 use Rattle.std.proofs.Common.{◌∙◌, List, ap, sym, subst, length, not, arith}
 use Rattle.fact_table.specs.declared.live_fact.LiveFact.{LiveFact}
+use Rattle.fact_table.specs.Live.{NoneIsMarked}
 use Rattle.fact_table.specs.Table.{AreDistinct, FactTable, IsTable}
 use Rattle.fact_table.specs.inside.Index.{IsIndexOf}
 use Rattle.fact_table.specs.inside.Stored.{seen}
 use Rattle.fact_table.proofs.Tables.{IsTable-kept, length-kept}
+use Rattle.fact_table.proofs.Found.{NoneIsMarked-unmarked}
 use Rattle.fact_table.proofs.table.Table.sweep.Goals as goal
 
 pub fill-requires-clause-few : goal.fill-requires-clause-few
@@ -46,3 +48,8 @@ pub returns-clause-count : goal.returns-clause-count
 returns-clause-count c =
     let was = ap (λ (t : FactTable). length t.live) c.self.view_is in
     omega (arith, was, ap length c.keep_unmarked.ensures.facts, length-kept (λ (f : LiveFact). not f.marked) c.self.inside.facts.items, c.len-before.ensures)
+
+pub returns-clause-unmarked : goal.returns-clause-unmarked
+returns-clause-unmarked c =
+    let None : List LiveFact → Type 0 = λ live. NoneIsMarked live in
+    subst None (sym c.keep_unmarked.ensures.facts) (NoneIsMarked-unmarked c.self.inside.facts.items)

@@ -1,0 +1,4 @@
+pub mod Grammar
+pub mod Request
+pub mod Seen
+pub mod inside
