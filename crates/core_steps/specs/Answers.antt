@@ -63,13 +63,13 @@ pub data IsPublishAnswer (opening : Opening) (state : State) (w : ℕ) (task : T
       → IsPublishAnswer opening state w task Agrees fact NotHeld []
   stale : (fact : Option Fact) → state.stop ≡ None → held_by state.holds w ≡ Some task → is_present state task ≡ false
       → IsPublishAnswer opening state w task Agrees fact StaleJob (StalePublish w ∷ [])
-  full : (fact : Fact) → state.stop ≡ None → Agrees → IsReason opening state w (Facts opening.limits.facts)
+  full : (fact : Fact) → state.stop ≡ None → Agrees → held_by state.holds w ≡ Some task → IsReason opening state w (Facts opening.limits.facts)
       → IsPublishAnswer opening state w task Agrees (Some fact) Stopped (event.Stop w (Facts opening.limits.facts) ∷ [])
-  new : (fact : Fact) → state.stop ≡ None → Agrees → IsNewPublish opening state w (state.given + 1) fact
+  new : (fact : Fact) → state.stop ≡ None → Agrees → held_by state.holds w ≡ Some task → IsNewPublish opening state w (state.given + 1) fact
       → IsPublishAnswer opening state w task Agrees (Some fact) (NewFact (state.given + 1)) (New w (state.given + 1) fact ∷ [])
-  same : (fact : Fact) (id : ℕ) → state.stop ≡ None → Agrees → fact_at state.live id ≡ Some fact → IsSamePublish opening state w id
+  same : (fact : Fact) (id : ℕ) → state.stop ≡ None → Agrees → held_by state.holds w ≡ Some task → fact_at state.live id ≡ Some fact → IsSamePublish opening state w id
       → IsPublishAnswer opening state w task Agrees (Some fact) (SameFact id) (Same w id ∷ [])
-  nothing : state.stop ≡ None → Agrees → IsNothingPublish opening state w → IsPublishAnswer opening state w task Agrees None NothingPosted (Nothing w ∷ [])
+  nothing : state.stop ≡ None → Agrees → held_by state.holds w ≡ Some task → IsNothingPublish opening state w → IsPublishAnswer opening state w task Agrees None NothingPosted (Nothing w ∷ [])
 
 -- ---- claim
 
