@@ -6,3 +6,4 @@ pub mod Events
 pub mod Refines
 pub mod Histories
 pub mod Safe
+pub mod Withdrawals

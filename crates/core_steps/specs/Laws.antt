@@ -2,6 +2,7 @@
 use Rattle.std.specs.Prelude.{◌≡◌, ◌≢◌, ◌↔◌, ◌⊎◌, ◌<◌, ℕ, Bool, true, List, length, map, AllPairs, Some}
 use Rattle.std.specs.List.{AllByRecursion, Contains}
 use Rattle.farkas_cert.specs.Cert.{IsRefuted}
+use Rattle.horn_rules.specs.Home.{Home}
 use Rattle.horn_rules.specs.Fact.{Fact}
 use Rattle.horn_rules.specs.Instance.{HasKind, premises_of}
 use Rattle.horn_rules.specs.Case.{Case}
@@ -12,6 +13,7 @@ use Rattle.derivation_tree.specs.Facts.{KeptFact, target_among}
 use Rattle.core_steps.specs.State.{Opening, State, Task, IsOpening}
 use Rattle.core_steps.specs.Event.{History}
 use Rattle.core_steps.specs.Pending.{is_done, is_held, IsPending, IsQuiet, IsClear}
+use Rattle.core_steps.specs.Withdrawn.{IsWithdrawn, remaining}
 use Rattle.core_steps.specs.After.{after}
 use Rattle.core_steps.specs.Allowed.{IsOver, IsLiveFact}
 use Rattle.core_steps.specs.Legal.{IsLegal}
@@ -74,3 +76,11 @@ ClearStatesAreSafe = (opening : Opening) (history : History) → IsOpening openi
 abbrev pub NoJobIsPublishedTwice : Type 0
 NoJobIsPublishedTwice = (opening : Opening) (history : History) → IsLegal opening history
     → AllPairs (λ one other. one ≢ other) (after opening history).published
+
+-- ---- what a refine withdraws
+
+-- Where homes change, the facts that remain are exactly those that are not withdrawn.
+abbrev pub WhatRemainsIsNotWithdrawn : Type 0
+WhatRemainsIsNotWithdrawn = (opening : Opening) (history : History) (changed : Home → Bool) (f : KeptFact) → IsLegal opening history
+    → let live = (after opening history).live in
+    Contains live f → Contains (remaining changed live) f ↔ ¬ IsWithdrawn live changed f.id

@@ -6,4 +6,6 @@ pub mod Predicates
 pub mod After
 pub mod Allowed
 pub mod Legal
+pub mod Answers
+pub mod Ends
 pub mod Laws

@@ -8,3 +8,5 @@ pub mod Sums
 pub mod Replay
 pub mod Chain
 pub mod Left
+pub mod Kept
+pub mod LeftCause

@@ -2,6 +2,12 @@
 //! refuted, and what is taught by a certificate. The layers above learn what each of these values keeps.
 #![tactic(auto)]
 
+mod kept;
+mod left;
+mod refutation;
 mod scope;
 
+pub use kept::Kept;
+pub use left::{Left, LeftCause, PostAnswer};
+pub use refutation::Refutation;
 pub use scope::{Scope, System, TreeLeft};
