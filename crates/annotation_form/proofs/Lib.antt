@@ -10,3 +10,4 @@ pub mod ReadLines
 pub mod TextsTold
 pub mod Passing
 pub mod Places
+pub mod Listed

@@ -8,6 +8,7 @@ mod certificates;
 mod head;
 mod laws;
 mod line;
+mod listing;
 mod predicates;
 
 pub use annotation::{Annotation, Group};
@@ -15,6 +16,7 @@ pub use laws::{
     one_line_is_bad_at_most, passing_annotations_are_safe, passing_annotations_cover,
     texts_tell_predicates,
 };
+pub use listing::instances;
 pub use predicates::read_predicates;
 
 #[cfg(test)]

@@ -1,6 +1,8 @@
 ghost use Rattle.std.specs.Prelude.{◌≡◌, ◌≤◌, length, IfOk};
 ghost use Rattle.thr_base.specs.Limits.{text_limit};
 ghost use Rattle.predicate_sets.specs.Sets.{HasHome};
+ghost use Rattle.std.specs.Prelude.{[]};
+ghost use Rattle.thr_base.specs.declared.names.RuleName.TheVariants.{Rg};
 ghost use Rattle.horn_rules.specs.inside.Worked.{worked_program};
 
 use super::*;
@@ -8,7 +10,7 @@ use horn_rules::two_bare_threads;
 use predicate_sets::Sets;
 use std::alloc::{AllocError, Global};
 use std::test::Fail;
-use thr_base::{HomeNo, LineStop, push_number};
+use thr_base::{HomeNo, LineStop, RuleName, push_number};
 use transition_formula::Program;
 
 /// What a text of the program is read as; it has 10 homes.
@@ -191,8 +193,38 @@ fn a_home_has_at_most_128_atoms(rt: HostRuntime) -> Result<(), Fail> {
     Ok(())
 }
 
+/// An annotation over no predicates and no facts.
+fn bare(alloc: Global) -> Result<Annotation, AllocError>
+    ensures { IfOk result (λ made. made ≡ record { rule = Rg; sets = []; facts = []; certificates = []; groups = [] }) }
+{
+    let sets = Sets::new(alloc, 0)?;
+    Ok(Annotation::new(alloc, RuleName::Rg, sets, Vec::new(alloc)))
+}
+
+#[test]
+fn equal_certificates_have_one_number(rt: HostRuntime) -> Result<(), Fail> {
+    let alloc = rt.alloc();
+    let mut annotation = bare(alloc)?;
+    assert_eq!(rt; annotation.push_cert(&[(3, 1), (7, 2)])?, 1);
+    assert_eq!(rt; annotation.push_cert(&[])?, 2);
+    if annotation.certificates() < 10 {
+        assert_eq!(rt; annotation.push_cert(&[(3, 1), (7, 2)])?, 1);
+    }
+    if annotation.certificates() < 10 {
+        assert_eq!(rt; annotation.push_cert(&[(3, 1), (7, 3)])?, 3);
+    }
+    assert_eq!(rt; annotation.certificates(), 3);
+    if annotation.certificates() >= 3 {
+        assert!(rt; annotation.cert(3) == [(3, 1), (7, 3)].as_slice());
+        assert!(rt; annotation.cert(2).is_empty());
+    }
+    Ok(())
+}
+
 #[test]
 fn laws_are_called() {
+    passing_annotations_are_safe();
+    passing_annotations_cover();
     one_line_is_bad_at_most();
     texts_tell_predicates();
 }

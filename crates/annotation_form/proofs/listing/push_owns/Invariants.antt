@@ -1,0 +1,8 @@
+use Rattle.std.proofs.Common.{map}
+use Rattle.horn_rules.specs.Stored.{home_of, instance_of}
+use Rattle.annotation_form.specs.inside.Listing.{own_at}
+use Rattle.annotation_form.proofs.Listed.{IsSoFar}
+use Rattle.annotation_form.proofs.listing.push_owns.Given as goal
+
+abbrev pub invariant-loop-place : goal.invariant-loop-place
+invariant-loop-place l = IsSoFar (own_at l.program) (map home_of l.homes) (map instance_of l.initial.out.items) l.place (map instance_of l.out.items)
