@@ -59,6 +59,7 @@ pub mod WordsText
 pub mod KnownText
 pub mod StopLemmas
 pub mod TextLaws
+pub mod TextsExact
 pub mod SizeLemmas
 pub mod PassLemmas
 pub mod PartLemmas

@@ -7,6 +7,7 @@ pub mod Edge
 pub mod Graph
 pub mod SameSteps
 pub mod Interleaving
+pub mod Telling
 pub mod inside
 pub mod EdgeLaws
 pub mod Picks

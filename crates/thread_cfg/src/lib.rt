@@ -39,6 +39,10 @@ mod thread;
 mod thread_tests;
 
 pub use building::build;
-pub use laws::{edges_happen, paths_tell_ways, programs_step_alike, texts_fail_alike};
+pub use laws::{
+    edges_are_of_actions, edges_happen, paths_tell_ways, programs_step_alike,
+    reached_states_tell_interleavings, texts_are_read_exactly, texts_fail_alike,
+    threads_fail_alike,
+};
 pub use read::read_program;
 pub use thread::location_places;
