@@ -72,3 +72,4 @@ pub mod FoundLemmas
 pub mod FewLemmas
 pub mod BlockLemmas
 pub mod PlaceLemmas
+pub mod LocatedLemmas

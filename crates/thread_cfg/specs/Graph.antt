@@ -119,9 +119,3 @@ program_of tree = record {
 -- When each answer comes: a program where there is nothing to refuse, or else the first refusal.
 abbrev pub IsBuildAnswer : plain.Tree → Result Program Stop → Type 0
 IsBuildAnswer tree answer = MatchStop answer (λ program. (refusals_of tree ≡ []) × (program ≡ program_of tree)) (IsFirst (Contains (refusals_of tree)))
-
--- ---- places
-
--- the place of the first token of each location's action, of all threads, from location 1 on
-abbrev pub location_places : Running → List ℕ
-location_places t = map (λ action. action.from) (actions_of t)

@@ -5,6 +5,7 @@ pub mod Action
 pub mod Within
 pub mod Edge
 pub mod Graph
+pub mod Places
 pub mod SameSteps
 pub mod Interleaving
 pub mod Telling

@@ -18,6 +18,7 @@ mod form;
 mod frame;
 mod going;
 mod laws;
+mod located;
 mod locking;
 mod marks;
 mod part;
@@ -44,5 +45,5 @@ pub use laws::{
     reached_states_tell_interleavings, texts_are_read_exactly, texts_fail_alike,
     threads_fail_alike,
 };
+pub use located::location_places;
 pub use read::read_program;
-pub use thread::location_places;
