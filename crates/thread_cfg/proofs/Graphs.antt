@@ -13,7 +13,8 @@ use Rattle.c_check.specs.Check.{IsPlanOf}
 use Rattle.c_check.specs.Columns.{columns_of, counters_from, own_columns_from, own_count, owns_of, shared_columns, threads_from}
 use Rattle.c_check.specs.WellFormed.{IsWellFormedPlan}
 use Rattle.transition_formula.specs.Program.{Edge, IsEdgeOf, IsProgram, Thread, numbered}
-use Rattle.thread_cfg.specs.Graph.{Running, actions_of, edges_from, locations_of, program_column, program_of, refusals_from, refusals_of, thread_graph, thread_refusals, threads_running}
+use Rattle.thread_cfg.specs.Threads.{Running, threads_running}
+use Rattle.thread_cfg.specs.Graph.{actions_of, edges_from, locations_of, program_column, program_of, refusals_from, refusals_of, thread_graph, thread_refusals}
 use Rattle.thread_cfg.specs.SameSteps.{SameSteps}
 use Rattle.thread_cfg.specs.Action.{Action, Alternative}
 use Rattle.thread_cfg.specs.Edge.{alternative_edge}

@@ -12,7 +12,8 @@ use Rattle.transition_formula.specs.Program.{Edge, Form, IsEdgeOf, IsProgram, Is
 use Rattle.transition_formula.specs.Step.{IsInitial, Steps, after_step, assigned, value_of}
 use Rattle.transition_formula.specs.Run.{IsFailing, Leads, Reaches, RunStep}
 use Rattle.thread_cfg.specs.Source.{DoesFirst, Frame, SourceSteps, Standing, read_as}
-use Rattle.thread_cfg.specs.Graph.{Running, program_column, threads_running}
+use Rattle.thread_cfg.specs.Threads.{Running, threads_running}
+use Rattle.thread_cfg.specs.Graph.{program_column}
 use Rattle.thread_cfg.specs.SameSteps.{HasSameSteps, SameSteps, standing_as, state_of}
 use Rattle.thread_cfg.specs.Interleaving.{ComesTo, Configuration, Interleaves, MayStartAll, ProgramFails, TextFails, ThreadFails, ThreadReachesFailure, value_columns}
 use Rattle.thread_cfg.specs.Telling.{IsReached, IsTold, StatesTellConfigurations, StepsBy, Tells}

@@ -9,7 +9,8 @@ use Rattle.c_check.specs.declared.plan.Plan.{Plan}
 use Rattle.c_check.specs.declared.plan.Thread.{Thread}
 use Rattle.transition_formula.specs.Program.{numbered}
 use Rattle.thread_cfg.specs.Action.{Action}
-use Rattle.thread_cfg.specs.Graph.{Running, actions_of, locations_of, threads_running}
+use Rattle.thread_cfg.specs.Threads.{Running, threads_running}
+use Rattle.thread_cfg.specs.Graph.{actions_of, locations_of}
 use Rattle.thread_cfg.specs.Places.{ArePlacesOf, location_places}
 use Rattle.thread_cfg.specs.Read.{IsPlanOfText}
 use Rattle.thread_cfg.proofs.Fronts.{get-exists}

@@ -8,7 +8,8 @@ use Rattle.thread_cfg.specs.Source.{Frame}
 use Rattle.thread_cfg.specs.Happen.{Happen}
 use Rattle.thread_cfg.specs.Action.{Action, Alternative}
 use Rattle.thread_cfg.specs.Edge.{alternative_edge}
-use Rattle.thread_cfg.specs.Graph.{Running, actions_of, threads_running}
+use Rattle.thread_cfg.specs.Threads.{Running, threads_running}
+use Rattle.thread_cfg.specs.Graph.{actions_of}
 use Rattle.thread_cfg.specs.SameSteps.{state_of}
 use Rattle.thread_cfg.specs.Within.{EventsWithin}
 

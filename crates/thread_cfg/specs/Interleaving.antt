@@ -8,7 +8,7 @@ use Rattle.transition_formula.specs.Program.{IsThreadOf, Program, Thread, number
 use Rattle.transition_formula.specs.Step.{MayStart}
 use Rattle.transition_formula.specs.Run.{Fails, IsRun, Run}
 use Rattle.thread_cfg.specs.Source.{SourceSteps, Standing}
-use Rattle.thread_cfg.specs.Graph.{Running, threads_running}
+use Rattle.thread_cfg.specs.Threads.{Running, threads_running}
 
 -- the columns that have values, which are all but the counters
 abbrev pub value_columns : plain.Tree → List Column

@@ -1,4 +1,5 @@
 pub mod Source
+pub mod Threads
 pub mod Path
 pub mod Happen
 pub mod Action

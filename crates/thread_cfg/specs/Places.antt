@@ -3,7 +3,8 @@ use Rattle.std.specs.Prelude.{◌≡◌, ℕ, ◌+◌, List, length, map, Some}
 use Rattle.c_tree.specs.Plain as plain
 use Rattle.transition_formula.specs.Program.{numbered}
 use Rattle.thread_cfg.specs.Action.{Action}
-use Rattle.thread_cfg.specs.Graph.{Running, actions_of, locations_of, threads_running}
+use Rattle.thread_cfg.specs.Threads.{Running, threads_running}
+use Rattle.thread_cfg.specs.Graph.{actions_of, locations_of}
 
 -- the place of the first token of each location's action, from location 1 on
 abbrev pub location_places : Running → List ℕ

@@ -8,7 +8,7 @@ use Rattle.c_check.specs.Columns.{columns_of}
 use Rattle.transition_formula.specs.Program.{Edge, IsEdgeOf, IsThreadOf, Program, Thread, numbered}
 use Rattle.transition_formula.specs.Step.{Steps}
 use Rattle.thread_cfg.specs.Source.{Frame, SourceSteps, Standing, read_as}
-use Rattle.thread_cfg.specs.Graph.{Running, threads_running}
+use Rattle.thread_cfg.specs.Threads.{Running, threads_running}
 
 -- the standing with its first loop read as the branch that it is
 abbrev pub standing_as : Standing → Standing

@@ -6,7 +6,7 @@ use Rattle.c_check.specs.Columns.{columns_of}
 use Rattle.transition_formula.specs.Program.{Program, numbered}
 use Rattle.transition_formula.specs.Run.{Reaches}
 use Rattle.thread_cfg.specs.Source.{Standing}
-use Rattle.thread_cfg.specs.Graph.{Running, threads_running}
+use Rattle.thread_cfg.specs.Threads.{Running, threads_running}
 use Rattle.thread_cfg.specs.SameSteps.{HasSameSteps, Lefts, standing_as, state_of}
 use Rattle.thread_cfg.specs.Interleaving.{ComesTo, Configuration}
 

@@ -4,7 +4,7 @@ ghost use Rattle.std.specs.Prelude.{◌≡◌, ◌+◌, ◌≤◌, ℕ, List, le
 ghost use Rattle.c_check.specs.Check.{stored_function};
 ghost use Rattle.c_tree.specs.Seen.{plain_tree};
 ghost use Rattle.c_tree.specs.declared.item.Tree.{Tree};
-ghost use Rattle.thread_cfg.specs.Graph as graph;
+ghost use Rattle.thread_cfg.specs.Threads as threads;
 ghost use Rattle.thread_cfg.specs.Places as places;
 ghost use Rattle.thread_cfg.specs.Read.{IsPlanOfText};
 
@@ -15,7 +15,7 @@ use thr_base::ThreadNo;
 
 /// The place of the first token of the action at each location of a thread that runs the function, from location 1 on.
 pub(crate) fn function_places(alloc: Global, function: &Function) -> Result<Vec<u32>, AllocError>
-    ensures { (t : graph.Running) → function.now ≡ stored_function t.function → IfOk result (λ found. found.items ≡ places.location_places t) }
+    ensures { (t : threads.Running) → function.now ≡ stored_function t.function → IfOk result (λ found. found.items ≡ places.location_places t) }
 {
     places_of_code(alloc, function.body.as_slice())
 }

@@ -6,7 +6,7 @@ ghost use Rattle.c_check.specs.Program as program;
 ghost use Rattle.thread_cfg.specs.Graph as graph;
 ghost use Rattle.thread_cfg.specs.inside.Found.{IsFoundOf};
 ghost use Rattle.thread_cfg.specs.inside.Meant.{frame_of};
-ghost use Rattle.thread_cfg.specs.Within.{ActionsWithin};
+ghost use Rattle.thread_cfg.specs.inside.Within.{ActionsWithin};
 
 use crate::counter::count_locations;
 use crate::frame::Frame;
