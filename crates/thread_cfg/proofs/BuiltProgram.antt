@@ -9,7 +9,8 @@ use Rattle.transition_formula.specs.declared.graph.Column.{Column}
 use Rattle.transition_formula.specs.declared.graph.ThreadGraph.{ThreadGraph}
 use Rattle.transition_formula.specs.Program.{IsProgram}
 use Rattle.transition_formula.specs.Stored as stored
-use Rattle.thread_cfg.specs.Graph.{program_column, program_of, refusals_of, threads_running}
+use Rattle.thread_cfg.specs.Threads.{threads_running}
+use Rattle.thread_cfg.specs.Graph.{program_column, program_of, refusals_of}
 use Rattle.thread_cfg.specs.inside.Built.{AreFound}
 use Rattle.thread_cfg.specs.inside.Known.{IsKnownPlan}
 use Rattle.thread_cfg.proofs.ProgramIs.{program-is}

@@ -3,7 +3,7 @@ use Rattle.std.proofs.Common.{◌≡◌, ℕ, zero, suc, ◌+◌, List, [], ◌�
 use Rattle.std.specs.List.{AllByRecursion}
 use Rattle.c_check.specs.declared.plan.Thread.{Thread}
 use Rattle.c_check.specs.Program.{Function}
-use Rattle.thread_cfg.specs.Graph.{running_from}
+use Rattle.thread_cfg.specs.Threads.{running_from}
 use Rattle.thread_cfg.proofs.Numbered.{none-some, some-same}
 use Rattle.thread_cfg.proofs.RunningThreads.{HasFunction}
 

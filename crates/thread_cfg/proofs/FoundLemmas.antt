@@ -12,7 +12,8 @@ use Rattle.thread_cfg.specs.declared.thread.Found.{Found}
 use Rattle.thread_cfg.specs.declared.running.Running as stored
 use Rattle.thread_cfg.specs.Source.{Frame}
 use Rattle.thread_cfg.specs.Action.{exit_of, thread_actions}
-use Rattle.thread_cfg.specs.Graph.{Running, actions_of, edges_from, locations_of, refusals_from, thread_refusals}
+use Rattle.thread_cfg.specs.Threads.{Running}
+use Rattle.thread_cfg.specs.Graph.{actions_of, edges_from, locations_of, refusals_from, thread_refusals}
 use Rattle.thread_cfg.specs.inside.Adds.{AddsActions, AreLeft, AreWithin, actions_of_parts}
 use Rattle.thread_cfg.specs.inside.Found.{IsFoundOf}
 use Rattle.thread_cfg.specs.inside.Meant.{frame_of}

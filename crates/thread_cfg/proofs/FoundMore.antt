@@ -6,7 +6,8 @@ use Rattle.c_check.proofs.FirstOf.{first_of-append}
 use Rattle.transition_formula.specs.Stored.{thread_of}
 use Rattle.transition_formula.specs.declared.graph.ThreadGraph.{ThreadGraph}
 use Rattle.thread_cfg.specs.declared.thread.Found.{Found}
-use Rattle.thread_cfg.specs.Graph.{Running, thread_graph, thread_refusals}
+use Rattle.thread_cfg.specs.Threads.{Running}
+use Rattle.thread_cfg.specs.Graph.{thread_graph, thread_refusals}
 use Rattle.thread_cfg.specs.inside.Built.{AreFound}
 use Rattle.thread_cfg.specs.inside.Found.{IsFoundOf}
 use Rattle.thread_cfg.proofs.Numbered.{empty-behind, empty-front, none-some, some-same}

@@ -1,5 +1,7 @@
 -- The program of a text has the same steps as the text, and fails where it fails.
-use Rattle.std.proofs.Common.{◌≡◌, ◌↔◌, ℕ, zero, suc, ◌+◌, ◌-◌, ◌≤◌, nat_lt, Bool, true, false, List, [], ◌∷◌, ◌++◌, length, map, take, flat_map, Some, refl, sym, ap, subst, arith, length-append, append_assoc, ltb-false, ◌∙◌}
+use Rattle.std.proofs.Common.{◌≡◌, ◌↔◌, ℕ, zero, suc, ◌+◌, ◌-◌, ◌≤◌, nat_lt, Bool, true, false, List, [], ◌∷◌, ◌++◌, length, map, take, flat_map, Some, Ok, inl, inr, refl, sym, ap, subst, arith, length-append, append_assoc, ltb-false, ◌∙◌}
+use Rattle.std.specs.Prelude.{Contains}
+use Rattle.std.specs.List.{AllByRecursion}
 use Rattle.std.proofs.lemmas.List.{length-map}
 use Rattle.thr_base.specs.Limits.{most_locations}
 use Rattle.c_tree.specs.Plain as plain
@@ -10,14 +12,21 @@ use Rattle.c_check.specs.Program.{created_of}
 use Rattle.c_check.specs.Check.{IsPlanOf}
 use Rattle.c_check.specs.Columns.{columns_of, counters_from, own_columns_from, own_count, owns_of, shared_columns, threads_from}
 use Rattle.c_check.specs.WellFormed.{IsWellFormedPlan}
-use Rattle.transition_formula.specs.Program.{IsProgram, numbered}
-use Rattle.thread_cfg.specs.Graph.{Running, actions_of, edges_from, locations_of, program_column, program_of, refusals_from, refusals_of, thread_graph, thread_refusals, threads_running}
+use Rattle.transition_formula.specs.Program.{Edge, IsEdgeOf, IsProgram, Thread, numbered}
+use Rattle.thread_cfg.specs.Threads.{Running, threads_running}
+use Rattle.thread_cfg.specs.Graph.{actions_of, edges_from, locations_of, program_column, program_of, refusals_from, refusals_of, thread_graph, thread_refusals}
 use Rattle.thread_cfg.specs.SameSteps.{SameSteps}
-use Rattle.thread_cfg.specs.Interleaving.{ProgramFails, TextFails, value_columns}
-use Rattle.thread_cfg.proofs.Numbered.{cons-empty, empty-behind, empty-front, none-some, some-same}
+use Rattle.thread_cfg.specs.Action.{Action, Alternative}
+use Rattle.thread_cfg.specs.Edge.{alternative_edge}
+use Rattle.thread_cfg.specs.EdgeLaws.{IsEdgeOfAction}
+use Rattle.thread_cfg.specs.Interleaving.{ProgramFails, TextFails, ThreadFails, ThreadReachesFailure, value_columns}
+use Rattle.thread_cfg.specs.Telling.{StatesTellConfigurations}
+use Rattle.thread_cfg.specs.Within.{EventsWithin}
+use Rattle.thread_cfg.proofs.Edges.{edge-from}
+use Rattle.thread_cfg.proofs.Numbered.{Has, cons-empty, edge-at, empty-behind, empty-front, none-some, number-has, some-same}
 use Rattle.thread_cfg.proofs.RunningThreads.{actions-within, running-is, threads-running}
 use Rattle.thread_cfg.proofs.Sameness.{IsGraphOf, same-steps}
-use Rattle.thread_cfg.proofs.Interleavings.{fails-alike}
+use Rattle.thread_cfg.proofs.Interleavings.{IsKnown, all-has, fails-alike, states-tell, threads-fail-alike}
 
 -- ---- lists
 
@@ -42,6 +51,25 @@ flat-none f (y ∷ xs) (suc (suc i)) x e at = flat-none f xs (suc i) x (empty-be
 take-front : {X : Type 0} → (xs ys : List X) → take (length xs) (xs ++ ys) ≡ xs
 take-front [] ys = refl
 take-front (x ∷ xs) ys = ap (λ l. x ∷ l) (take-front xs ys)
+
+-- an element of a list that is mapped is what one is mapped to
+mapped-numbered : {X Y : Type 0} → (f : X → Y) (xs : List X) (i : ℕ) (y : Y) → numbered (map f xs) i ≡ Some y → (x : X) × (numbered xs i ≡ Some x) × (f x ≡ y)
+mapped-numbered f xs zero y e = absurd (none-some y e)
+mapped-numbered f [] (suc i) y e = absurd (none-some y e)
+mapped-numbered f (x ∷ xs) (suc zero) y e = (x, refl, some-same (f x) y e)
+mapped-numbered f (x ∷ xs) (suc (suc i)) y e = mapped-numbered f xs (suc i) y e
+
+numbered-has : {X : Type 0} → (xs : List X) (x : X) (e : ℕ) → numbered xs e ≡ Some x → Has xs x
+numbered-has xs x zero h = absurd (none-some x h)
+numbered-has xs x (suc e) h = number-has xs x e h
+
+has-contains : {X : Type 0} → (xs : List X) (x : X) → Has xs x → Contains xs x
+has-contains [] x h = absurd h
+has-contains (y ∷ xs) x h =
+    elim h [
+      | inl e ↦ (0, omega arith, sym e)
+      | inr g ↦ let more = has-contains xs x g in (suc more.0, omega (arith, more.1), more.2)
+    ]
 
 -- ---- columns and threads
 
@@ -117,16 +145,63 @@ module _ (tree : plain.Tree) (plan : Plan) (is : IsPlanOf tree plan) (well : IsW
   programs-step-alike = record {
     columns_are = length-map (columns_of tree) program_column;
     threads_are = length-map (threads_running tree) (thread_graph (length (columns_of tree)) (k tree plan is well));
+    created = length-map (threads_running tree) (thread_graph (length (columns_of tree)) (k tree plan is well)) ∙ sym (created-are tree plan is well);
+    numbered_so = λ i t at. (running-is tree plan is well i t at).number;
     steps_are = λ i t at. same-steps (program_of tree) (n tree plan is well) (k tree plan is well) t.frame (length t.function.locals) t.function.body (thread_graph (length (columns_of tree)) (k tree plan is well) t) (graph-is i t at);
+  }
+
+  -- what is known of the text and its program
+  known : IsProgram (program_of tree) → IsKnown tree (program_of tree)
+  known program = record {
+    same = programs-step-alike;
+    is_program = program;
+    columns_are = refl;
+    counters_are = counters-are tree plan is well;
+    created_are = created-are tree plan is well;
   }
 
   -- and it fails where the text does
   pub programs-fail-alike : IsProgram (program_of tree) → ProgramFails (program_of tree) ↔ TextFails tree
-  programs-fail-alike program = fails-alike tree (program_of tree) (record {
-    same = programs-step-alike;
-    is_program = program;
-    numbers = λ i t at. (running-is tree plan is well i t at).number;
-    columns_are = refl;
-    counters_are = counters-are tree plan is well;
-    created_are = created-are tree plan is well;
-  })
+  programs-fail-alike program = fails-alike tree (program_of tree) (known program)
+
+  -- thread by thread
+  pub programs-threads-fail-alike : IsProgram (program_of tree) → (i : ℕ) → ThreadReachesFailure (program_of tree) i ↔ ThreadFails tree i
+  programs-threads-fail-alike program i = threads-fail-alike tree (program_of tree) (known program) i
+
+  -- its states tell what interleavings come to
+  pub programs-states-tell : IsProgram (program_of tree) → StatesTellConfigurations tree (program_of tree)
+  programs-states-tell program = states-tell tree (program_of tree) (known program)
+
+  -- each of its edges is that of a way on
+  pub edge-of-action : (i e : ℕ) (thread : Thread) (edge : Edge) → IsEdgeOf (program_of tree) i e thread edge → IsEdgeOfAction tree i thread edge
+  edge-of-action i e thread edge at =
+      let found = mapped-numbered (thread_graph (length (columns_of tree)) (k tree plan is well)) (threads_running tree) i thread at.thread_is in
+      let t : Running = found.0 in
+      let c : ℕ = n tree plan is well + k tree plan is well in
+      let r = running-is tree plan is well i t found.1 in
+      let g = graph-is i t found.1 in
+      let has : Has (edges_from c t.frame 1 (actions_of t)) edge =
+      subst (λ es. Has es edge) g.edges_are (subst (λ (x : Thread). Has x.edges edge) (sym found.2) (numbered-has thread.edges edge e at.edge_is)) in
+      let is_at = edge-at c t.frame 1 (actions_of t) edge has in
+      let a : Alternative = is_at.is_of.alternative in
+      let from_to = edge-from c t.frame (1 + is_at.l) a edge is_at.is_of.made in
+      let back : suc is_at.l ≡ edge.from = omega (arith, from_to.0) in
+      record {
+        running = t;
+        action = is_at.action;
+        alternative = a;
+        n = n tree plan is well;
+        running_is = found.1;
+        action_is = subst (λ m. numbered (actions_of t) m ≡ Some is_at.action) back is_at.action_is;
+        alternative_is = has-contains is_at.action.alternatives a is_at.is_of.is_there;
+        leads = from_to.1;
+        columns_are = (fronts-length tree plan is well).1;
+        edge_is = subst (λ m. alternative_edge c t.frame m a ≡ Ok (Some edge)) (sym from_to.0) is_at.is_of.made;
+        within = all-has (λ x. EventsWithin (n tree plan is well) t.frame x.events) is_at.action.alternatives a
+            (all-has (λ (x : Action). AllByRecursion (λ y. EventsWithin (n tree plan is well) t.frame y.events) x.alternatives) (actions_of t) is_at.action
+            (actions-within tree plan is well i t found.1) (number-has (actions_of t) is_at.action is_at.l is_at.action_is))
+            is_at.is_of.is_there;
+        counter_is = sym (ap (λ (x : Thread). x.counter) found.2) ∙ g.counter_is ∙ ap (λ m. n tree plan is well + (m - 1)) r.number;
+        some = (numbered-below (threads_running tree) i t found.1).0;
+        among = (numbered-below (threads_running tree) i t found.1).1;
+      }

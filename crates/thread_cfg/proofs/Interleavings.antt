@@ -12,9 +12,11 @@ use Rattle.transition_formula.specs.Program.{Edge, Form, IsEdgeOf, IsProgram, Is
 use Rattle.transition_formula.specs.Step.{IsInitial, Steps, after_step, assigned, value_of}
 use Rattle.transition_formula.specs.Run.{IsFailing, Leads, Reaches, RunStep}
 use Rattle.thread_cfg.specs.Source.{DoesFirst, Frame, SourceSteps, Standing, read_as}
-use Rattle.thread_cfg.specs.Graph.{Running, program_column, threads_running}
+use Rattle.thread_cfg.specs.Threads.{Running, threads_running}
+use Rattle.thread_cfg.specs.Graph.{program_column}
 use Rattle.thread_cfg.specs.SameSteps.{HasSameSteps, SameSteps, standing_as, state_of}
-use Rattle.thread_cfg.specs.Interleaving.{ComesTo, Configuration, Interleaves, MayStartAll, ProgramFails, TextFails, value_columns}
+use Rattle.thread_cfg.specs.Interleaving.{ComesTo, Configuration, Interleaves, MayStartAll, ProgramFails, TextFails, ThreadFails, ThreadReachesFailure, value_columns}
+use Rattle.thread_cfg.specs.Telling.{IsReached, IsTold, StatesTellConfigurations, StepsBy, Tells}
 use Rattle.transition_formula.proofs.Runs.{failing-runs, failing-states, runs-end}
 use Rattle.thread_cfg.proofs.Entries.{read-branch}
 use Rattle.thread_cfg.proofs.Fronts.{counter-get, get-all, get-below, length-slice_set, numbered-get, numbered-same, numbered-set, pos-same}
@@ -25,7 +27,6 @@ use Rattle.thread_cfg.proofs.Numbered.{Has, none-some, some-same}
 pub record IsKnown (tree : plain.Tree) (program : Program) : Type 0 where
   pub same : SameSteps tree program
   pub is_program : IsProgram program
-  pub numbers : (i : ℕ) (t : Running) → numbered (threads_running tree) i ≡ Some t → t.frame.thread ≡ i
   pub columns_are : program.columns ≡ map program_column (columns_of tree)
   pub counters_are : columns_of tree ≡ value_columns tree ++ counters_from 1 (created_of tree)
   pub created_are : length (created_of tree) ≡ length (threads_running tree)
@@ -59,7 +60,7 @@ failed-as : (standing : Standing) → standing_as standing ≡ Standing.Failed �
 failed-as Standing.Failed e = refl
 failed-as (Standing.Doing is) e = absurd (subst (λ s. elim s as (λ _. Type 0) [ Standing.Doing y ↦ Unit {0} | Standing.Failed ↦ ⊥ ]) e tt)
 
-all-has : {X : Type 0} → (P : X → Type 0) (xs : List X) (x : X) → AllByRecursion P xs → Has xs x → P x
+pub all-has : {X : Type 0} → (P : X → Type 0) (xs : List X) (x : X) → AllByRecursion P xs → Has xs x → P x
 all-has P [] x all h = absurd h
 all-has P (y ∷ xs) x all h = elim h [ inl e ↦ subst P (sym e) all.0 | inr g ↦ all-has P xs x all.1 g ]
 
@@ -80,11 +81,7 @@ module _ (tree : plain.Tree) (program : Program) (known : IsKnown tree program) 
   left_at : ℕ → ℕ → Option Standing
   left_at i = lefts_of i (numbered (threads_running tree) i) refl
 
-  record SameAt (i : ℕ) (t : Running) : Type 0 where
-    steps : HasSameSteps program n k t.frame (function_items t.function)
-    left_is : steps.left ≡ left_at i
-
-  same-at : (i : ℕ) (t : Running) → numbered (threads_running tree) i ≡ Some t → SameAt i t
+  same-at : (i : ℕ) (t : Running) → numbered (threads_running tree) i ≡ Some t → StepsBy tree program (left_at i) t
   unfolding left_at lefts_of
   same-at i t e = let h = by (numbered (threads_running tree) i) refl e in record { steps = h.0; left_is = h.1 }
     where
@@ -97,18 +94,12 @@ module _ (tree : plain.Tree) (program : Program) (known : IsKnown tree program) 
 
   -- ---- states that tell configurations
 
-  -- The state has the configuration's values, and each thread at a location where that is left which the configuration has of it.
-  record Tells (c : Configuration) (state : List ℤ) : Type 0 where
-    locations : List ℕ
-    values_length : length c.values ≡ n
-    locations_length : length locations ≡ k
-    standings_length : length c.standings ≡ k
-    state_is : state ≡ state_of c.values locations
-    stand : (i l : ℕ) (st : Standing) → numbered locations i ≡ Some l → numbered c.standings i ≡ Some st → left_at i l ≡ Some (standing_as st)
+  abbrev Shows : Configuration → List ℤ → Type 0
+  Shows = Tells tree left_at
 
-  tells-next : (c : Configuration) (before : List ℤ) (t : Tells c before) (i to : ℕ) (next : Standing) (values : List ℤ) → 1 ≤ i → i ≤ k → length values ≡ n
+  tells-next : (c : Configuration) (before : List ℤ) (t : Shows c before) (i to : ℕ) (next : Standing) (values : List ℤ) → 1 ≤ i → i ≤ k → length values ≡ n
       → left_at i to ≡ Some (standing_as next)
-      → Tells (record { values = values; standings = slice_set c.standings (i - 1) next }) (state_of values (slice_set t.locations (i - 1) to))
+      → Shows (record { values = values; standings = slice_set c.standings (i - 1) next }) (state_of values (slice_set t.locations (i - 1) to))
   tells-next c before t i to next values some among vs lands = record {
     locations = slice_set t.locations (i - 1) to;
     values_length = vs;
@@ -147,7 +138,7 @@ module _ (tree : plain.Tree) (program : Program) (known : IsKnown tree program) 
   record StepsOn (c : Configuration) (after : List ℤ) : Type 0 where
     next : Configuration
     interleaves : Interleaves tree c next
-    tells : Tells next after
+    tells : Shows next after
 
   after-length : (thread : Thread) (edge : Edge) (before inputs : List ℤ) → length (after_step thread edge before inputs) ≡ length before
   after-length thread edge before inputs =
@@ -160,7 +151,7 @@ module _ (tree : plain.Tree) (program : Program) (known : IsKnown tree program) 
   values-length : (values counters : List ℤ) (m : ℕ) → length (values ++ counters) ≡ m + length counters → length values ≡ m
   values-length values counters m e = let a = length-append values counters in omega (arith, a, e)
 
-  program-steps : (c : Configuration) (taken : RunStep) (before after : List ℤ) → Tells c before → Leads program taken before after → StepsOn c after
+  program-steps : (c : Configuration) (taken : RunStep) (before after : List ℤ) → Shows c before → Leads program taken before after → StepsOn c after
   program-steps c taken before after t leads = go (get-all (threads_running tree) i (counter.1) counter.2) (get-all t.locations i counter.1 (omega (arith, counter.2, t.locations_length)))
       (get-all c.standings i counter.1 (omega (arith, counter.2, t.standings_length)))
     where
@@ -173,7 +164,7 @@ module _ (tree : plain.Tree) (program : Program) (known : IsKnown tree program) 
       go : (running : (x : Running) × (numbered (threads_running tree) i ≡ Some x)) (at : (x : ℕ) × (numbered t.locations i ≡ Some x))
           (stands : (x : Standing) × (numbered c.standings i ≡ Some x)) → StepsOn c after
       go running at stands =
-          let thread_no : running.0.frame.thread ≡ i = known.numbers i running.0 running.1 in
+          let thread_no : running.0.frame.thread ≡ i = known.same.numbered_so i running.0 running.1 in
           let alike = same-at i running.0 running.1 in
           let same_thread : leads.of_thread ≡ alike.steps.thread =
           some-same leads.of_thread alike.steps.thread (sym leads.edge_is.thread_is ∙ subst (λ m. numbered program.threads m ≡ Some alike.steps.thread) thread_no alike.steps.thread_is) in
@@ -203,7 +194,7 @@ module _ (tree : plain.Tree) (program : Program) (known : IsKnown tree program) 
               steps = as-steps running.0.frame c.values s.after stands.0 s.next (subst (λ x. SourceSteps running.0.frame c.values x s.after s.next) standing_is s.steps);
               leads = refl;
             };
-            tells = subst (Tells (record { values = s.after; standings = slice_set c.standings (i - 1) s.next })) (sym state_is)
+            tells = subst (Shows (record { values = s.after; standings = slice_set c.standings (i - 1) s.next })) (sym state_is)
                 (tells-next c before t i s.to s.next s.after counter.1 counter.2 after_length lands);
           }
         where
@@ -216,13 +207,13 @@ module _ (tree : plain.Tree) (program : Program) (known : IsKnown tree program) 
 
   -- ---- a step of the text is one of the program
 
-  record StepsBy (before : List ℤ) (c : Configuration) : Type 0 where
+  record IsStep (before : List ℤ) (c : Configuration) : Type 0 where
     taken : RunStep
     after : List ℤ
     leads : Leads program taken before after
-    tells : Tells c after
+    tells : Shows c after
 
-  text-steps : (c next : Configuration) (before : List ℤ) → Tells c before → Interleaves tree c next → StepsBy before next
+  text-steps : (c next : Configuration) (before : List ℤ) → Shows c before → Interleaves tree c next → IsStep before next
   text-steps c next before t s =
       go (get-all t.locations s.i at.0 (omega (arith, below, at.0, t.standings_length, t.locations_length)))
     where
@@ -232,9 +223,9 @@ module _ (tree : plain.Tree) (program : Program) (known : IsKnown tree program) 
       below : s.i - 1 < length c.standings
       below = get-below c.standings (s.i - 1) s.standing at.1
 
-      go : (l : (x : ℕ) × (numbered t.locations s.i ≡ Some x)) → StepsBy before next
+      go : (l : (x : ℕ) × (numbered t.locations s.i ≡ Some x)) → IsStep before next
       go l =
-          let thread_no : s.running.frame.thread ≡ s.i = known.numbers s.i s.running s.thread_is in
+          let thread_no : s.running.frame.thread ≡ s.i = known.same.numbered_so s.i s.running s.thread_is in
           let alike = same-at s.i s.running s.thread_is in
           let r = alike.steps.by_edges c.values t.locations l.0 (standing_as s.standing) next.values s.next t.values_length t.locations_length
           (subst (λ m. numbered t.locations m ≡ Some l.0) (sym thread_no) l.1)
@@ -257,7 +248,7 @@ module _ (tree : plain.Tree) (program : Program) (known : IsKnown tree program) 
               edge_is = subst (λ m. IsEdgeOf program m e.e e.thread e.edge) thread_no e.edge_is;
               steps = steps;
             };
-            tells = subst (λ ss. Tells (record { values = next.values; standings = ss }) (state_of next.values (slice_set t.locations (s.i - 1) r.0))) (sym s.leads)
+            tells = subst (λ ss. Shows (record { values = next.values; standings = ss }) (state_of next.values (slice_set t.locations (s.i - 1) r.0))) (sym s.leads)
                 (tells-next c before t s.i r.0 s.next next.values at.0 (omega (arith, below, at.0, t.standings_length)) values_are lands);
           }
         where
@@ -287,7 +278,7 @@ module _ (tree : plain.Tree) (program : Program) (known : IsKnown tree program) 
       let b = length-append (value_columns tree) (counters_from 1 (created_of tree)) in
       let d = length-counters 1 (created_of tree) in omega (arith, a, b, d, known.created_are)
 
-  start-tells : (values : List ℤ) → MayStartAll (value_columns tree) values → Tells (start_with values) (values ++ map pos (ones (created_of tree)))
+  start-tells : (values : List ℤ) → MayStartAll (value_columns tree) values → Shows (start_with values) (values ++ map pos (ones (created_of tree)))
   unfolding start_with
   start-tells values h = record {
     locations = ones (created_of tree);
@@ -314,38 +305,28 @@ module _ (tree : plain.Tree) (program : Program) (known : IsKnown tree program) 
 
   -- ---- whatever is come to
 
-  record IsTold (state : List ℤ) : Type 0 where
-    configuration : Configuration
-    comes : ComesTo tree configuration
-    tells : Tells configuration state
-
-  reaches-comes : (state : List ℤ) → Reaches program state → IsTold state
+  reaches-comes : (state : List ℤ) → Reaches program state → IsTold tree left_at state
   unfolding start_with
   reaches-comes state (Reaches.start s h) =
       let starts = initial-starts (value_columns tree) 1 (created_of tree) state ((initial-columns state).0 h) in
       record {
         configuration = start_with starts.values;
         comes = ComesTo.start (start_with starts.values) (record { values_start = starts.may_start; standings_are = refl });
-        tells = subst (Tells (start_with starts.values)) (sym starts.state_is) (start-tells starts.values starts.may_start);
+        tells = subst (Shows (start_with starts.values)) (sym starts.state_is) (start-tells starts.values starts.may_start);
       }
   reaches-comes state (Reaches.step taken before after r leads) =
       let told = reaches-comes before r in
       let on = program-steps told.configuration taken before state told.tells leads in
       record { configuration = on.next; comes = ComesTo.step told.configuration on.next told.comes on.interleaves; tells = on.tells }
 
-  record IsReached (c : Configuration) : Type 0 where
-    state : List ℤ
-    reaches : Reaches program state
-    tells : Tells c state
-
-  comes-reaches : (c : Configuration) → ComesTo tree c → IsReached c
+  comes-reaches : (c : Configuration) → ComesTo tree c → IsReached tree program left_at c
   unfolding start_with
   comes-reaches c (ComesTo.start d s) =
       record {
         state = c.values ++ map pos (ones (created_of tree));
         reaches = Reaches.start (c.values ++ map pos (ones (created_of tree)))
             ((initial-columns (c.values ++ map pos (ones (created_of tree)))).1 (starts-initial (value_columns tree) 1 (created_of tree) c.values s.values_start));
-        tells = subst (λ ss. Tells (record { values = c.values; standings = ss }) (c.values ++ map pos (ones (created_of tree)))) (sym s.standings_are) (start-tells c.values s.values_start);
+        tells = subst (λ ss. Shows (record { values = c.values; standings = ss }) (c.values ++ map pos (ones (created_of tree)))) (sym s.standings_are) (start-tells c.values s.values_start);
       }
   comes-reaches c (ComesTo.step before after r s) =
       let reached = comes-reaches before r in
@@ -354,59 +335,116 @@ module _ (tree : plain.Tree) (program : Program) (known : IsKnown tree program) 
 
   -- ---- failing
 
-  program-fails : ProgramFails program → TextFails tree
-  program-fails f = go (failing-runs program f.run f.last f.is_run f.fails)
+  -- a thread is at location 0 exactly where it has failed
+  failed-at-zero : (c : Configuration) (state : List ℤ) (t : Shows c state) (i l : ℕ) → numbered t.locations i ≡ Some l
+      → (l ≡ 0) ↔ (numbered c.standings i ≡ Some Standing.Failed)
+  failed-at-zero c state t i l at = (to_failed, to_zero)
     where
-      go : ((state : List ℤ) × Reaches program state × IsFailing program state) → TextFails tree
-      go s =
-          let told = reaches-comes s.0 s.1 in
-          let failing = s.2 in
-          let counter = counter-is failing.i failing.thread failing.thread_is in
-          let t = told.tells in
-          let running = get-all (threads_running tree) failing.i counter.1 counter.2 in
-          let l = get-all t.locations failing.i counter.1 (omega (arith, counter.2, t.locations_length)) in
-          let st = get-all told.configuration.standings failing.i counter.1 (omega (arith, counter.2, t.standings_length)) in
-          let at : slice_get (state_of told.configuration.values t.locations) (length told.configuration.values + (failing.i - 1)) ≡ Some (pos l.0) =
-          counter-get told.configuration.values t.locations (failing.i - 1) ∙ ap (option_map pos) (numbered-get t.locations failing.i l.0 l.1).1 in
-          let place : failing.thread.counter ≡ length told.configuration.values + (failing.i - 1) = omega (arith, counter.0, t.values_length) in
-          let zero_is : l.0 ≡ 0 = pos-same l.0 0 (some-same (pos l.0) (pos 0)
-          (sym at ∙ subst (λ c. slice_get (state_of told.configuration.values t.locations) c ≡ Some (pos 0)) place (subst (λ x. slice_get x failing.thread.counter ≡ Some (pos 0)) t.state_is failing.fails))) in
-          let alike = same-at failing.i running.0 running.1 in
-          let left_is : left_at failing.i 0 ≡ Some (standing_as st.0) = subst (λ m. left_at failing.i m ≡ Some (standing_as st.0)) zero_is (t.stand failing.i l.0 st.0 l.1 st.1) in
-          let failed : standing_as st.0 ≡ Standing.Failed = some-same (standing_as st.0) Standing.Failed (sym left_is ∙ subst (λ f. f 0 ≡ Some Standing.Failed) alike.left_is alike.steps.fails) in
-          record {
-            configuration = told.configuration;
-            comes = told.comes;
-            fails = record { i = failing.i; failed = st.1 ∙ ap Some (failed-as st.0 failed) };
-          }
+      place : (1 ≤ i) × (slice_get t.locations (i - 1) ≡ Some l)
+      place = numbered-get t.locations i l at
 
-  text-fails : TextFails tree → ProgramFails program
-  text-fails f =
-      let reached = comes-reaches f.configuration f.comes in
-      let run = (runs-end program reached.state).0 reached.reaches in
-      record { run = run.0; last = reached.state; is_run = run.1; fails = failing-states program run.0 reached.state run.1 (failing reached) }
+      below : i - 1 < length t.locations
+      below = get-below t.locations (i - 1) l place.1
+
+      running : (x : Running) × (numbered (threads_running tree) i ≡ Some x)
+      running = get-all (threads_running tree) i place.0 (omega (arith, below, place.0, t.locations_length))
+
+      stands : (x : Standing) × (numbered c.standings i ≡ Some x)
+      stands = get-all c.standings i place.0 (omega (arith, below, place.0, t.locations_length, t.standings_length))
+
+      alike : StepsBy tree program (left_at i) running.0
+      alike = same-at i running.0 running.1
+
+      to_failed : l ≡ 0 → numbered c.standings i ≡ Some Standing.Failed
+      to_failed zero_is =
+          let left_is : left_at i 0 ≡ Some (standing_as stands.0) = subst (λ m. left_at i m ≡ Some (standing_as stands.0)) zero_is (t.stand i l stands.0 at stands.1) in
+          let failed : standing_as stands.0 ≡ Standing.Failed =
+          some-same (standing_as stands.0) Standing.Failed (sym left_is ∙ subst (λ f. f 0 ≡ Some Standing.Failed) alike.left_is alike.steps.fails) in
+          stands.1 ∙ ap Some (failed-as stands.0 failed)
+
+      to_zero : numbered c.standings i ≡ Some Standing.Failed → l ≡ 0
+      to_zero failed = alike.steps.fails_alone l (subst (λ x. x l ≡ Some Standing.Failed) (sym alike.left_is) (t.stand i l Standing.Failed at failed))
+
+  -- the counter of a thread has its location
+  counter-holds : (c : Configuration) (state : List ℤ) (t : Shows c state) (i l : ℕ) (thread : Thread) → IsThreadOf program i thread
+      → numbered t.locations i ≡ Some l → slice_get state thread.counter ≡ Some (pos l)
+  counter-holds c state t i l thread thread_is at =
+      let counter = counter-is i thread thread_is in
+      let place : length c.values + (i - 1) ≡ thread.counter = omega (arith, counter.0, t.values_length) in
+      subst (λ x. slice_get x thread.counter ≡ Some (pos l)) (sym t.state_is)
+      (subst (λ m. slice_get (state_of c.values t.locations) m ≡ Some (pos l)) place
+      (counter-get c.values t.locations (i - 1) ∙ ap (option_map pos) (numbered-get t.locations i l at).1))
+
+  -- where a run brings a thread to location 0, an interleaving makes it fail
+  at-zero : (state : List ℤ) → Reaches program state → (i : ℕ) (thread : Thread) → IsThreadOf program i thread → slice_get state thread.counter ≡ Some (pos 0)
+      → ThreadFails tree i
+  at-zero state reached i thread thread_is fails =
+      let told = reaches-comes state reached in
+      let counter = counter-is i thread thread_is in
+      let l = get-all told.tells.locations i counter.1 (omega (arith, counter.2, told.tells.locations_length)) in
+      let holds = counter-holds told.configuration state told.tells i l.0 thread thread_is l.1 in
+      let zero_is : l.0 ≡ 0 = pos-same l.0 0 (some-same (pos l.0) (pos 0) (sym holds ∙ fails)) in
+      record { configuration = told.configuration; comes = told.comes; failed = (failed-at-zero told.configuration state told.tells i l.0 l.1).0 zero_is }
+
+  -- A run comes to a state in which the i-th thread is at location 0.
+  record ComesToZero (i : ℕ) : Type 0 where
+    state : List ℤ
+    reaches : Reaches program state
+    thread : Thread
+    thread_is : IsThreadOf program i thread
+    fails : slice_get state thread.counter ≡ Some (pos 0)
+
+  -- where an interleaving makes a thread fail, a run brings it to location 0
+  zero-at : (i : ℕ) → ThreadFails tree i → ComesToZero i
+  zero-at i f =
+      let r = comes-reaches f.configuration f.comes in
+      let t = r.tells in
+      let at = numbered-get f.configuration.standings i Standing.Failed f.failed in
+      let below = get-below f.configuration.standings (i - 1) Standing.Failed at.1 in
+      let running = get-all (threads_running tree) i at.0 (omega (arith, below, at.0, t.standings_length)) in
+      let l = get-all t.locations i at.0 (omega (arith, below, at.0, t.standings_length, t.locations_length)) in
+      let alike = same-at i running.0 running.1 in
+      let zero_is : l.0 ≡ 0 = (failed-at-zero f.configuration r.state t i l.0 l.1).1 f.failed in
+      let thread_is : IsThreadOf program i alike.steps.thread =
+      subst (λ m. numbered program.threads m ≡ Some alike.steps.thread) (known.same.numbered_so i running.0 running.1) alike.steps.thread_is in
+      record {
+        state = r.state;
+        reaches = r.reaches;
+        thread = alike.steps.thread;
+        thread_is = thread_is;
+        fails = subst (λ m. slice_get r.state alike.steps.thread.counter ≡ Some (pos m)) zero_is (counter-holds f.configuration r.state t i l.0 alike.steps.thread thread_is l.1);
+      }
+
+  -- a run of the program brings a thread to location 0 exactly where an interleaving of the text makes it fail
+  pub threads-fail-alike : (i : ℕ) → ThreadReachesFailure program i ↔ ThreadFails tree i
+  threads-fail-alike i = (λ f. at-zero f.last ((runs-end program f.last).1 (f.run, f.is_run)) i f.thread f.thread_is f.fails, λ f. ends (zero-at i f))
     where
-      failing : (r : IsReached f.configuration) → IsFailing program r.state
-      failing r =
-          let t = r.tells in
-          let at = numbered-get f.configuration.standings f.fails.i Standing.Failed f.fails.failed in
-          let below = get-below f.configuration.standings (f.fails.i - 1) Standing.Failed at.1 in
-          let running = get-all (threads_running tree) f.fails.i at.0 (omega (arith, below, at.0, t.standings_length)) in
-          let l = get-all t.locations f.fails.i at.0 (omega (arith, below, at.0, t.standings_length, t.locations_length)) in
-          let alike = same-at f.fails.i running.0 running.1 in
-          let zero_is : l.0 ≡ 0 = alike.steps.fails_alone l.0 (subst (λ x. x l.0 ≡ Some Standing.Failed) (sym alike.left_is) (t.stand f.fails.i l.0 Standing.Failed l.1 f.fails.failed)) in
-          let thread_is : IsThreadOf program f.fails.i alike.steps.thread = subst (λ m. numbered program.threads m ≡ Some alike.steps.thread) (known.numbers f.fails.i running.0 running.1) alike.steps.thread_is in
-          let counter = counter-is f.fails.i alike.steps.thread thread_is in
-          let place : length f.configuration.values + (f.fails.i - 1) ≡ alike.steps.thread.counter = omega (arith, counter.0, t.values_length) in
-          record {
-            i = f.fails.i;
-            thread = alike.steps.thread;
-            thread_is = thread_is;
-            fails = subst (λ x. slice_get x alike.steps.thread.counter ≡ Some (pos 0)) (sym t.state_is)
-                (subst (λ c. slice_get (state_of f.configuration.values t.locations) c ≡ Some (pos 0)) place
-                (counter-get f.configuration.values t.locations (f.fails.i - 1) ∙ ap (option_map pos) (numbered-get t.locations f.fails.i l.0 l.1).1 ∙ ap (λ m. Some (pos m)) zero_is));
-          }
+      ends : ComesToZero i → ThreadReachesFailure program i
+      ends z =
+          let run = (runs-end program z.state).0 z.reaches in
+          record { run = run.0; last = z.state; is_run = run.1; thread = z.thread; thread_is = z.thread_is; fails = z.fails }
 
   -- a run of the program fails exactly where an interleaving of the text does
   pub fails-alike : ProgramFails program ↔ TextFails tree
-  fails-alike = (program-fails, text-fails)
+  fails-alike = (to_text, to_program)
+    where
+      to_text : ProgramFails program → TextFails tree
+      to_text f =
+          let s = failing-runs program f.run f.last f.is_run f.fails in
+          let t = at-zero s.0 s.1 s.2.i s.2.thread s.2.thread_is s.2.fails in
+          record { configuration = t.configuration; comes = t.comes; fails = record { i = s.2.i; failed = t.failed } }
+
+      to_program : TextFails tree → ProgramFails program
+      to_program f =
+          let z = zero-at f.fails.i (record { configuration = f.configuration; comes = f.comes; failed = f.fails.failed }) in
+          let run = (runs-end program z.state).0 z.reaches in
+          record {
+            run = run.0;
+            last = z.state;
+            is_run = run.1;
+            fails = failing-states program run.0 z.state run.1 (record { i = f.fails.i; thread = z.thread; thread_is = z.thread_is; fails = z.fails });
+          }
+
+  -- each state that a run comes to tells what an interleaving comes to, and the other way round
+  pub states-tell : StatesTellConfigurations tree program
+  states-tell = record { left = left_at; steps = same-at; told = reaches-comes; reached = comes-reaches; failed = failed-at-zero }

@@ -59,6 +59,7 @@ pub mod WordsText
 pub mod KnownText
 pub mod StopLemmas
 pub mod TextLaws
+pub mod TextsExact
 pub mod SizeLemmas
 pub mod PassLemmas
 pub mod PartLemmas
@@ -71,3 +72,4 @@ pub mod FoundLemmas
 pub mod FewLemmas
 pub mod BlockLemmas
 pub mod PlaceLemmas
+pub mod LocatedLemmas

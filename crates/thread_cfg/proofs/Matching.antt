@@ -10,7 +10,8 @@ use Rattle.thread_cfg.specs.declared.relation.Relation.{Relation}
 use Rattle.thread_cfg.specs.declared.relation.Relation.TheVariants as related
 use Rattle.thread_cfg.specs.Source.{DoesFirst, Frame, Standing, WayEnd, behind_way, compared, gone, lock_column, read_as, value, value_at, with_value}
 use Rattle.thread_cfg.specs.Path.{Event, Path, block_paths, when_false, when_true}
-use Rattle.thread_cfg.specs.Happen.{Happen, SomeGone, end_of}
+use Rattle.thread_cfg.specs.inside.GonePaths.{SomeGone}
+use Rattle.thread_cfg.specs.Happen.{Happen, end_of}
 use Rattle.thread_cfg.specs.Action.{Action, block_action, choice, jump, lock_action, path_alternative, path_target, requiring, simple, test_action, unlock_action}
 use Rattle.thread_cfg.specs.SameSteps.{Lefts, standing_as}
 use Rattle.thread_cfg.proofs.Comparisons.{SomeHolds, apart, compared-exact, differs}

@@ -11,7 +11,8 @@ use Rattle.c_check.specs.Plan.{Test, Condition, Stmt, Stmts, code, stmt_code, st
 use Rattle.c_check.specs.Items.{shared_in}
 use Rattle.thread_cfg.specs.Source.{Frame}
 use Rattle.thread_cfg.specs.Action.{Action, assign_accesses, assign_reads, compare_accesses, compare_reads, condition_size, entry, exit_of, read_actions, size, stmt_size, test_size}
-use Rattle.thread_cfg.specs.Graph.{Running, location_places}
+use Rattle.thread_cfg.specs.Threads.{Running}
+use Rattle.thread_cfg.specs.Places.{location_places}
 use Rattle.thread_cfg.specs.inside.Parts.{Part, condition_parts, part_actions, part_size, parts, parts_actions, stmt_parts, test_parts}
 use Rattle.thread_cfg.specs.inside.Sizes.{condition_places, places_from, places_of, test_places}
 use Rattle.thread_cfg.proofs.PartLemmas.{thread_actions-parts}

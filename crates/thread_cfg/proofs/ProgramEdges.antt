@@ -16,8 +16,10 @@ use Rattle.thread_cfg.specs.Source.{Frame}
 use Rattle.thread_cfg.specs.Path.{Path, block_paths, when_false, when_true}
 use Rattle.thread_cfg.specs.Action.{Action, Alternative, Around, actions, assign_accesses, assign_reads, compare_accesses, compare_reads, condition_actions, condition_size, entry, exit_of, path_alternative, path_target, read_actions, requiring, size, stmt_actions, stmt_size, test_actions, test_size, thread_actions}
 use Rattle.thread_cfg.specs.Edge.{alternative_edge}
-use Rattle.thread_cfg.specs.Graph.{Running, action_edges, action_refusals, actions_of, edge_made, edges_from, is_long, is_too_large, locations_of, refusals_from, thread_refusals, unfit}
-use Rattle.thread_cfg.specs.Within.{ActionsWithin, EventsWithin}
+use Rattle.thread_cfg.specs.Threads.{Running}
+use Rattle.thread_cfg.specs.Graph.{action_edges, action_refusals, actions_of, edge_made, edges_from, is_long, is_too_large, locations_of, refusals_from, thread_refusals, unfit}
+use Rattle.thread_cfg.specs.inside.Within.{ActionsWithin}
+use Rattle.thread_cfg.specs.Within.{EventsWithin}
 use Rattle.thread_cfg.proofs.Edges.{edge-from, edge-is}
 use Rattle.thread_cfg.proofs.Entries.{reads-before-length}
 use Rattle.thread_cfg.proofs.Lists.{nil-front, nil-rest}

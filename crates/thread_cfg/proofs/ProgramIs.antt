@@ -15,7 +15,8 @@ use Rattle.c_check.specs.WellFormed.{IsWellFormedPlan}
 use Rattle.c_check.specs.WellFormed as well_formed
 use Rattle.transition_formula.specs.Program.{Column, IsColumn, IsCounter, IsProgram, IsThread, StartsWhereShared, Thread, first_counter, numbered}
 use Rattle.transition_formula.proofs.Lookups.{numbered-within}
-use Rattle.thread_cfg.specs.Graph.{Running, program_column, program_of, refusals_of, thread_graph, thread_refusals, threads_running}
+use Rattle.thread_cfg.specs.Threads.{Running, threads_running}
+use Rattle.thread_cfg.specs.Graph.{program_column, program_of, refusals_of, thread_graph, thread_refusals}
 use Rattle.thread_cfg.specs.inside.Words.{AreWords}
 use Rattle.thread_cfg.proofs.Lists.{nil-front, nil-rest}
 use Rattle.thread_cfg.proofs.ProgramEdges.{thread-edges}

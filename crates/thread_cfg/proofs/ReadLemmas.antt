@@ -18,7 +18,7 @@ use Rattle.thread_cfg.specs.Action.{Action, assign_accesses, assign_actions, com
 use Rattle.thread_cfg.specs.inside.Adds.{AddsActions, AddsReads, AreWithin}
 use Rattle.thread_cfg.specs.inside.Meant.{frame_of}
 use Rattle.thread_cfg.specs.inside.Sizes.{comparison_size, locations, shared_of, shared_operations, shared_variables}
-use Rattle.thread_cfg.specs.Within.{ActionWithin}
+use Rattle.thread_cfg.specs.inside.Within.{ActionWithin}
 use Rattle.thread_cfg.proofs.AddLemmas.{AddsActions-then}
 use Rattle.thread_cfg.proofs.SizeLemmas.{shared_operations-postfix}
 

@@ -21,8 +21,9 @@ use Rattle.c_check.specs.Columns.{columns_if, columns_of, counters_from, local_c
 use Rattle.c_check.specs.WellFormed.{HasCode, HasThread, IsWellFormedPlan, counts_in, is_variable}
 use Rattle.transition_formula.specs.Program.{numbered}
 use Rattle.thread_cfg.specs.Source.{Frame}
-use Rattle.thread_cfg.specs.Graph.{Running, actions_of, running_from, threads_running, variables_of}
-use Rattle.thread_cfg.specs.Within.{ActionsWithin}
+use Rattle.thread_cfg.specs.Threads.{Running, running_from, threads_running, variables_of}
+use Rattle.thread_cfg.specs.Graph.{actions_of}
+use Rattle.thread_cfg.specs.inside.Within.{ActionsWithin}
 use Rattle.thread_cfg.proofs.Withins.{HasRoom, thread_actions-within}
 
 -- ---- each thread has its function

@@ -12,7 +12,8 @@ use Rattle.thread_cfg.specs.Edge.{alternative_edge}
 use Rattle.thread_cfg.specs.Graph.{edges_from, refusals_from}
 use Rattle.thread_cfg.specs.SameSteps.{EdgeSteps, HasSameSteps, SourceStepsTo, standing_as, state_of}
 use Rattle.thread_cfg.specs.inside.Left.{left, standing_at, standing_in}
-use Rattle.thread_cfg.specs.Within.{ActionsWithin, EventsWithin}
+use Rattle.thread_cfg.specs.inside.Within.{ActionsWithin}
+use Rattle.thread_cfg.specs.Within.{EventsWithin}
 use Rattle.thread_cfg.proofs.Taken.{IsTaken, SomeTaken}
 use Rattle.thread_cfg.proofs.Matching.{AllMatch, Matches, StandsFrom, stands-front}
 use Rattle.thread_cfg.proofs.Entries.{entry-stands, stmts-length}

@@ -10,9 +10,10 @@ use Rattle.c_check.specs.Program.{functions_of}
 use Rattle.c_check.specs.Check.{stored_function}
 use Rattle.c_check.specs.Columns.{columns_of, threads_of}
 use Rattle.c_check.specs.WellFormed.{counts_in, is_variable}
-use Rattle.thread_cfg.specs.Graph.{Running, actions_of, threads_running, variables_of}
+use Rattle.thread_cfg.specs.Threads.{Running, threads_running, variables_of}
+use Rattle.thread_cfg.specs.Graph.{actions_of}
 use Rattle.thread_cfg.specs.inside.Known.{IsKnownPlan}
-use Rattle.thread_cfg.specs.Within.{ActionsWithin}
+use Rattle.thread_cfg.specs.inside.Within.{ActionsWithin}
 use Rattle.thread_cfg.proofs.Found.{runs-there}
 use Rattle.thread_cfg.proofs.Fronts.{get-below}
 use Rattle.thread_cfg.proofs.Graphs.{counters-within}

@@ -6,13 +6,15 @@ use Rattle.c_check.specs.declared.plan.Plan.{Plan}
 use Rattle.c_check.specs.Program.{functions_of}
 use Rattle.c_check.specs.Check.{stored_function}
 use Rattle.c_check.specs.Columns.{columns_of, threads_of}
-use Rattle.transition_formula.specs.Program.{Program}
+use Rattle.transition_formula.specs.Program.{IsEdgeOf, IsProgram, Program}
+use Rattle.thread_cfg.specs.Graph.{program_of}
 use Rattle.thread_cfg.specs.SameSteps.{SameSteps}
-use Rattle.thread_cfg.specs.Interleaving.{ProgramFails, TextFails}
-use Rattle.thread_cfg.specs.Laws.{ProgramsStepAlike, TextsFailAlike}
+use Rattle.thread_cfg.specs.Interleaving.{ProgramFails, TextFails, ThreadFails, ThreadReachesFailure}
+use Rattle.thread_cfg.specs.Telling.{StatesTellConfigurations}
+use Rattle.thread_cfg.specs.Laws.{EdgesAreOfActions, ProgramsStepAlike, ReachedStatesTellInterleavings, TextsFailAlike, ThreadsFailAlike}
 use Rattle.thread_cfg.specs.Read.{IsProgramText}
 use Rattle.thread_cfg.specs.inside.Known.{IsKnownPlan}
-use Rattle.thread_cfg.proofs.Graphs.{programs-fail-alike, programs-step-alike}
+use Rattle.thread_cfg.proofs.Graphs.{edge-of-action, programs-fail-alike, programs-states-tell, programs-step-alike, programs-threads-fail-alike}
 use Rattle.thread_cfg.proofs.KnownText.{known-of-text}
 use Rattle.thread_cfg.proofs.ProgramIs.{program-is}
 
@@ -37,9 +39,29 @@ texts-step-alike bytes tree program is =
     let k = known bytes tree program is in
     subst (SameSteps (plain_tree tree)) (sym is.program_is) (programs-step-alike (plain_tree tree) (plan_of tree) k.plan_is k.well_formed is.fits)
 
+is-program : (bytes : List ℕ) (tree : Tree) (program : Program) → IsProgramText bytes tree program → IsProgram (program_of (plain_tree tree))
+is-program bytes tree program is =
+    let k = known bytes tree program is in program-is (plain_tree tree) (plan_of tree) k.accepted k.plan_is k.well_formed k.words is.fits
+
 pub texts-fail-alike : TextsFailAlike
 texts-fail-alike bytes tree program is =
     let k = known bytes tree program is in
     subst (λ (p : Program). ProgramFails p ↔ TextFails (plain_tree tree)) (sym is.program_is)
-    (programs-fail-alike (plain_tree tree) (plan_of tree) k.plan_is k.well_formed is.fits
-    (program-is (plain_tree tree) (plan_of tree) k.accepted k.plan_is k.well_formed k.words is.fits))
+    (programs-fail-alike (plain_tree tree) (plan_of tree) k.plan_is k.well_formed is.fits (is-program bytes tree program is))
+
+pub threads-fail-alike : ThreadsFailAlike
+threads-fail-alike bytes tree program i is =
+    let k = known bytes tree program is in
+    subst (λ (p : Program). ThreadReachesFailure p i ↔ ThreadFails (plain_tree tree) i) (sym is.program_is)
+    (programs-threads-fail-alike (plain_tree tree) (plan_of tree) k.plan_is k.well_formed is.fits (is-program bytes tree program is) i)
+
+pub states-tell-interleavings : ReachedStatesTellInterleavings
+states-tell-interleavings bytes tree program is =
+    let k = known bytes tree program is in
+    subst (StatesTellConfigurations (plain_tree tree)) (sym is.program_is)
+    (programs-states-tell (plain_tree tree) (plan_of tree) k.plan_is k.well_formed is.fits (is-program bytes tree program is))
+
+pub edges-are-of-actions : EdgesAreOfActions
+edges-are-of-actions bytes tree program i e thread edge is at =
+    let k = known bytes tree program is in
+    edge-of-action (plain_tree tree) (plan_of tree) k.plan_is k.well_formed is.fits i e thread edge (subst (λ (p : Program). IsEdgeOf p i e thread edge) is.program_is at)

@@ -7,7 +7,8 @@ use Rattle.c_check.specs.Items.{Grain, Item, Items, Side, joined, branch, guard,
 use Rattle.thread_cfg.specs.declared.relation.Relation.{Relation}
 use Rattle.thread_cfg.specs.Source.{Frame, IsWay, IsItemWay, IsSideWay, WayEnd, compared, value, with_value}
 use Rattle.thread_cfg.specs.Path.{Event, Path, begun, ended, picked, test_paths, condition_paths, stmt_paths, paths, block_paths, when_true, when_false}
-use Rattle.thread_cfg.specs.Happen.{Happen, Holds, IsGone, SomeGone}
+use Rattle.thread_cfg.specs.inside.GonePaths.{IsGone, SomeGone}
+use Rattle.thread_cfg.specs.Happen.{Happen, Holds}
 use Rattle.thread_cfg.proofs.Comparisons.{SomeHolds, compared-exact}
 
 -- ---- paths that are gone

@@ -16,7 +16,8 @@ use Rattle.thread_cfg.specs.declared.relation.Relation.{Relation}
 use Rattle.thread_cfg.specs.Source.{Frame, column_of, lock_column}
 use Rattle.thread_cfg.specs.Path.{Event, Path, begun, block_paths, condition_paths, ended, paths, picked, stmt_paths, test_paths, when_false, when_true}
 use Rattle.thread_cfg.specs.Action.{Action, Alternative, Around, actions, assign_accesses, assign_reads, compare_accesses, compare_reads, condition_actions, condition_size, entry, exit_of, over_reads, path_alternative, read_actions, reads_before, requiring, simple, size, stmt_actions, stmt_size, test_actions, test_size, thread_actions}
-use Rattle.thread_cfg.specs.Within.{ActionWithin, ActionsWithin, EventWithin, EventsWithin, IsWithin, PathsWithin}
+use Rattle.thread_cfg.specs.inside.Within.{ActionWithin, ActionsWithin, PathsWithin}
+use Rattle.thread_cfg.specs.Within.{EventWithin, EventsWithin, IsWithin}
 
 -- There is room for a function that names only what these numbers count: of n columns the first are the variables and locks that all
 -- threads share, and from the frame's first there are those of its locals and of so many temporaries.

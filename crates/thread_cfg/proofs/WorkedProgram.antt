@@ -8,7 +8,9 @@ use Rattle.transition_formula.specs.Program.{Column, Edge, Form, Program}
 use Rattle.thr_base.specs.ColumnText.{own_text}
 use Rattle.thr_base.specs.Number.{number_text}
 use Rattle.thr_base.specs.Refusals.{coefficient}
-use Rattle.thread_cfg.specs.Graph.{location_places, program_of, refusals_of, threads_running}
+use Rattle.thread_cfg.specs.Threads.{threads_running}
+use Rattle.thread_cfg.specs.Graph.{program_of, refusals_of}
+use Rattle.thread_cfg.specs.Places.{location_places}
 use Rattle.thread_cfg.proofs.WorkedWords.{at_most, edge, equals, form, minus}
 
 -- ---- texts

@@ -10,7 +10,8 @@ use Rattle.c_check.specs.declared.operation.Mark.TheVariants as mark
 use Rattle.c_check.specs.Plan.{Arithmetic, Stmt, Stmts, Test}
 use Rattle.c_check.specs.Program.{Function}
 use Rattle.thread_cfg.specs.Action.{thread_actions}
-use Rattle.thread_cfg.specs.Graph.{Running, refusals_from, thread_refusals}
+use Rattle.thread_cfg.specs.Threads.{Running}
+use Rattle.thread_cfg.specs.Graph.{refusals_from, thread_refusals}
 use Rattle.thread_cfg.proofs.WorkedWords.{any, assert, assume, atomic, body, compare, edge, form, frame, if_else, l, not_zero, number, plus, repeated, set_l, set_x, table, when, x}
 
 abbrev refused : List Stmt → List Refusal

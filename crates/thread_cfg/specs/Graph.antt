@@ -1,6 +1,6 @@
 -- The program of a text: its columns, and for each thread that runs its locations and edges; and when there is none, because a limit is
 -- passed or a product or sum does not fit.
-use Rattle.std.specs.Prelude.{◌≡◌, ℕ, ◌+◌, ◌-◌, nat_lt, Bool, ◌||◌, if◌then◌else◌, List, [], ◌∷◌, ◌++◌, length, map, flat_map, Contains, slice_get, Option, Some, None, option_map, Result, Ok, Err}
+use Rattle.std.specs.Prelude.{◌≡◌, ℕ, ◌+◌, ◌-◌, nat_lt, Bool, ◌||◌, if◌then◌else◌, List, [], ◌∷◌, ◌++◌, length, map, flat_map, Contains, Option, Some, None, option_map, Result, Ok, Err}
 use Rattle.std.specs.List.{list_any}
 use Rattle.thr_base.specs.declared.stops.Refusal.{Refusal}
 use Rattle.thr_base.specs.declared.stops.Stop.{Stop}
@@ -8,38 +8,14 @@ use Rattle.thr_base.specs.Limits.{most_locations, most_paths, most_tests}
 use Rattle.thr_base.specs.Refusals.{IsFirst, MatchStop, coefficient, too_many}
 use Rattle.c_tree.specs.Plain as plain
 use Rattle.c_check.specs.declared.plan.Column as stored_column
-use Rattle.c_check.specs.declared.plan.Thread as stored_thread
-use Rattle.c_check.specs.Program.{Function, functions_of, globals_in}
-use Rattle.c_check.specs.Columns.{columns_of, threads_of}
+use Rattle.c_check.specs.Columns.{columns_of}
 use Rattle.transition_formula.specs.Program.{Column, Edge, Program, Thread}
 use Rattle.thread_cfg.specs.Source.{Frame}
+use Rattle.thread_cfg.specs.Threads.{Running, threads_running}
 use Rattle.thread_cfg.specs.Action.{Action, Alternative, exit_of, thread_actions}
 use Rattle.thread_cfg.specs.Edge.{alternative_edge}
 
--- ---- the threads that run
-
--- a thread, and the function that it runs
-pub record Running : Type 0 where
-  pub frame : Frame
-  pub function : Function
-
-abbrev pub running_if : Frame → Option Function → List Running
-running_if frame None = []
-running_if frame (Some f) = record { frame = frame; function = f } ∷ []
-
-abbrev pub running_from : ℕ → List Function → ℕ → List stored_thread.Thread → List Running
-running_from variables functions i [] = []
-running_from variables functions i (t ∷ ts) =
-    running_if (record { thread = i; first = t.first; variables = variables }) (slice_get functions t.function)
-    ++ running_from variables functions (i + 1) ts
-
--- how many variables all threads share
-abbrev pub variables_of : plain.Tree → ℕ
-variables_of tree = length (globals_in tree.items)
-
--- in the order of their creation
-abbrev pub threads_running : plain.Tree → List Running
-threads_running tree = running_from (variables_of tree) (functions_of tree) 1 (threads_of tree)
+-- ---- actions
 
 -- the actions of a thread: its temporaries stand behind the locals of its function
 abbrev pub actions_of : Running → List Action
@@ -119,9 +95,3 @@ program_of tree = record {
 -- When each answer comes: a program where there is nothing to refuse, or else the first refusal.
 abbrev pub IsBuildAnswer : plain.Tree → Result Program Stop → Type 0
 IsBuildAnswer tree answer = MatchStop answer (λ program. (refusals_of tree ≡ []) × (program ≡ program_of tree)) (IsFirst (Contains (refusals_of tree)))
-
--- ---- places
-
--- the place of the first token of each location's action, of all threads, from location 1 on
-abbrev pub location_places : Running → List ℕ
-location_places t = map (λ action. action.from) (actions_of t)

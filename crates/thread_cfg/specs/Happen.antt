@@ -1,5 +1,5 @@
 -- When events happen: from which values, with which inputs, and what they leave.
-use Rattle.std.specs.Prelude.{◌≡◌, ◌⊎◌, ℤ, pos, ◌+ℤ◌, ◌-ℤ◌, ◌≤ℤ◌, Bool, true, false, List, [], ◌∷◌}
+use Rattle.std.specs.Prelude.{◌≡◌, ℤ, pos, ◌+ℤ◌, ◌-ℤ◌, ◌≤ℤ◌, Bool, true, false, List, [], ◌∷◌}
 use Rattle.thread_cfg.specs.declared.relation.Relation.{Relation}
 use Rattle.thread_cfg.specs.declared.relation.Relation.TheVariants as related
 use Rattle.thread_cfg.specs.Source.{Frame, value, with_value, WayEnd}
@@ -29,14 +29,3 @@ end_of path = ends path.fails
     ends : Bool → WayEnd
     ends true = WayEnd.Fails
     ends false = WayEnd.Through
-
--- The path is gone with some inputs, to the values after, and ends so.
-pub record IsGone (frame : Frame) (values : List ℤ) (path : Path) (after : List ℤ) (end : WayEnd) : Type 0 where
-  pub inputs : List ℤ
-  pub happen : Happen frame values path.events inputs after
-  pub ends : end ≡ end_of path
-
--- One of the paths is gone.
-abbrev pub SomeGone : Frame → List ℤ → List Path → List ℤ → WayEnd → Type 0
-SomeGone frame values [] after end = ⊥
-SomeGone frame values (path ∷ paths) after end = IsGone frame values path after end ⊎ SomeGone frame values paths after end

@@ -1,14 +1,14 @@
 -- The interleavings of a text's threads, and when they fail: in the words of the source alone; and what the program says of them.
-use Rattle.std.specs.Prelude.{◌≡◌, ℕ, ◌-◌, ℤ, List, [], ◌∷◌, length, map, take, slice_set, Some}
+use Rattle.std.specs.Prelude.{◌≡◌, ℕ, ◌-◌, ℤ, pos, List, [], ◌∷◌, length, map, take, slice_get, slice_set, Some}
 use Rattle.c_tree.specs.Plain as plain
 use Rattle.c_check.specs.declared.plan.Column.{Column}
 use Rattle.c_check.specs.Check.{function_items}
 use Rattle.c_check.specs.Columns.{columns_of}
-use Rattle.transition_formula.specs.Program.{Program, numbered}
+use Rattle.transition_formula.specs.Program.{IsThreadOf, Program, Thread, numbered}
 use Rattle.transition_formula.specs.Step.{MayStart}
 use Rattle.transition_formula.specs.Run.{Fails, IsRun, Run}
 use Rattle.thread_cfg.specs.Source.{SourceSteps, Standing}
-use Rattle.thread_cfg.specs.Graph.{Running, threads_running}
+use Rattle.thread_cfg.specs.Threads.{Running, threads_running}
 
 -- the columns that have values, which are all but the counters
 abbrev pub value_columns : plain.Tree → List Column
@@ -64,3 +64,18 @@ pub record ProgramFails (program : Program) : Type 0 where
   pub last : List ℤ
   pub is_run : IsRun program run last
   pub fails : Fails program run
+
+-- Some interleaving of the text's threads makes the i-th one fail.
+pub record ThreadFails (tree : plain.Tree) (i : ℕ) : Type 0 where
+  pub configuration : Configuration
+  pub comes : ComesTo tree configuration
+  pub failed : numbered configuration.standings i ≡ Some Standing.Failed
+
+-- Some run of the program ends where its i-th thread is at location 0.
+pub record ThreadReachesFailure (program : Program) (i : ℕ) : Type 0 where
+  pub run : Run
+  pub last : List ℤ
+  pub is_run : IsRun program run last
+  pub thread : Thread
+  pub thread_is : IsThreadOf program i thread
+  pub fails : slice_get last thread.counter ≡ Some (pos 0)

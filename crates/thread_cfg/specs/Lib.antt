@@ -1,12 +1,15 @@
 pub mod Source
+pub mod Threads
 pub mod Path
 pub mod Happen
 pub mod Action
 pub mod Within
 pub mod Edge
 pub mod Graph
+pub mod Places
 pub mod SameSteps
 pub mod Interleaving
+pub mod Telling
 pub mod inside
 pub mod EdgeLaws
 pub mod Picks

@@ -2,12 +2,13 @@
 use Rattle.std.specs.Prelude.{◌≡◌, ◌↔◌, IsSome, ℕ, ◌-◌, ◌<◌, ℤ, pos, List, ◌++◌, length, map, slice_set, Option, Some}
 use Rattle.c_tree.specs.Plain as plain
 use Rattle.c_check.specs.Items.{Items}
+use Rattle.c_check.specs.Program.{created_of}
 use Rattle.c_check.specs.Check.{function_items}
 use Rattle.c_check.specs.Columns.{columns_of}
 use Rattle.transition_formula.specs.Program.{Edge, IsEdgeOf, IsThreadOf, Program, Thread, numbered}
 use Rattle.transition_formula.specs.Step.{Steps}
 use Rattle.thread_cfg.specs.Source.{Frame, SourceSteps, Standing, read_as}
-use Rattle.thread_cfg.specs.Graph.{Running, threads_running}
+use Rattle.thread_cfg.specs.Threads.{Running, threads_running}
 
 -- the standing with its first loop read as the branch that it is
 abbrev pub standing_as : Standing → Standing
@@ -70,10 +71,13 @@ pub record HasSameSteps (program : Program) (columns threads : ℕ) (frame : Fra
       → Steps thread edge (state_of values locations) inputs state
       → SourceStepsTo frame left locations from values state
 
--- The program has the same steps as the text: each thread that runs, as what its function has to do. The states of the program are
--- the values of all variables and locks, and behind them the locations of the threads.
+-- The program has the same steps as the text: one thread for each that `main` creates, which has its number, and steps as what its
+-- function has to do. The states of the program are the values of all variables and locks, and behind them the locations of the
+-- threads.
 pub record SameSteps (tree : plain.Tree) (program : Program) : Type 0 where
   pub columns_are : length program.columns ≡ length (columns_of tree)
   pub threads_are : length program.threads ≡ length (threads_running tree)
+  pub created : length program.threads ≡ length (created_of tree)
+  pub numbered_so : (i : ℕ) (t : Running) → numbered (threads_running tree) i ≡ Some t → t.frame.thread ≡ i
   pub steps_are : (i : ℕ) (t : Running) → numbered (threads_running tree) i ≡ Some t
       → HasSameSteps program (length (columns_of tree) - length (threads_running tree)) (length (threads_running tree)) t.frame (function_items t.function)

@@ -1,10 +1,9 @@
--- Expressions, events and actions that read and set only columns within so many.
+-- Expressions and events that read and set only columns within so many.
 use Rattle.std.specs.Prelude.{ℕ, ◌<◌, List}
 use Rattle.std.specs.List.{AllByRecursion}
 use Rattle.c_check.specs.Plan.{Arithmetic}
 use Rattle.thread_cfg.specs.Source.{Frame, column_of}
-use Rattle.thread_cfg.specs.Path.{Event, Path}
-use Rattle.thread_cfg.specs.Action.{Action}
+use Rattle.thread_cfg.specs.Path.{Event}
 
 -- The columns that the expression reads are within n.
 abbrev pub IsWithin : ℕ → Frame → Arithmetic → Type 0
@@ -22,12 +21,3 @@ EventWithin n frame (Event.SetsAny v) = column_of frame v < n
 
 abbrev pub EventsWithin : ℕ → Frame → List Event → Type 0
 EventsWithin n frame events = AllByRecursion (EventWithin n frame) events
-
-abbrev pub PathsWithin : ℕ → Frame → List Path → Type 0
-PathsWithin n frame paths = AllByRecursion (λ path. EventsWithin n frame path.events) paths
-
-abbrev pub ActionWithin : ℕ → Frame → Action → Type 0
-ActionWithin n frame action = AllByRecursion (λ a. EventsWithin n frame a.events) action.alternatives
-
-abbrev pub ActionsWithin : ℕ → Frame → List Action → Type 0
-ActionsWithin n frame actions = AllByRecursion (ActionWithin n frame) actions

@@ -15,3 +15,5 @@ pub mod Passing
 pub mod Adds
 pub mod Few
 pub mod Gone
+pub mod GonePaths
+pub mod Within

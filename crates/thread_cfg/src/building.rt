@@ -4,7 +4,8 @@ ghost use Rattle.std.specs.Prelude.{◌≡◌, ◌+◌, ◌<◌, ℕ, List, filt
 ghost use Rattle.c_tree.specs.Plain as plain;
 ghost use Rattle.c_tree.specs.declared.item.Tree.{Tree};
 ghost use Rattle.c_tree.specs.Seen.{plain_tree};
-ghost use Rattle.thread_cfg.specs.Graph.{IsBuildAnswer, threads_running};
+ghost use Rattle.thread_cfg.specs.Threads.{threads_running};
+ghost use Rattle.thread_cfg.specs.Graph.{IsBuildAnswer};
 ghost use Rattle.c_check.specs.Columns.{columns_of};
 ghost use Rattle.c_check.specs.WellFormed.{is_variable};
 ghost use Rattle.thread_cfg.specs.inside.Meant.{frame_of};

@@ -1,7 +1,7 @@
 //! What the graph says of its text: laws, and no code.
 
 ghost use Rattle.thread_cfg.specs.EdgeLaws.{EdgesHappen, NeverEdgesDoNotHappen};
-ghost use Rattle.thread_cfg.specs.Laws.{ProgramsStepAlike, TextsFailAlike};
+ghost use Rattle.thread_cfg.specs.Laws.{EdgesAreOfActions, ProgramsStepAlike, ReachedStatesTellInterleavings, TextsAreReadExactly, TextsFailAlike, ThreadsFailAlike};
 ghost use Rattle.thread_cfg.specs.PickEdges.{EdgelessPathsHaveNoWay, PathEdgesTellWays};
 ghost use Rattle.thread_cfg.specs.Picks.{PathsTellWays, PickedPathsAreThePaths, PicksDiffer, TakenArePicked, WaysTakePicks};
 
@@ -13,6 +13,26 @@ pub fn programs_step_alike()
 /// A run of the program of a text fails exactly where an interleaving of the text's threads makes one of them fail.
 pub fn texts_fail_alike()
     ensures { TextsFailAlike }
+{}
+
+/// A run of the program brings a thread to location 0 exactly where an interleaving makes that thread fail.
+pub fn threads_fail_alike()
+    ensures { ThreadsFailAlike }
+{}
+
+/// Each state that a run of the program comes to tells what an interleaving comes to, and the other way round.
+pub fn reached_states_tell_interleavings()
+    ensures { ReachedStatesTellInterleavings }
+{}
+
+/// A text has one program or one refusal, and never both. So what `read_program` answers is what the text has.
+pub fn texts_are_read_exactly()
+    ensures { TextsAreReadExactly }
+{}
+
+/// Each edge of the program is that of one way on from the action at its location, and within the bounds that the laws on edges ask for.
+pub fn edges_are_of_actions()
+    ensures { EdgesAreOfActions }
 {}
 
 /// A thread steps by an edge exactly where the events of its alternative happen.

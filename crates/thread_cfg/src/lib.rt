@@ -18,6 +18,7 @@ mod form;
 mod frame;
 mod going;
 mod laws;
+mod located;
 mod locking;
 mod marks;
 mod part;
@@ -39,6 +40,10 @@ mod thread;
 mod thread_tests;
 
 pub use building::build;
-pub use laws::{edges_happen, paths_tell_ways, programs_step_alike, texts_fail_alike};
+pub use laws::{
+    edges_are_of_actions, edges_happen, paths_tell_ways, programs_step_alike,
+    reached_states_tell_interleavings, texts_are_read_exactly, texts_fail_alike,
+    threads_fail_alike,
+};
+pub use located::location_places;
 pub use read::read_program;
-pub use thread::location_places;

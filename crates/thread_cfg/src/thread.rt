@@ -6,12 +6,11 @@ ghost use Rattle.c_check.specs.Program as program;
 ghost use Rattle.thread_cfg.specs.Graph as graph;
 ghost use Rattle.thread_cfg.specs.inside.Found.{IsFoundOf};
 ghost use Rattle.thread_cfg.specs.inside.Meant.{frame_of};
-ghost use Rattle.thread_cfg.specs.Within.{ActionsWithin};
+ghost use Rattle.thread_cfg.specs.inside.Within.{ActionsWithin};
 
 use crate::counter::count_locations;
 use crate::frame::Frame;
 use crate::pass::parts_of_code;
-use crate::places::places_of_code;
 use crate::running::Running;
 use c_check::Function;
 use std::alloc::{AllocError, Global};
@@ -64,11 +63,4 @@ pub(crate) fn find_edges(
     found.add_parts(alloc, &running, parts.as_slice())?;
     found.locations = exit + 1;
     Ok(found)
-}
-
-/// The place of the first token of the action at each location of a thread that runs the function, from location 1 on.
-pub fn location_places(alloc: Global, function: &Function) -> Result<Vec<u32>, AllocError>
-    ensures { (t : graph.Running) → function.now ≡ stored_function t.function → IfOk result (λ places. places.items ≡ graph.location_places t) }
-{
-    places_of_code(alloc, function.body.as_slice())
 }

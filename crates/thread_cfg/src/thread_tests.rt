@@ -1,17 +1,24 @@
+ghost use Rattle.std.specs.Prelude.{◌≤◌, length, IfOk};
+ghost use Rattle.thr_base.specs.Limits.{text_limit};
+ghost use Rattle.c_tree.specs.declared.item.Tree.{Tree};
+ghost use Rattle.thread_cfg.specs.Read.{IsPlanOfText};
+
 use crate::counter::count_locations;
 use crate::going::block_ways;
+use crate::located::{function_places, location_places};
 use crate::part::Part;
 use crate::pass::parts_of_code;
 use crate::paths::Ways;
-use crate::thread::location_places;
 use c_check::{
-    Assignment, Comparison, Condition, Function, Instruction, Mark, Operation, TestOperation,
-    Variable,
+    Assignment, Comparison, Condition, Function, Instruction, Mark, Operation, Plan, TestOperation,
+    Variable, check,
 };
+use c_lex::lex;
+use c_tree::parse_tokens;
 use sqlite_items::Items;
 use std::alloc::{AllocError, Global};
 use std::test::*;
-use thr_base::Loc;
+use thr_base::{Loc, Stop, TEXT_LIMIT, ThreadNo};
 
 fn value_of(alloc: Global, variable: usize) -> Result<Items<Operation>, AllocError> {
     Items::from_slice(alloc, &[Operation::Value(Variable::Shared(variable))])
@@ -109,8 +116,41 @@ fn places_of_a_loop(rt: HostRuntime) -> Result<(), Fail> {
         temporaries: 2,
         body: a_loop(rt.alloc())?,
     };
-    let places = location_places(rt.alloc(), &function)?;
+    let places = function_places(rt.alloc(), &function)?;
     assert_eq!(rt; places.as_slice(), [11, 12, 21, 22, 30, 30, 30].as_slice());
+    Ok(())
+}
+
+// The first thread's actions stand at the comparison, and twice at the assignment, which reads x first.
+const TWO_THREADS: &str =
+    "int x; void *f(void *a) { while (x < 1) x = x + 1; } void *g(void *a) { x = 2; } int main() { pthread_t t; pthread_create(&t, 0, f, 0); pthread_create(&t, 0, g, 0); return 0; }";
+
+fn plan_of(alloc: Global, text: &str) -> Result<Plan, Stop>
+    requires { length text.now ≤ text_limit }
+    ensures { IfOk result (λ plan. (tree : Tree) × IsPlanOfText text.now tree plan) }
+{
+    let tokens = lex(alloc, text)?;
+    let tree = parse_tokens(alloc, text, &tokens)?;
+    check(alloc, &tree)
+}
+
+#[test]
+fn places_of_two_threads(rt: HostRuntime) -> Result<(), Fail> {
+    let alloc = rt.alloc();
+    let text = TWO_THREADS;
+    if text.len() > TEXT_LIMIT as usize {
+        return Err("too long")?;
+    }
+    let Ok(plan) = plan_of(alloc, text) else {
+        return Err("refused")?;
+    };
+    if plan.threads.len() < 2 {
+        return Err("one thread")?;
+    }
+    let places = location_places(alloc, &plan, ThreadNo(1))?;
+    assert_eq!(rt; places.as_slice(), [33, 40, 40].as_slice());
+    let others = location_places(alloc, &plan, ThreadNo(2))?;
+    assert_eq!(rt; others.as_slice(), [72].as_slice());
     Ok(())
 }
 

@@ -19,7 +19,8 @@ use Rattle.thread_cfg.specs.Path.{Path}
 use Rattle.thread_cfg.specs.inside.Few.{WrittenPath, path_written}
 use Rattle.thread_cfg.specs.inside.Meant.{Means, frame_of}
 use Rattle.thread_cfg.specs.inside.Parts.{Part, Written, part_actions, parts_actions, parts_size, written}
-use Rattle.thread_cfg.specs.Within.{ActionsWithin, EventsWithin}
+use Rattle.thread_cfg.specs.inside.Within.{ActionsWithin}
+use Rattle.thread_cfg.specs.Within.{EventsWithin}
 
 -- The refusals are added, and where there are none the edges.
 pub record Adds (old new : Found) (refusals : List Refusal) (edges : List Edge) : Type 0 where

@@ -2,7 +2,7 @@
 use Rattle.std.proofs.Common.{◌≡◌, length, take, subst, ap, arith}
 use Rattle.std.proofs.lemmas.List.{take_all}
 use Rattle.c_check.specs.Columns.{columns_of}
-use Rattle.thread_cfg.specs.Graph.{threads_running}
+use Rattle.thread_cfg.specs.Threads.{threads_running}
 use Rattle.thread_cfg.specs.inside.Built.{AreFound}
 use Rattle.thread_cfg.proofs.RunningThreads.{threads-running}
 use Rattle.thread_cfg.proofs.building.find_graphs.Goals as goal

@@ -2,7 +2,7 @@
 use Rattle.std.proofs.Common.{◌≡◌, length, take}
 use Rattle.c_tree.specs.Plain as plain
 use Rattle.c_check.specs.Columns.{columns_of}
-use Rattle.thread_cfg.specs.Graph.{threads_running}
+use Rattle.thread_cfg.specs.Threads.{threads_running}
 use Rattle.thread_cfg.specs.inside.Built.{AreFound}
 use Rattle.thread_cfg.specs.inside.Known.{IsKnownPlan}
 use Rattle.thread_cfg.proofs.building.find_graphs.Given as goal

@@ -3,10 +3,11 @@ use Rattle.std.proofs.Common.{◌≡◌, ◌-◌, ◌+◌, length, sym, ap, subs
 use Rattle.c_check.specs.Check.{stored_function}
 use Rattle.c_check.specs.Columns.{columns_of}
 use Rattle.transition_formula.specs.declared.graph.ThreadGraph.{ThreadGraph}
-use Rattle.thread_cfg.specs.Graph.{actions_of, threads_running}
+use Rattle.thread_cfg.specs.Threads.{threads_running}
+use Rattle.thread_cfg.specs.Graph.{actions_of}
 use Rattle.thread_cfg.specs.inside.Found.{IsFoundOf}
 use Rattle.thread_cfg.specs.inside.Meant.{frame_of}
-use Rattle.thread_cfg.specs.Within.{ActionsWithin}
+use Rattle.thread_cfg.specs.inside.Within.{ActionsWithin}
 use Rattle.thread_cfg.proofs.FoundMore.{found-more}
 use Rattle.thread_cfg.proofs.Steps.{index-get, step-is}
 use Rattle.thread_cfg.proofs.building.push_graph.Goals as goal

@@ -1,7 +1,7 @@
 use Rattle.std.proofs.Common.{◌≡◌, ℕ, List, IfOk, ap, subst, ◌∙◌}
 use Rattle.thread_cfg.specs.inside.Sizes.{places_from}
 use Rattle.thread_cfg.proofs.PlaceLemmas.{places-code}
-use Rattle.thread_cfg.proofs.thread.location_places.Goals as goal
+use Rattle.thread_cfg.proofs.located.function_places.Goals as goal
 
 pub returns : goal.returns
 returns c t is =
