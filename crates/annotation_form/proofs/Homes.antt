@@ -1,5 +1,5 @@
 -- The numbers of a program's homes are ones that the code holds.
-use Rattle.std.proofs.Common.{ℕ, zero, suc, ◌<◌, ◌≤◌, ◌^◌, length, arith}
+use Rattle.std.proofs.Common.{ℕ, zero, suc, ◌<◌, ◌^◌, length, arith}
 use Rattle.std.proofs.lemmas.Option.{slice_get_within}
 use Rattle.std.proofs.lemmas.List.FromFn.{length-map-range_with_len}
 use Rattle.transition_formula.specs.Program.{Program, Thread, IsThreadOf, IsProgram}

@@ -8,3 +8,5 @@ pub mod RoomLemmas
 pub mod LineTexts
 pub mod ReadLines
 pub mod TextsTold
+pub mod Passing
+pub mod Places

@@ -1,5 +1,5 @@
 -- The lines of predicates: what is read of them, and that they are lines.
-use Rattle.std.proofs.Common.{◌≡◌, ◌≢◌, ◌==◌, ◌&&◌, ℕ, suc, ◌+◌, ◌<◌, ◌^◌, ℤ, pos, negsuc, unsigned_abs, Bool, true, false, List, [], ◌∷◌, ◌++◌, length, map, get_or, codes, Some, None, refl, sym, ap, ap₂, subst, ◌∙◌, arith}
+use Rattle.std.proofs.Common.{◌≡◌, ◌≢◌, ℕ, suc, ◌+◌, ◌<◌, ◌^◌, ℤ, pos, negsuc, List, [], ◌∷◌, ◌++◌, length, get_or, codes, Some, None, refl, sym, ap, ap₂, subst, ◌∙◌, arith}
 use Rattle.std.specs.Prelude.{if◌then◌else◌}
 use Rattle.std.specs.List.{AllByRecursion}
 use Rattle.std.specs.Char.{IsAsciiDigit}
@@ -7,10 +7,10 @@ use Rattle.thr_base.specs.Number.{Fits, number_text}
 use Rattle.thr_base.proofs.Numbers.{IsTextOf-number_text}
 use Rattle.lin_rows.specs.Row.{Row}
 use Rattle.lin_rows.proofs.Lists.{AllByRecursion-append, AllByRecursion-map, AllByRecursion-weaken}
-use Rattle.transition_formula.specs.Program.{Program, Column, IsColumn, IsProgram}
+use Rattle.transition_formula.specs.Program.{Program, Column, IsProgram}
 use Rattle.transition_formula.specs.TextLaws.{IsPrintable}
 use Rattle.transition_formula.proofs.PrintableTexts.{atoms-printable}
-use Rattle.transition_formula.specs.AtomText.{column_texts, atom_text, terms_text, term_text, joint, factor, IsAtomText}
+use Rattle.transition_formula.specs.AtomText.{atom_text, IsAtomText}
 use Rattle.horn_rules.specs.Home.{Home, State, Env, home_width}
 use Rattle.horn_rules.specs.HomeText.{home_text}
 use Rattle.annotation_form.specs.Lines.{IsLine}

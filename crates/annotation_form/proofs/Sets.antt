@@ -4,6 +4,7 @@ use Rattle.std.specs.Prelude.{if◌then◌else◌, option_map}
 use Rattle.std.specs.List.{slice_get}
 use Rattle.std.proofs.lemmas.Bool.Decides.{eqb_tells}
 use Rattle.std.proofs.lemmas.Option.{slice_get-map, get_or_from_slice_get}
+use Rattle.thr_base.specs.Limits.{most_predicates}
 use Rattle.lin_rows.specs.Row.{Row}
 use Rattle.lin_rows.proofs.Lists.{AllByRecursion-append, AllByRecursion-rest}
 use Rattle.transition_formula.specs.Program.{Program, numbered}
@@ -14,7 +15,7 @@ use Rattle.horn_rules.proofs.StoredSets.{one-number}
 use Rattle.predicate_sets.specs.HomeSet.{AreDistinct, Lacks}
 use Rattle.predicate_sets.proofs.Atoms.{AreDistinct-append}
 use Rattle.predicate_sets.specs.Sets.{set_at, with_set}
-use Rattle.annotation_form.specs.Predicates.{Predicate, IsPredicateOf, AreAllowed, home_atoms, most_atoms_read, lists_of}
+use Rattle.annotation_form.specs.Predicates.{Predicate, IsPredicateOf, AreAllowed, home_atoms, lists_of}
 use Rattle.annotation_form.specs.inside.Reading.{HasRoom}
 
 -- ---- the atoms at a home
@@ -135,8 +136,8 @@ allowed-more program before p allowed is has = record {
     set-here : (home : Home) → home ≡ p.home → IsSetOf program home (home_atoms home before ++ p.atom ∷ [])
     set-here home e = subst (λ h. IsSetOf program h (home_atoms h before ++ p.atom ∷ [])) (sym e) (set-more program p.home (home_atoms p.home before) p.atom (allowed.are_sets p.home) is.is_atom has.lacks)
 
-    few-here : (home : Home) → home ≡ p.home → length (home_atoms home before) < most_atoms_read
-    few-here home e = subst (λ h. length (home_atoms h before) < most_atoms_read) (sym e) has.room
+    few-here : (home : Home) → home ≡ p.home → length (home_atoms home before) < most_predicates
+    few-here home e = subst (λ h. length (home_atoms h before) < most_predicates) (sym e) has.room
 
 lacks-from : (xs : List Row) (a : Row) (ys : List Row) → AreDistinct (xs ++ a ∷ ys) → Lacks xs a
 lacks-from [] a ys h = tt

@@ -1,5 +1,5 @@
 -- A text is that of one list of predicates at most.
-use Rattle.std.proofs.Common.{◌≡◌, List, [], ◌∷◌, ◌++◌, codes, Some, refl, sym, ap, ap₂, ◌∙◌}
+use Rattle.std.proofs.Common.{◌≡◌, List, [], ◌∷◌, codes, Some, refl, sym, ap, ap₂, ◌∙◌}
 use Rattle.std.specs.List.{AllByRecursion}
 use Rattle.std.proofs.lemmas.List.{append_cancel_right}
 use Rattle.transition_formula.specs.Program.{Program, IsProgram}

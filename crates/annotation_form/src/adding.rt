@@ -2,7 +2,8 @@ ghost use Rattle.std.specs.Prelude.{◌≡◌, List, length, IfNone, IfOk, IfSom
 ghost use Rattle.transition_formula.specs.Program.{IsProgram};
 ghost use Rattle.horn_rules.specs.Home.{homes, IsHomeOf};
 ghost use Rattle.horn_rules.specs.Stored.{home_of};
-ghost use Rattle.annotation_form.specs.Predicates.{Predicate, lists_of};
+ghost use Rattle.horn_rules.specs.Predicate.{Predicate};
+ghost use Rattle.annotation_form.specs.Predicates.{lists_of};
 ghost use Rattle.annotation_form.specs.inside.Reading.{IsAdded, IsLineOf, IsTakenAs};
 
 use crate::head::{is_at_edge, read_head};
@@ -13,9 +14,6 @@ use std::alloc::{AllocError, Global};
 use thr_base::Home;
 use transition_formula::{Program, read_atom};
 
-/// How many atoms a text may have at a home.
-const MOST_ATOMS_READ: usize = 2;
-
 /// Appends an atom to a home's list, unless it is there already or the list is full.
 fn add(program: &Program, sets: &mut Sets, home: Home, atom: Atom) -> Result<bool, AllocError>
     requires home { IsHomeOf program.now (home_of home) }
@@ -24,10 +22,6 @@ fn add(program: &Program, sets: &mut Sets, home: Home, atom: Atom) -> Result<boo
     ensures length { length sets.new ≡ length sets.old }
 {
     let number = number(program, home);
-    let set = sets.at(number)?;
-    if set.atoms().len() >= MOST_ATOMS_READ {
-        return Ok(false);
-    }
     match sets.add(number, atom) {
         Ok(Added::New(_)) => Ok(true),
         Ok(Added::Known(_)) => Ok(false),

@@ -1,6 +1,7 @@
+ghost use Rattle.annotation_form.specs.Passes.{PassingAnnotationsAreSafe, PassingAnnotationsCover};
 ghost use Rattle.annotation_form.specs.Laws.{OneLineIsBad, TextsHaveNoBadLine, TextsTellPredicates};
 
-use transition_formula::atom_texts_tell_atoms;
+use transition_formula::{atom_texts_tell_atoms, runs_end_in_reached_states};
 
 /// A text is that of one list of predicates at most: a law, and no code.
 pub fn texts_tell_predicates()
@@ -14,3 +15,15 @@ pub fn one_line_is_bad_at_most()
     ensures one { OneLineIsBad }
     ensures none { TextsHaveNoBadLine }
 {}
+
+/// Where an annotation passes, its facts describe every state that a run comes to, at each thread: a law, and no code.
+pub fn passing_annotations_cover()
+    ensures { PassingAnnotationsCover }
+{}
+
+/// Then no run of the program fails: a law, and no code.
+pub fn passing_annotations_are_safe()
+    ensures { PassingAnnotationsAreSafe }
+{
+    runs_end_in_reached_states();
+}

@@ -3,12 +3,18 @@
 #![tactic(auto)]
 
 mod adding;
+mod annotation;
+mod certificates;
 mod head;
 mod laws;
 mod line;
 mod predicates;
 
-pub use laws::{one_line_is_bad_at_most, texts_tell_predicates};
+pub use annotation::{Annotation, Group};
+pub use laws::{
+    one_line_is_bad_at_most, passing_annotations_are_safe, passing_annotations_cover,
+    texts_tell_predicates,
+};
 pub use predicates::read_predicates;
 
 #[cfg(test)]

@@ -1,7 +1,8 @@
 ghost use Rattle.std.specs.Prelude.{◌≡◌, ◌≤◌, List, length, IfOk};
 ghost use Rattle.thr_base.specs.Limits.{text_limit};
 ghost use Rattle.thr_base.specs.Refusals.{MatchLineStop};
-ghost use Rattle.annotation_form.specs.Predicates.{Predicate, IsPredicatesText, IsReadAs, IsTextOfPredicates, lists_of};
+ghost use Rattle.horn_rules.specs.Predicate.{Predicate};
+ghost use Rattle.annotation_form.specs.Predicates.{IsPredicatesText, IsReadAs, IsTextOfPredicates, lists_of};
 ghost use Rattle.annotation_form.specs.BadLine.{IsBadLine};
 ghost use Rattle.annotation_form.specs.inside.Reading.{IsLinesAnswer, IsReadOnly};
 

@@ -8,7 +8,7 @@ use horn_rules::two_bare_threads;
 use predicate_sets::Sets;
 use std::alloc::{AllocError, Global};
 use std::test::Fail;
-use thr_base::{HomeNo, LineStop};
+use thr_base::{HomeNo, LineStop, push_number};
 use transition_formula::Program;
 
 /// What a text of the program is read as; it has 10 homes.
@@ -70,7 +70,7 @@ end
 
 /// The bad line of a text, if it has one.
 fn bad_line(alloc: Global, program: &Program, text: &[u8]) -> Option<u32> {
-    if text.len() > 1_000 {
+    if text.len() > 10_000 {
         return None;
     }
     match read_predicates(alloc, program, text) {
@@ -155,17 +155,39 @@ fn texts_that_end_badly(rt: HostRuntime) -> Result<(), Fail> {
     Ok(())
 }
 
+/// So many atoms at a home, and one at another behind them.
+fn many(alloc: Global, atoms: u32) -> Result<Vec<u8>, AllocError> {
+    let mut text = Vec::new(alloc);
+    for bound in 0..atoms {
+        text.extend_from_slice(b"s 1 1 : t1.$pc <= ")?;
+        push_number(&mut text, bound as i128)?;
+        text.extend_from_slice(b"\n")?;
+    }
+    text.extend_from_slice(b"s 1 2 : t1.$pc <= 0\nend\n")?;
+    Ok(text)
+}
+
+/// How many atoms a text has at the second home.
+fn count_read(alloc: Global, program: &Program, text: &[u8]) -> Option<usize>
+    requires { program.now ≡ worked_program }
+{
+    if text.len() > 10_000 {
+        return None;
+    }
+    match read(alloc, program, text) {
+        Ok(sets) => count(&sets, 2),
+        Err(_) => None,
+    }
+}
+
 #[test]
-fn a_third_atom_at_a_home_is_bad(rt: HostRuntime) -> Result<(), Fail> {
+fn a_home_has_at_most_128_atoms(rt: HostRuntime) -> Result<(), Fail> {
     let alloc = rt.alloc();
     let program = two_bare_threads(alloc)?;
-    let text = b"s 1 1 : t1.$pc <= 3
-s 1 1 : t1.$pc <= 4
-s 1 2 : t1.$pc <= 5
-s 1 1 : t1.$pc <= 5
-end
-";
-    assert_eq!(rt; bad_line(alloc, &program, text), Some(4));
+    let most = many(alloc, 128)?;
+    assert_eq!(rt; count_read(alloc, &program, most.as_slice()), Some(128));
+    let more = many(alloc, 129)?;
+    assert_eq!(rt; bad_line(alloc, &program, more.as_slice()), Some(129));
     Ok(())
 }
 

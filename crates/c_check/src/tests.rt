@@ -1,8 +1,11 @@
 ghost use Rattle.std.specs.Prelude.{◌≤◌, length};
 ghost use Rattle.thr_base.specs.Limits.{text_limit};
 
+mod plan_lines;
+
 use super::*;
 use c_tree::parse;
+use plan_lines::lines_of;
 use std::alloc::Global;
 use std::test::*;
 use thr_base::{Stop, TEXT_LIMIT};
@@ -99,6 +102,85 @@ const TEXTS: &str = "\
 6 30 int x; void *f(void *a) { x = y * x; } int main() { pthread_t t; pthread_create(&t, 0, f, 0); return 0; }\n\
 8 32 int x; void *f(void *a) { x = x * y; } int main() { pthread_t t; pthread_create(&t, 0, f, 0); return 0; }";
 
+// A program with most of what a plan may hold.
+const PROGRAM: &str = "\
+int x = -5, y;\n\
+pthread_mutex_t m;\n\
+void *f(void *a) {\n\
+int k = 2;\n\
+pthread_mutex_lock(&m);\n\
+x = x + y * 2;\n\
+pthread_mutex_unlock(&m);\n\
+while (!(x < 1 && k != y) || k) { int k; k++; break; }\n\
+assert(x == k);\n\
+}\n\
+void *g(void *a) {\n\
+for (int i = 0; i < 3; i += 2) {\n\
+__VERIFIER_atomic_begin();\n\
+if (__VERIFIER_nondet_int()) x = -x; else y = __VERIFIER_nondet_int();\n\
+__VERIFIER_atomic_end();\n\
+}\n\
+__VERIFIER_assume(y);\n\
+pthread_exit(0);\n\
+}\n\
+int z;\n\
+int main() {\n\
+pthread_t t;\n\
+pthread_create(&t, 0, f, 0);\n\
+pthread_create(&t, 0, g, 0);\n\
+pthread_create(&t, 0, f, 0);\n\
+}\n\
+";
+
+// Its plan, worked out by hand.
+const PLAN: &str = "\
+Variable x None Some(-5)\n\
+Variable y None Some(0)\n\
+Variable z None Some(0)\n\
+Lock m None Some(0)\n\
+Local t1.k Some(ThreadNo(1)) None\n\
+Local t1.k#2 Some(ThreadNo(1)) None\n\
+Temporary t1.$1 Some(ThreadNo(1)) None\n\
+Temporary t1.$2 Some(ThreadNo(1)) None\n\
+Local t2.i Some(ThreadNo(2)) None\n\
+Local t3.k Some(ThreadNo(3)) None\n\
+Local t3.k#2 Some(ThreadNo(3)) None\n\
+Temporary t3.$1 Some(ThreadNo(3)) None\n\
+Temporary t3.$2 Some(ThreadNo(3)) None\n\
+Counter t1.$pc Some(ThreadNo(1)) Some(1)\n\
+Counter t2.$pc Some(ThreadNo(2)) Some(1)\n\
+Counter t3.$pc Some(ThreadNo(3)) Some(1)\n\
+thread 0 4\n\
+thread 1 8\n\
+thread 0 9\n\
+40 function 2 2\n\
+57 Assign Own(0) 61 Number(2)\n\
+64 Lock 0\n\
+88 Assign Shared(0) 92 Value(Shared(0)) Value(Shared(1)) Number(2) Multiply Add\n\
+103 Unlock 0\n\
+129 Loop 136 (138 Less: Value(Shared(0)), Number(1)) (147 Unequal: Value(Own(0)), Value(Shared(1))) And Not (158 Unequal: Value(Own(0)), Number(0)) Or\n\
+170 Assign Own(1) 170 Value(Own(1)) Number(1) Add\n\
+175 Break\n\
+Last\n\
+EndLoop\n\
+184 Assert (191 Equal: Value(Shared(0)), Value(Own(0)))\n\
+208 function 1 0\n\
+230 Assign Own(0) 234 Number(0)\n\
+221 Loop 237 (237 Less: Value(Own(0)), Number(3))\n\
+254 Atomic\n\
+281 If 285 Choice\n\
+310 Assign Shared(0) 314 Value(Shared(0)) Negate\n\
+Else\n\
+323 AssignAny Shared(1)\n\
+EndIf\n\
+EndAtomic\n\
+Last\n\
+244 Assign Own(0) 244 Value(Own(0)) Number(2) Add\n\
+EndLoop\n\
+379 Assume (397 Unequal: Value(Shared(1)), Number(0))\n\
+401 Exit\n\
+";
+
 fn plan_of(alloc: Global, text: &str) -> Result<Plan, Stop>
     requires { length text.now ≤ text_limit }
 {
@@ -133,31 +215,9 @@ fn refusals(rt: HostRuntime) -> Result<(), Fail> {
 }
 
 #[test]
-fn columns(rt: HostRuntime) -> Result<(), Fail> {
-    let text =
-        "int x = -5; pthread_mutex_t m; void *f(void *a) { int l; { int l; } x = x + x + 1; } int y; int main() { pthread_t t; pthread_create(&t, 0, f, 0); pthread_create(&t, 0, f, 0); }";
-    assert!(rt; text.len() <= TEXT_LIMIT as usize);
-    let plan = plan_of(rt.alloc(), text)?;
-    let mut names = Vec::new(rt.alloc());
-    for column in plan.columns.as_slice() {
-        names.extend_from_slice(column.text.as_slice())?;
-        names.push(b' ')?;
-    }
-    let all = b"x y m t1.l t1.l#2 t1.$1 t1.$2 t2.l t2.l#2 t2.$1 t2.$2 t1.$pc t2.$pc ";
-    assert_eq!(rt; names.as_slice(), all.as_slice());
-    assert_eq!(rt;
-        plan.threads.as_slice(),
-        [
-            Thread {
-                function: 0,
-                first: 3
-            },
-            Thread {
-                function: 0,
-                first: 7
-            }
-        ]
-        .as_slice()
-    );
+fn plans(rt: HostRuntime) -> Result<(), Fail> {
+    assert!(rt; PROGRAM.len() <= TEXT_LIMIT as usize);
+    let plan = plan_of(rt.alloc(), PROGRAM)?;
+    assert_eq!(rt; lines_of(rt.alloc(), &plan)?.as_str(), PLAN);
     Ok(())
 }

@@ -12,6 +12,7 @@ use crate::item::{
     Body, Errfn, Globals, Gname, Item, Locks, Mainfn, Mname, Proto, Start, Threadfn, Typed, Untyped,
 };
 use crate::lists::{comma_mark, handles, itype, quals};
+use crate::more::more_of;
 use crate::operand::{name, number};
 use crate::skips::skip_through;
 use crate::statements::Statements;
@@ -64,12 +65,7 @@ fn gname(alloc: Global, tokens: &mut Tokens<'_, '_>) -> Result<Gname, Stop>
 fn more_gnames(alloc: Global, tokens: &mut Tokens<'_, '_>) -> Result<Items<(u32, Gname)>, Stop>
     ensures { Reads (more_of simple_spec.comma_mark spec.gname tokens.old) result tokens.new }
 {
-    let mut more = Items::new(alloc);
-    while let Some(mark) = comma_mark(tokens) {
-        let operand = gname(alloc, tokens)?;
-        more.push((mark, operand))?;
-    }
-    Ok(more)
+    more_of!(alloc, comma_mark(tokens), gname(alloc, tokens))
 }
 
 #[tactic(auto, unfolding(crate::specs::inside::Item::globals))]
@@ -99,12 +95,7 @@ fn mname(alloc: Global, tokens: &mut Tokens<'_, '_>) -> Result<Mname, Stop>
 fn more_mnames(alloc: Global, tokens: &mut Tokens<'_, '_>) -> Result<Items<(u32, Mname)>, Stop>
     ensures { Reads (more_of simple_spec.comma_mark spec.mname tokens.old) result tokens.new }
 {
-    let mut more = Items::new(alloc);
-    while let Some(mark) = comma_mark(tokens) {
-        let operand = mname(alloc, tokens)?;
-        more.push((mark, operand))?;
-    }
-    Ok(more)
+    more_of!(alloc, comma_mark(tokens), mname(alloc, tokens))
 }
 
 #[tactic(auto, unfolding(crate::specs::inside::Item::locks))]

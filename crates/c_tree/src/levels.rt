@@ -10,6 +10,7 @@ use crate::expr::{
     Conjunction, Equality, EqualityKind, EqualityMark, Expr, Product, Relation, RelationKind,
     RelationMark, Sum, SumKind, SumMark, Unary, UnaryKind,
 };
+use crate::more::more_of;
 use crate::operand::{name_operand, number_operand};
 use crate::term::Term;
 use crate::tokens::Tokens;
@@ -108,12 +109,7 @@ impl<F: Fn(Global, &mut Tokens<'_, '_>, u32) -> Result<Unary, Stop>> Levels<F> {
         requires { Nests self.now.levels (F.pre self.now.unary) (F.post self.now.unary) }
         ensures { Reads (more_of spec.product_mark (spec.unary self.now.levels) tokens.old) result tokens.new }
     {
-        let mut more = Items::new(self.alloc);
-        while let Some(mark) = product_mark(tokens) {
-            let operand = self.unary(tokens)?;
-            more.push((mark, operand))?;
-        }
-        Ok(more)
+        more_of!(self.alloc, product_mark(tokens), self.unary(tokens))
     }
 
     #[tactic(auto, unfolding(crate::specs::inside::Expr::product))]
@@ -131,12 +127,7 @@ impl<F: Fn(Global, &mut Tokens<'_, '_>, u32) -> Result<Unary, Stop>> Levels<F> {
         requires { Nests self.now.levels (F.pre self.now.unary) (F.post self.now.unary) }
         ensures { Reads (more_of spec.sum_mark (spec.product (spec.unary self.now.levels)) tokens.old) result tokens.new }
     {
-        let mut more = Items::new(self.alloc);
-        while let Some(mark) = sum_mark(tokens) {
-            let operand = self.product(tokens)?;
-            more.push((mark, operand))?;
-        }
-        Ok(more)
+        more_of!(self.alloc, sum_mark(tokens), self.product(tokens))
     }
 
     #[tactic(auto, unfolding(crate::specs::inside::Expr::sum))]
@@ -157,12 +148,7 @@ impl<F: Fn(Global, &mut Tokens<'_, '_>, u32) -> Result<Unary, Stop>> Levels<F> {
         requires { Nests self.now.levels (F.pre self.now.unary) (F.post self.now.unary) }
         ensures { Reads (more_of spec.relation_mark (spec.sum (spec.unary self.now.levels)) tokens.old) result tokens.new }
     {
-        let mut more = Items::new(self.alloc);
-        while let Some(mark) = relation_mark(tokens) {
-            let operand = self.sum(tokens)?;
-            more.push((mark, operand))?;
-        }
-        Ok(more)
+        more_of!(self.alloc, relation_mark(tokens), self.sum(tokens))
     }
 
     #[tactic(auto, unfolding(crate::specs::inside::Expr::relation))]
@@ -183,12 +169,7 @@ impl<F: Fn(Global, &mut Tokens<'_, '_>, u32) -> Result<Unary, Stop>> Levels<F> {
         requires { Nests self.now.levels (F.pre self.now.unary) (F.post self.now.unary) }
         ensures { Reads (more_of spec.equality_mark (spec.relation (spec.unary self.now.levels)) tokens.old) result tokens.new }
     {
-        let mut more = Items::new(self.alloc);
-        while let Some(mark) = equality_mark(tokens) {
-            let operand = self.relation(tokens)?;
-            more.push((mark, operand))?;
-        }
-        Ok(more)
+        more_of!(self.alloc, equality_mark(tokens), self.relation(tokens))
     }
 
     #[tactic(auto, unfolding(crate::specs::inside::Expr::equality))]
@@ -206,12 +187,7 @@ impl<F: Fn(Global, &mut Tokens<'_, '_>, u32) -> Result<Unary, Stop>> Levels<F> {
         requires { Nests self.now.levels (F.pre self.now.unary) (F.post self.now.unary) }
         ensures { Reads (more_of spec.and_mark (spec.equality (spec.unary self.now.levels)) tokens.old) result tokens.new }
     {
-        let mut more = Items::new(self.alloc);
-        while let Some(mark) = and_mark(tokens) {
-            let operand = self.equality(tokens)?;
-            more.push((mark, operand))?;
-        }
-        Ok(more)
+        more_of!(self.alloc, and_mark(tokens), self.equality(tokens))
     }
 
     #[tactic(auto, unfolding(crate::specs::inside::Expr::conjunction))]
@@ -229,12 +205,7 @@ impl<F: Fn(Global, &mut Tokens<'_, '_>, u32) -> Result<Unary, Stop>> Levels<F> {
         requires { Nests self.now.levels (F.pre self.now.unary) (F.post self.now.unary) }
         ensures { Reads (more_of spec.or_mark (spec.conjunction (spec.unary self.now.levels)) tokens.old) result tokens.new }
     {
-        let mut more = Items::new(self.alloc);
-        while let Some(mark) = or_mark(tokens) {
-            let operand = self.conjunction(tokens)?;
-            more.push((mark, operand))?;
-        }
-        Ok(more)
+        more_of!(self.alloc, or_mark(tokens), self.conjunction(tokens))
     }
 
     #[tactic(auto, unfolding(crate::specs::inside::Expr::expr_over))]

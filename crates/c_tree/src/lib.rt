@@ -9,6 +9,7 @@ mod laws;
 mod levels;
 mod lists;
 mod magnitude;
+mod more;
 mod operand;
 mod parts;
 mod reader;

@@ -7,6 +7,7 @@ ghost use Rattle.c_tree.specs.inside.Simple as spec;
 ghost use Rattle.c_tree.specs.inside.Input.{Reads};
 
 use crate::expr::Name;
+use crate::more::more_of;
 use crate::operand::name;
 use crate::parts::lname;
 use crate::simple::{Handles, Itype, Lname, Local, Qual, QualKind};
@@ -75,23 +76,13 @@ fn more_lnames(
 ) -> Result<Items<(u32, Lname)>, Stop>
     ensures { Reads (more_of spec.comma_mark (spec.lname levels) tokens.old) result tokens.new }
 {
-    let mut more = Items::new(alloc);
-    while let Some(mark) = comma_mark(tokens) {
-        let operand = lname(alloc, tokens, levels)?;
-        more.push((mark, operand))?;
-    }
-    Ok(more)
+    more_of!(alloc, comma_mark(tokens), lname(alloc, tokens, levels))
 }
 
 pub fn more_names(alloc: Global, tokens: &mut Tokens<'_, '_>) -> Result<Items<(u32, Name)>, Stop>
     ensures { Reads (more_of spec.comma_mark expr_spec.name tokens.old) result tokens.new }
 {
-    let mut more = Items::new(alloc);
-    while let Some(mark) = comma_mark(tokens) {
-        let operand = name(alloc, tokens)?;
-        more.push((mark, operand))?;
-    }
-    Ok(more)
+    more_of!(alloc, comma_mark(tokens), name(alloc, tokens))
 }
 
 #[tactic(auto, unfolding(crate::specs::inside::Simple::local))]

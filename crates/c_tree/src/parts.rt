@@ -226,14 +226,8 @@ pub fn call(alloc: Global, tokens: &mut Tokens<'_, '_>, levels: u32) -> Result<C
     ensures { Reads (spec.call levels tokens.old) result tokens.new }
 {
     match tokens.peek() {
-        Term::Assert => {
-            let from = tokens.take();
-            Ok(Call::Assert(from, argument(alloc, tokens, levels)?))
-        }
-        Term::Assume => {
-            let from = tokens.take();
-            Ok(Call::Assume(from, argument(alloc, tokens, levels)?))
-        }
+        Term::Assert => Ok(Call::Assert(tokens.take(), argument(alloc, tokens, levels)?)),
+        Term::Assume => Ok(Call::Assume(tokens.take(), argument(alloc, tokens, levels)?)),
         Term::ReachError => {
             let from = tokens.take();
             empty_parens(tokens)?;
@@ -244,22 +238,10 @@ pub fn call(alloc: Global, tokens: &mut Tokens<'_, '_>, levels: u32) -> Result<C
             empty_parens(tokens)?;
             Ok(Call::Abort(from))
         }
-        Term::Exit => {
-            let from = tokens.take();
-            Ok(Call::Exit(from, exit_argument(tokens)?))
-        }
-        Term::MutexLock => {
-            let from = tokens.take();
-            Ok(Call::Lock(from, lock_argument(alloc, tokens)?))
-        }
-        Term::MutexUnlock => {
-            let from = tokens.take();
-            Ok(Call::Unlock(from, lock_argument(alloc, tokens)?))
-        }
-        Term::MutexDestroy => {
-            let from = tokens.take();
-            Ok(Call::Destroy(from, lock_argument(alloc, tokens)?))
-        }
+        Term::Exit => Ok(Call::Exit(tokens.take(), exit_argument(tokens)?)),
+        Term::MutexLock => Ok(Call::Lock(tokens.take(), lock_argument(alloc, tokens)?)),
+        Term::MutexUnlock => Ok(Call::Unlock(tokens.take(), lock_argument(alloc, tokens)?)),
+        Term::MutexDestroy => Ok(Call::Destroy(tokens.take(), lock_argument(alloc, tokens)?)),
         Term::MutexInit => {
             let from = tokens.take();
             init(alloc, tokens, from)

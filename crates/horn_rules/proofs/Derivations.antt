@@ -14,7 +14,7 @@ use Rattle.horn_rules.specs.Case.{Case, IsCaseOf}
 use Rattle.horn_rules.specs.Post.{IsFactOf}
 use Rattle.horn_rules.specs.Least.{IsDerivation, Least, LeastSays}
 use Rattle.horn_rules.specs.Cover.{LeastIsClosed}
-use Rattle.horn_rules.specs.Laws.{EachInstanceGivesItsHome, LeastHasWhatItGives, HasWhatItGives, LeastIsSmallest, bare_at}
+use Rattle.horn_rules.specs.Laws.{OpenInstancesGiveTheirHomes, LeastHasWhatItGives, HasWhatItGives, LeastIsSmallest, bare_at}
 use Rattle.horn_rules.proofs.Lists.{Contains-first, first-or-later, contains-nothing}
 use Rattle.horn_rules.proofs.GivenAtoms.{facts-given}
 
@@ -131,7 +131,7 @@ bare-fact sets given none open_ = record {
   };
 }
 
-pub each-gives-its-home : EachInstanceGivesItsHome
-each-gives-its-home program rule sets instance given bare has is open_ =
+pub each-open-gives-its-home : OpenInstancesGiveTheirHomes
+each-open-gives-its-home program rule sets instance given bare has is open_ =
     let fact = bare-fact sets given (bare given.target) open_ in
     (fact, λ all. given-least program rule sets instance given (bare_at given.target) has is all fact)

@@ -131,7 +131,7 @@ edge-within program i e n is has =
     (omega (arith, there.0), omega (arith, there.0, place.within, length-map-range_with_len (Env i) 1 (length place.thread.edges)))
 
 -- a home's thread is one of the program
-some-thread : (threads : List Thread) (i : ℕ) (thread : Thread) → numbered threads i ≡ Some thread → IsSome (numbered threads i)
+pub some-thread : (threads : List Thread) (i : ℕ) (thread : Thread) → numbered threads i ≡ Some thread → IsSome (numbered threads i)
 some-thread threads i thread e = subst IsSome (sym e) refl
 
 pub state-thread : (program : Program) (i l : ℕ) → IsHomeOf program (State i l) → IsSome (numbered program.threads i)

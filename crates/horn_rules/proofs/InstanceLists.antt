@@ -55,13 +55,13 @@ pub record LeadsFrom (program : Program) (home : Home) (e : ℕ) : Type 0 where
   pub edge_is : IsEdgeOf program i e thread edge
   pub home_is : home ≡ State i edge.from
 
-eq-is : (a b : ℕ) → (a == b) ≡ true → a ≡ b
+pub eq-is : (a b : ℕ) → (a == b) ≡ true → a ≡ b
 eq-is a b e = elim (eqb_tells a b) [
   | inl (hit, same) ↦ same
   | inr (miss, apart) ↦ let wrong : false ≡ true = sym miss ∙ e in cc
 ]
 
-is-eq : (a b : ℕ) → a ≡ b → (a == b) ≡ true
+pub is-eq : (a b : ℕ) → a ≡ b → (a == b) ≡ true
 is-eq a b e = elim (eqb_tells a b) [
   | inl (hit, same) ↦ hit
   | inr (miss, apart) ↦ absurd (apart e)
@@ -100,14 +100,14 @@ edges-once program (State i l) =
 
 -- ---- two threads
 
-record AreToldTo (home told : Home) : Type 0 where
-  k : ℕ
-  l : ℕ
-  i : ℕ
-  e : ℕ
-  apart : k ≢ i
-  home_is : home ≡ State k l
-  told_is : told ≡ Env i e
+pub record AreToldTo (home told : Home) : Type 0 where
+  pub k : ℕ
+  pub l : ℕ
+  pub i : ℕ
+  pub e : ℕ
+  pub apart : k ≢ i
+  pub home_is : home ≡ State k l
+  pub told_is : told ≡ Env i e
 
 not-eq : (k i : ℕ) → not (k == i) ≡ true → k ≢ i
 not-eq k i e same = let hit = is-eq k i same in let wrong : not true ≡ true = sym (ap not hit) ∙ e in cc
@@ -118,7 +118,7 @@ eq-not k i apart = elim (eqb_tells k i) [
   | inr (miss, other) ↦ ap not miss
 ]
 
-told-is : (home told : Home) → tells_another home told ≡ true → AreToldTo home told
+pub told-is : (home told : Home) → tells_another home told ≡ true → AreToldTo home told
 told-is (State k l) (State i m) e = cc
 told-is (State k l) (Env i g) e = record { k = k; l = l; i = i; e = g; apart = not-eq k i e; home_is = refl; told_is = refl }
 told-is (Env k l) told e = cc
@@ -126,24 +126,24 @@ told-is (Env k l) told e = cc
 pub is-told : (home told : Home) (k l i e : ℕ) → k ≢ i → home ≡ State k l → told ≡ Env i e → tells_another home told ≡ true
 is-told home told k l i e apart one other = rw (one, other) (eq-not k i apart)
 
-record AreApart (home other : Home) : Type 0 where
-  k : ℕ
-  l : ℕ
-  i : ℕ
-  m : ℕ
-  apart : k ≢ i
-  home_is : home ≡ State k l
-  other_is : other ≡ State i m
+pub record AreApart (home other : Home) : Type 0 where
+  pub k : ℕ
+  pub l : ℕ
+  pub i : ℕ
+  pub m : ℕ
+  pub apart : k ≢ i
+  pub home_is : home ≡ State k l
+  pub other_is : other ≡ State i m
 
-apart-is : (home other : Home) → of_another home other ≡ true → AreApart home other
+pub apart-is : (home other : Home) → of_another home other ≡ true → AreApart home other
 apart-is (State k l) (State i m) e = record { k = k; l = l; i = i; m = m; apart = not-eq k i e; home_is = refl; other_is = refl }
 apart-is (State k l) (Env i g) e = cc
 apart-is (Env k l) other e = cc
 
-other-number : (k i j : ℕ) → k ≢ i → i ≡ j → k ≢ j
+pub other-number : (k i j : ℕ) → k ≢ i → i ≡ j → k ≢ j
 other-number k i j apart same is = apart (is ∙ sym same)
 
-same-number : (home : Home) (i m j n : ℕ) → home ≡ State i m → home ≡ State j n → i ≡ j
+pub same-number : (home : Home) (i m j n : ℕ) → home ≡ State i m → home ≡ State j n → i ≡ j
 same-number home i m j n one other = let both : State i m ≡ State j n = sym one ∙ other in cc
 
 pub is-apart : (home other : Home) (k l i m : ℕ) → k ≢ i → home ≡ State k l → other ≡ State i m → of_another home other ≡ true
@@ -151,7 +151,7 @@ is-apart home other k l i m apart one two = rw (one, two) (eq-not k i apart)
 
 -- ---- homes that exist
 
-edge-there : (program : Program) (i e : ℕ) → IsHomeOf program (Env i e) → (thread : Thread) × (edge : Edge) × IsEdgeOf program i e thread edge
+pub edge-there : (program : Program) (i e : ℕ) → IsHomeOf program (Env i e) → (thread : Thread) × (edge : Edge) × IsEdgeOf program i e thread edge
 edge-there program i zero is = let (from_1, place) = env_home-place program i zero is in absurd (omega arith)
 edge-there program i (suc p) is =
     let (from_1, place) = env_home-place program i (suc p) is in

@@ -24,3 +24,5 @@ pub mod Tables
 pub mod PlacedAtoms
 pub mod HomesThere
 pub mod PremiseHomes
+pub mod Targets
+pub mod BareInstances

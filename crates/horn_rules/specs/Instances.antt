@@ -59,6 +59,10 @@ abbrev pub instances_over : Program → RuleName → List Statement → List (In
 instances_over program Rg facts = init_instances program ++ (own_instances program facts ++ (guar_instances program facts ++ env_instances facts))
 instances_over program Og facts = init_instances program ++ (own_instances program facts ++ all_inter_instances program facts)
 
--- The second is the first over the facts that the numbers stand for.
+-- The second is the first over what the numbers stand for: each number stands for what is found of it.
+abbrev pub IsResolvedBy : {F : Type 0} → (ℕ → Option F) → Instance ℕ → Instance F → Type 0
+IsResolvedBy find numbers instance = map_instance find numbers ≡ map_instance Some instance
+
+-- The numbers stand for the facts of a list.
 abbrev pub IsResolved : {F : Type 0} → List F → Instance ℕ → Instance F → Type 0
-IsResolved facts numbers instance = map_instance (numbered facts) numbers ≡ map_instance Some instance
+IsResolved facts numbers instance = IsResolvedBy (numbered facts) numbers instance

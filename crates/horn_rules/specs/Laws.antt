@@ -7,7 +7,7 @@ use Rattle.lin_rows.specs.Row.{Row, Meets}
 use Rattle.lin_rows.specs.System.{IsPoint}
 use Rattle.farkas_cert.specs.Cert.{IsRefuted}
 use Rattle.predicate_sets.specs.Sets.{set_at}
-use Rattle.transition_formula.specs.Program.{Program, IsProgram, numbered}
+use Rattle.transition_formula.specs.Program.{Program, Thread, Edge, IsProgram, IsEdgeOf, numbered}
 use Rattle.horn_rules.specs.declared.job.Job.{Job}
 use Rattle.horn_rules.specs.Home.{Home, homes, IsHomeOf, home_width}
 use Rattle.horn_rules.specs.Fact.{Sets, Fact, Statement, AreSetsOf, IsStatementOf, statement_of}
@@ -17,6 +17,7 @@ use Rattle.horn_rules.specs.Post.{IsPost, IsFactOf, IsGiven}
 use Rattle.horn_rules.specs.Least.{Least}
 use Rattle.horn_rules.specs.Instances.{instances_over, IsResolved}
 use Rattle.horn_rules.specs.Stored.{fact_of, HasItsHome, sets_of, AreStoredSetsOf}
+use Rattle.horn_rules.specs.Target.{target_of}
 use Rattle.horn_rules.specs.Job.{ComesTo}
 use Rattle.horn_rules.specs.Table.{IsTableOf}
 
@@ -43,6 +44,18 @@ pub record IsPlacedBy (program : Program) (instance : Instance Statement) (given
 abbrev pub AtomsArePlaced : Type 0
 AtomsArePlaced = (program : Program) (instance : Instance Statement) (given : Case) (atom : Row)
     → IsCaseOf program instance given → length atom.coefficients ≡ home_width (length program.columns) given.target → IsPlacedBy program instance given atom
+
+-- An instance that comes to a case has its target by the homes of its premises.
+abbrev pub CasesHaveTheirTarget : Type 0
+CasesHaveTheirTarget = (program : Program) (instance : Instance Statement) (given : Case)
+    → IsCaseOf program instance given → target_of program (map_instance (λ statement. statement.home) instance) ≡ Some given.target
+
+-- An instance with a target, whose premises stand at homes of the program, comes to a case.
+abbrev pub TargetsHaveCases : Type 0
+TargetsHaveCases = (program : Program) (instance : Instance Statement) (target : Home)
+    → AllByRecursion (λ statement. IsHomeOf program statement.home) (premises_of instance)
+    → target_of program (map_instance (λ statement. statement.home) instance) ≡ Some target
+    → (given : Case) × IsCaseOf program instance given × (given.target ≡ target)
 
 -- ---- posts
 
@@ -85,9 +98,27 @@ bare_at home = record { home = home; held = [] }
 
 -- Where no home has predicates, each instance whose system is not refuted gives exactly the bare fact of its home; where the facts
 -- that it starts from are in the least set, so is that one.
-abbrev pub EachInstanceGivesItsHome : Type 0
-EachInstanceGivesItsHome = (program : Program) (rule : RuleName) (sets : Sets) (instance : Instance Fact) (given : Case) → ((home : Home) → sets home ≡ [])
+abbrev pub OpenInstancesGiveTheirHomes : Type 0
+OpenInstancesGiveTheirHomes = (program : Program) (rule : RuleName) (sets : Sets) (instance : Instance Fact) (given : Case) → ((home : Home) → sets home ≡ [])
     → HasKind rule instance → IsCaseOf program (map_instance (statement_of sets) instance) given → (¬ IsRefuted given.system)
+    → IsFactOf sets given (bare_at given.target)
+    × (AllByRecursion (Least program rule sets) (premises_of instance) → Least program rule sets (bare_at given.target))
+
+-- No edge of the program has a test.
+abbrev pub HasNoTests : Program → Type 0
+HasNoTests program = (i e : ℕ) (thread : Thread) (edge : Edge) → IsEdgeOf program i e thread edge → edge.tests ≡ []
+
+-- Where no edge has a test, some whole point meets the system of each instance over statements without atoms.
+abbrev pub BareInstancesAreOpen : Type 0
+BareInstancesAreOpen = (program : Program) (instance : Instance Statement) (given : Case) → IsProgram program → HasNoTests program
+    → AllByRecursion (λ statement. statement.atoms ≡ []) (premises_of instance) → IsCaseOf program instance given → (z : List ℤ) × IsPoint given.system z
+
+-- Where no edge has a test and no home a predicate, each instance gives exactly the bare fact of its home; where the facts that it
+-- starts from are in the least set, so is that one.
+abbrev pub EachInstanceGivesItsHome : Type 0
+EachInstanceGivesItsHome = (program : Program) (rule : RuleName) (sets : Sets) (instance : Instance Fact) (given : Case)
+    → IsProgram program → HasNoTests program → ((home : Home) → sets home ≡ [])
+    → HasKind rule instance → IsCaseOf program (map_instance (statement_of sets) instance) given
     → IsFactOf sets given (bare_at given.target)
     × (AllByRecursion (Least program rule sets) (premises_of instance) → Least program rule sets (bare_at given.target))
 

@@ -8,6 +8,8 @@ pub mod Least
 pub mod Scope
 pub mod Instances
 pub mod Stored
+pub mod Predicate
+pub mod Target
 pub mod Job
 pub mod Steps
 pub mod Cover

@@ -87,7 +87,7 @@ pub fn home_count(program: &Program) -> u32
     count_before(program, Kind::Location, threads) + count_before(program, Kind::Edge, threads)
 }
 
-fn has_thread(program: &Program, thread: ThreadNo) -> bool
+pub(crate) fn has_thread(program: &Program, thread: ThreadNo) -> bool
     ensures { IsTrue result ↔ IsSome (numbered program.now.threads thread.0) }
 {
     1 <= thread.0 && thread.0 <= program.threads()
@@ -99,7 +99,7 @@ fn has_location(program: &Program, thread: ThreadNo, location: Loc) -> bool
     has_thread(program, thread) && location.0 < program.locations(thread)
 }
 
-fn has_edge(program: &Program, thread: ThreadNo, edge: EdgeNo) -> bool
+pub(crate) fn has_edge(program: &Program, thread: ThreadNo, edge: EdgeNo) -> bool
     ensures { IsTrue result ↔ IsHomeOf program.now (Env thread.0 edge.0) }
 {
     if !has_thread(program, thread) {

@@ -1,5 +1,5 @@
 ghost use Rattle.horn_rules.specs.Cover.{ClosedListsCover, ClosedLeastCovers, LeastIsClosed, CoveredListsDoNotFail, CoveredLeastDoesNotFail, CoveredListsAreSafe, CoveredLeastIsSafe};
-ghost use Rattle.horn_rules.specs.Laws.{CasesAreUnique, JobsHaveOneCase, PremisesHaveHomes, AtomsArePlaced, PostsAreUnique, FactsAreGiven, GivenAtomsHold, EachInstanceGivesItsHome, InstancesAreExact, LeastHasWhatItGives, LeastIsSmallest, HomesAreDistinct, StoredFactsTellFacts, StoredSetsAreByNumber, TablesAreUnique};
+ghost use Rattle.horn_rules.specs.Laws.{CasesAreUnique, JobsHaveOneCase, PremisesHaveHomes, CasesHaveTheirTarget, TargetsHaveCases, AtomsArePlaced, PostsAreUnique, FactsAreGiven, GivenAtomsHold, OpenInstancesGiveTheirHomes, BareInstancesAreOpen, EachInstanceGivesItsHome, InstancesAreExact, LeastHasWhatItGives, LeastIsSmallest, HomesAreDistinct, StoredFactsTellFacts, StoredSetsAreByNumber, TablesAreUnique};
 ghost use Rattle.horn_rules.specs.Steps.{StartsAreDescribed, OwnStepsAreDescribed, OwnStepsAreTold, ToldStepsAreDescribed, InterferingStepsAreDescribed};
 
 use thr_base::positions_are_those_held;
@@ -36,9 +36,18 @@ pub fn given_atoms_hold()
     ensures { GivenAtomsHold }
 {}
 
-/// Where no home has predicates, each instance that is not refuted gives exactly the bare fact of its home: a law, and no code.
+/// An instance comes to a case exactly where the homes of its premises give it a target: laws, and no code.
+pub fn targets_are_by_homes()
+    ensures targets { CasesHaveTheirTarget }
+    ensures cases { TargetsHaveCases }
+{}
+
+/// Where no home has predicates, each instance that is not refuted gives exactly the bare fact of its home, and where no edge has a
+/// test none is refuted: laws, and no code.
 pub fn without_predicates_each_instance_gives_its_home()
-    ensures { EachInstanceGivesItsHome }
+    ensures open_ones { OpenInstancesGiveTheirHomes }
+    ensures points { BareInstancesAreOpen }
+    ensures each { EachInstanceGivesItsHome }
 {}
 
 /// What a thread's start gives describes each initial state: a law, and no code.

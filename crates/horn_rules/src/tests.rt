@@ -225,6 +225,34 @@ fn texts_of_facts(rt: HostRuntime) -> Result<(), Fail> {
     Ok(())
 }
 
+fn location(thread: u32, location: u32) -> Home {
+    Home::State(ThreadNo(thread), Loc(location))
+}
+
+#[test]
+fn targets_by_the_homes_of_premises(rt: HostRuntime) -> Result<(), Fail> {
+    let program = two_bare_threads(rt.alloc())?;
+    let f = FactId(1);
+    let at = Some(location(1, 1));
+    let other = Some(location(2, 1));
+    let told = Some(Home::Env(ThreadNo(2), EdgeNo(1)));
+    let own = Instance::Own(f, EdgeNo(1));
+    assert!(rt; target(&program, own, at, None) == Some(location(1, 2)));
+    assert!(rt; target(&program, own, Some(location(1, 2)), None).is_none());
+    assert!(rt; target(&program, Instance::Own(f, EdgeNo(3)), at, None).is_none());
+    let guar = Instance::Guar(f, EdgeNo(1));
+    let seen = Home::Env(ThreadNo(1), EdgeNo(1));
+    assert!(rt; target(&program, guar, at, None) == Some(seen));
+    assert!(rt; target(&program, Instance::Init(ThreadNo(2)), None, None) == other);
+    assert!(rt; target(&program, Instance::Init(ThreadNo(3)), None, None).is_none());
+    assert!(rt; target(&program, Instance::Env(f, f), at, told) == at);
+    assert!(rt; target(&program, Instance::Env(f, f), other, told).is_none());
+    let inter = Instance::Inter(f, f, EdgeNo(1));
+    assert!(rt; target(&program, inter, at, other) == at);
+    assert!(rt; target(&program, inter, at, at).is_none());
+    Ok(())
+}
+
 #[test]
 fn laws_are_called() {
     atoms_are_placed();
@@ -236,6 +264,7 @@ fn laws_are_called() {
     posts_are_unique();
     premises_have_homes();
     starts_are_described();
+    targets_are_by_homes();
     own_steps_are_described();
     own_steps_are_told();
     tables_are_unique();

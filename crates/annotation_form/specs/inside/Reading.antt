@@ -1,6 +1,7 @@
 -- What the parts of the reader say. No public clause cites this file.
 use Rattle.std.specs.Prelude.{◌≡◌, ℕ, ◌+◌, ◌<◌, ◌^◌, pos, Bool, true, false, List, [], ◌∷◌, ◌++◌, length, codes}
 use Rattle.std.specs.List.{AllByRecursion}
+use Rattle.thr_base.specs.Limits.{most_predicates}
 use Rattle.thr_base.specs.Number.{number_text}
 use Rattle.lin_rows.specs.Row.{Row}
 use Rattle.predicate_sets.specs.HomeSet.{Lacks}
@@ -11,7 +12,7 @@ use Rattle.annotation_form.specs.declared.predicates.Lines.{Lines}
 use Rattle.annotation_form.specs.declared.predicates.Lines.TheVariants.{Sets, Bad}
 use Rattle.annotation_form.specs.Lines.{lines_text}
 use Rattle.annotation_form.specs.BadLine.{IsBadLine}
-use Rattle.annotation_form.specs.Predicates.{Predicate, IsPredicateOf, IsPredicatesText, IsTextOfPredicates, IsReadAs, AreAllowed, home_atoms, most_atoms_read, predicate_text, predicate_texts, lists_of}
+use Rattle.annotation_form.specs.Predicates.{Predicate, IsPredicateOf, IsPredicatesText, IsTextOfPredicates, IsReadAs, AreAllowed, home_atoms, predicate_text, predicate_texts, lists_of}
 
 -- whether a home is an edge
 abbrev pub is_env : Home → Bool
@@ -40,7 +41,7 @@ pub record IsLineOf (program : Program) (predicate : Predicate) (line : List ℕ
 -- A home's predicates lack this one's atom, and there is room for it.
 pub record HasRoom (predicates : List Predicate) (predicate : Predicate) : Type 0 where
   pub lacks : Lacks (home_atoms predicate.home predicates) predicate.atom
-  pub room : length (home_atoms predicate.home predicates) < most_atoms_read
+  pub room : length (home_atoms predicate.home predicates) < most_predicates
 
 -- Whether a predicate was added, and what the sets are then.
 abbrev pub IsAdded : Program → List Predicate → Predicate → Bool → List (List Row) → Type 0

@@ -1,14 +1,9 @@
-use Rattle.std.proofs.Common.{◌∙◌, arith}
+use Rattle.std.proofs.Common.{arith}
 use Rattle.horn_rules.specs.Home.{homes}
 use Rattle.horn_rules.specs.Stored.{home_of}
 use Rattle.transition_formula.proofs.Lookups.{numbered-within}
 use Rattle.annotation_form.proofs.RoomLemmas.{full-no_room, known-no_room, new-room, new-sets}
 use Rattle.annotation_form.proofs.adding.add.Goals as goal
-
-pub returns-then-atoms-ge-MOST_ATOMS_READ-clause-added : goal.returns-then-atoms-ge-MOST_ATOMS_READ-clause-added
-returns-then-atoms-ge-MOST_ATOMS_READ-clause-added c = λ before is.
-    full-no_room c.args.program.now c.args.sets.now c.number-number.result.0 (home_of c.args.home) c.args.atom c.atoms.result.now before
-    (record { numbered_is = c.number-number.ensures; atoms_are = c.atoms.ensures.atoms ∙ c.deref.ensures ∙ c.in_ok-set.ensures.set }) is c.if-atoms-ge-MOST_ATOMS_READ.true
 
 pub add-requires : goal.add-requires
 add-requires c =
@@ -18,13 +13,16 @@ add-requires c =
 pub returns-in-Ok-New-clause-added : goal.returns-in-Ok-New-clause-added
 returns-in-Ok-New-clause-added c = λ before is.
     let added = rw c.in-Ok-New.field-0-is at c.in-Ok-New.ensures in (
-      new-room c.args.program.now c.args.sets.now c.number-number.result.0 (home_of c.args.home) c.args.atom c.atoms.result.now before
-          (record { numbered_is = c.number-number.ensures; atoms_are = c.atoms.ensures.atoms ∙ c.deref.ensures ∙ c.in_ok-set.ensures.set }) is c.if-atoms-ge-MOST_ATOMS_READ.false added.0.0,
+      new-room c.args.program.now c.args.sets.now c.number-number.result.0 (home_of c.args.home) c.args.atom before c.number-number.ensures is added.0,
       new-sets c.args.program.now c.args.sets.now c.number-number.result.0 (home_of c.args.home) c.args.atom c.add.new.self before c.number-number.ensures is added.2,
     )
 
 pub returns-in-Ok-Known-clause-added : goal.returns-in-Ok-Known-clause-added
 returns-in-Ok-Known-clause-added c = λ before is.
     let added = rw c.in-Ok-Known.field-0-is at c.in-Ok-Known.ensures in
-    known-no_room c.args.program.now c.args.sets.now c.number-number.result.0 (home_of c.args.home) c.args.atom c.atoms.result.now c.in-Ok-Known.field-0-0 before
-    (record { numbered_is = c.number-number.ensures; atoms_are = c.atoms.ensures.atoms ∙ c.deref.ensures ∙ c.in_ok-set.ensures.set }) is added.0
+    known-no_room c.args.program.now c.args.sets.now c.number-number.result.0 (home_of c.args.home) c.args.atom c.in-Ok-Known.field-0-0 before c.number-number.ensures is added.0
+
+pub returns-in-Err-Full-clause-added : goal.returns-in-Err-Full-clause-added
+returns-in-Err-Full-clause-added c = λ before is.
+    let refused = rw c.in-Err-Full.field-0-is at c.in-Err-Full.ensures in
+    full-no_room c.args.program.now c.args.sets.now c.number-number.result.0 (home_of c.args.home) c.args.atom before c.number-number.ensures is refused.1

@@ -1,0 +1,9 @@
+pub mod State
+pub mod Event
+pub mod Withdrawn
+pub mod Pending
+pub mod Predicates
+pub mod After
+pub mod Allowed
+pub mod Legal
+pub mod Laws

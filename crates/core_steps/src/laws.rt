@@ -1,0 +1,29 @@
+ghost use Rattle.core_steps.specs.Laws.{LiveFactsArePosts, LiveFactsAreLeast, DoneInstancesArePosted, InstancesAreDoneHeldOrPending, QuietStatesHaveTheLeastSet, ClearStatesAreSafe, NoJobIsPublishedTwice};
+
+/// After a legal history each live fact is the post of its kept instance, and in the least set of the predicates that homes have: a
+/// law, and no code.
+pub fn live_facts_are_derived()
+    ensures posts { LiveFactsArePosts }
+    ensures least { LiveFactsAreLeast }
+{}
+
+/// What is done and has live premises has been posted, under the predicates that homes have: a law, and no code.
+pub fn done_instances_are_posted()
+    ensures { DoneInstancesArePosted }
+{}
+
+/// An instance with live premises is done, held or pending: a law, and no code.
+pub fn instances_are_done_held_or_pending()
+    ensures { InstancesAreDoneHeldOrPending }
+{}
+
+/// In a quiet state the live facts are exactly the least set, and in a clear one no run fails: a law, and no code.
+pub fn quiet_states_have_the_least_set()
+    ensures least { QuietStatesHaveTheLeastSet }
+    ensures safe { ClearStatesAreSafe }
+{}
+
+/// No job is published twice: a law, and no code.
+pub fn no_job_is_published_twice()
+    ensures { NoJobIsPublishedTwice }
+{}

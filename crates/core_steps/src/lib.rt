@@ -1,0 +1,10 @@
+//! A run as one history of events: what each event does, which are allowed, and what holds after every legal history, whichever worker
+//! made which of its events. The layers above learn that a quiet run has exactly the least set of facts.
+#![tactic(auto)]
+
+mod laws;
+
+pub use laws::{
+    done_instances_are_posted, instances_are_done_held_or_pending, live_facts_are_derived,
+    no_job_is_published_twice, quiet_states_have_the_least_set,
+};

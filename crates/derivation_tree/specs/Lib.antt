@@ -1,0 +1,10 @@
+pub mod Facts
+pub mod Tree
+pub mod Variable
+pub mod Nodes
+pub mod System
+pub mod Solution
+pub mod Sums
+pub mod Replay
+pub mod Chain
+pub mod Left

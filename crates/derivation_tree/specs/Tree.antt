@@ -1,0 +1,85 @@
+-- Derivations unfolded into trees: a node is an instance with the nodes of its premises, and a fact that is used twice has two nodes.
+-- Nodes are numbered from 1, each after its premises' nodes, the root last.
+use Rattle.std.specs.Prelude.{◌≡◌, ◌==◌, ℕ, ◌+◌, if◌then◌else◌, List, [], ◌∷◌, Option, Some, None, unwrap_or}
+use Rattle.transition_formula.specs.Program.{Program, Thread, Edge, numbered}
+use Rattle.horn_rules.specs.Home.{Home, State, Env as AtEdge}
+use Rattle.horn_rules.specs.Instance.{Instance, map_instance}
+use Rattle.horn_rules.specs.Instance as instance
+use Rattle.horn_rules.specs.Target.{location_beside, edge_beside}
+use Rattle.derivation_tree.specs.Facts.{KeptFact}
+
+pub data Tree : Type 0 where
+  -- thread i is at its start
+  Init : ℕ → Tree
+  -- a step of the premise's thread by its edge e
+  Own : Tree → ℕ → Tree
+  -- that step, as the other threads see it
+  Guar : Tree → ℕ → Tree
+  -- the first premise's thread stays where it is in a step of which the second tells
+  Env : Tree → Tree → Tree
+  -- the first premise's thread stays where it is in a step of the second's thread by its edge e
+  Inter : Tree → Tree → ℕ → Tree
+
+abbrev pub size_of : Tree → ℕ
+size_of (Init i) = 1
+size_of (Own f e) = size_of f + 1
+size_of (Guar f e) = size_of f + 1
+size_of (Env f t) = size_of f + size_of t + 1
+size_of (Inter f g e) = size_of f + size_of g + 1
+
+-- ---- the tree of a fact
+
+-- an instance over trees, where each is there
+abbrev pub tree_over : Instance (Option Tree) → Option Tree
+tree_over (instance.Init i) = Some (Init i)
+tree_over (instance.Own (Some f) e) = Some (Own f e)
+tree_over (instance.Guar (Some f) e) = Some (Guar f e)
+tree_over (instance.Env (Some f) (Some t)) = Some (Env f t)
+tree_over (instance.Inter (Some f) (Some g) e) = Some (Inter f g e)
+tree_over instance = None
+
+-- the derivation of an id's fact, unfolded
+abbrev pub tree_of : List KeptFact → ℕ → Option Tree
+tree_of [] id = None
+tree_of (f ∷ earlier) id = if f.id == id then tree_over (map_instance (tree_of earlier) f.kept) else tree_of earlier id
+
+-- ---- homes of nodes
+
+-- thread i, and edge e of it; where there is none, one with nothing in it, which no node names
+abbrev pub thread_at : Program → ℕ → Thread
+thread_at program i = unwrap_or (numbered program.threads i) (record { counter = 0; locations = 0; edges = [] })
+
+abbrev pub edge_at : Program → ℕ → ℕ → Edge
+edge_at program i e = unwrap_or (numbered (thread_at program i).edges e) (record { from = 0; to = 0; inputs = 0; tests = []; sets = [] })
+
+abbrev pub thread_of : Home → ℕ
+thread_of (State i l) = i
+thread_of (AtEdge i e) = i
+
+-- the location of a home, or the edge
+abbrev pub place_of : Home → ℕ
+place_of (State i l) = l
+place_of (AtEdge i e) = e
+
+-- the home of a tree's root
+abbrev pub root_home : Program → Tree → Home
+root_home program (Init i) = State i 1
+root_home program (Own f e) = let home = root_home program f in location_beside home (edge_at program (thread_of home) e).to
+root_home program (Guar f e) = edge_beside (root_home program f) e
+root_home program (Env f t) = root_home program f
+root_home program (Inter f g e) = root_home program f
+
+-- the thread and the edge of a node's step: its own, that of which its second premise tells, or that of its second premise's thread
+abbrev pub step_thread : Program → Tree → ℕ
+step_thread program (Init i) = i
+step_thread program (Own f e) = thread_of (root_home program f)
+step_thread program (Guar f e) = thread_of (root_home program f)
+step_thread program (Env f t) = thread_of (root_home program t)
+step_thread program (Inter f g e) = thread_of (root_home program g)
+
+abbrev pub step_edge : Program → Tree → ℕ
+step_edge program (Init i) = 0
+step_edge program (Own f e) = e
+step_edge program (Guar f e) = e
+step_edge program (Env f t) = place_of (root_home program t)
+step_edge program (Inter f g e) = e
