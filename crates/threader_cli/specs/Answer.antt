@@ -1,5 +1,5 @@
 -- What the program answers: what its words ask for, the files that they name, and the status and text that follow from both.
-use Rattle.std.specs.Prelude.{◌≡◌, ◌<◌, ◌≤◌, ℕ, List, [], ◌∷◌, ◌++◌, length, replicate, Option, Some, None, codes, decimal}
+use Rattle.std.specs.Prelude.{◌≡◌, ◌≤◌, ℕ, List, [], ◌++◌, length, replicate, Option, Some, None, codes, decimal}
 use Rattle.thr_base.specs.Limits.{text_limit}
 use Rattle.thr_base.specs.Outside.{StoreMeaning, SinkMeaning, Appends, WritesFront}
 use Rattle.thr_base.specs.Reading.{IsFileNamed, StopsReading, KeepsFiles}

@@ -1,4 +1,4 @@
-use Rattle.std.proofs.Common.{rules, ◌≡◌, ℕ, Err, IfOk, subst}
+use Rattle.std.proofs.Common.{rules, ◌≡◌, Err, IfOk, subst}
 use Rattle.thr_base.specs.declared.stops.Stop.{Stop}
 use Rattle.thread_cfg.specs.Read.{IsReadAnswer}
 use Rattle.threader_cli.proofs.AnswerLemmas.{passed, said}

@@ -1,4 +1,4 @@
-use Rattle.std.proofs.Common.{rules, ◌≡◌, ℕ, List, Err, IfOk, subst}
+use Rattle.std.proofs.Common.{rules, ◌≡◌, List, Err, IfOk, subst}
 use Rattle.thr_base.specs.declared.stops.LineStop.{LineStop}
 use Rattle.thr_base.specs.Refusals.{MatchLineStop}
 use Rattle.lin_rows.specs.Row.{Row}

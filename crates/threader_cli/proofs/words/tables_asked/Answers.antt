@@ -1,5 +1,4 @@
-use Rattle.std.proofs.Common.{rules, ◌≡◌, ℕ, List, map, string_bytes, sym, ap, ◌∙◌}
-use Rattle.command_line.specs.Request as asked
+use Rattle.std.proofs.Common.{map, string_bytes, sym, ap, ◌∙◌}
 use Rattle.command_line.specs.Seen.{request_of, work_of}
 use Rattle.threader_cli.proofs.WordsLemmas.{if_none, work_is_tables, rule_is_rg}
 use Rattle.threader_cli.proofs.words.tables_asked.Goals as goal
