@@ -5,6 +5,7 @@ use Rattle.std.proofs.lemmas.List.{length-map}
 use Rattle.std.proofs.lemmas.Option.{slice_get-map, get_or_from_slice_get}
 use Rattle.thr_base.specs.Outside.{StoreMeaning, SinkMeaning, Files, Lacks, Rose, count_end}
 use Rattle.thr_base.specs.Reading.{IsFileNamed, IsLonger, StopsReading, KeepsFiles}
+use Rattle.thr_base.specs.declared.limits.Limits.{Limits}
 use Rattle.thr_base.specs.declared.names.Fact.{Fact as StoredFact}
 use Rattle.thr_base.specs.declared.names.RuleName.{RuleName}
 use Rattle.thr_base.specs.declared.names.RuleName.TheVariants.{Rg}
@@ -20,7 +21,7 @@ use Rattle.horn_rules.specs.Fact.{Sets, Fact, IsSetOf}
 use Rattle.horn_rules.specs.Least.{Least}
 use Rattle.horn_rules.specs.Table.{IsTable}
 use Rattle.serial_fix.specs.Least.{AreLeast}
-use Rattle.threader_cli.specs.Answer.{TextKind, NamesFiles, AnswersProgram, table, AnswersUnread, fault, long, AnswersText, unread, read_whole, AnswersProgramText, refused, accepted, AnswersTables, alone, second_thread, with_predicates, AnswersFiles, program_text, Answers, named, Ends, whole, write_fault, Frame}
+use Rattle.threader_cli.specs.Answer.{TextKind, AsksTables, AnswersProgram, table, AnswersUnread, fault, long, AnswersText, unread, read_whole, AnswersProgramText, refused, accepted, AnswersTables, alone, with_predicates, AnswersFiles, program_text, Answers, tables, Ends, whole, write_fault, Frame}
 use Rattle.threader_cli.specs.declared.answer.Answer.{Answer}
 use Rattle.threader_cli.specs.inside.Parts.{Wrote, all, front}
 
@@ -91,17 +92,16 @@ AnswersText-earlier {name = name} before kept (read_whole bytes status text with
     read_whole bytes status text within (subst (λ (files : Option Files). IsFileNamed files name bytes) kept.files file) answers
 
 -- the answer of a program and a second file, told of an earlier time
-pub AnswersTables-earlier : {between after : StoreMeaning} {predicates : Option (List ℕ)} {program : Program} {status : ℕ} {text : List ℕ} (before : StoreMeaning)
-    → KeepsFiles before between → AnswersTables between after predicates program status text → AnswersTables before after predicates program status text
+pub AnswersTables-earlier : {limits : Limits} {between after : StoreMeaning} {predicates : Option (List ℕ)} {program : Program} {status : ℕ} {text : List ℕ} (before : StoreMeaning)
+    → KeepsFiles before between → AnswersTables limits between after predicates program status text → AnswersTables limits before after predicates program status text
 AnswersTables-earlier before kept (alone program status text answers) = alone program status text answers
-AnswersTables-earlier before kept (second_thread name program more) = second_thread name program more
-AnswersTables-earlier before kept (with_predicates name program status text one answers) =
-    with_predicates name program status text one (AnswersText-earlier before kept answers)
+AnswersTables-earlier before kept (with_predicates name program status text answers) =
+    with_predicates name program status text (AnswersText-earlier before kept answers)
 
 -- the answer of a program's text where what follows from its program is told of an earlier time
-pub AnswersProgramText-earlier : {between after : StoreMeaning} {predicates : Option (List ℕ)} {bytes : List ℕ} {status : ℕ} {text : List ℕ} (before : StoreMeaning)
-    → KeepsFiles before between → AnswersProgramText (AnswersTables between after predicates) bytes status text
-    → AnswersProgramText (AnswersTables before after predicates) bytes status text
+pub AnswersProgramText-earlier : {limits : Limits} {between after : StoreMeaning} {predicates : Option (List ℕ)} {bytes : List ℕ} {status : ℕ} {text : List ℕ} (before : StoreMeaning)
+    → KeepsFiles before between → AnswersProgramText (AnswersTables limits between after predicates) bytes status text
+    → AnswersProgramText (AnswersTables limits before after predicates) bytes status text
 AnswersProgramText-earlier before kept (refused refusal why) = refused refusal why
 AnswersProgramText-earlier before kept (accepted tree program status text is answers tells) =
     accepted tree program status text is (AnswersTables-earlier before kept answers) tells
@@ -129,30 +129,30 @@ IsReadAs-stored program bytes lists read =
 -- ---- tables
 
 -- the table of the least set
-pub table-answers : (program : Program) (lists : List (List Row)) (facts held : List StoredFact) (text : List ℕ) → AreLeast program lists facts → held ≡ facts
+pub table-answers : (limits : Limits) (program : Program) (lists : List (List Row)) (facts held : List StoredFact) (text : List ℕ) → AreLeast program lists facts → held ≡ facts
     → ((rule : RuleName) (sets : Sets) → ((fact : Fact) → Contains (facts_of program held) fact ↔ Least program rule sets fact) → IsTable program rule sets text)
-    → AnswersProgram program lists 0 text
-table-answers program lists facts held text least are written =
+    → AnswersProgram limits program lists 0 text
+table-answers limits program lists facts held text least are written =
     table text (written Rg (sets_of program lists) (subst (AreLeast program lists) (sym are) least).exact) least.covers
 
 -- ---- programs with a second file
 
 -- a choice that is known, in the answer of a program
-pub tables-given : {E : Type 0} (before after : StoreMeaning) (program : Program) (given known : Option (List ℕ)) (made : Result Answer E) → given ≡ known
-    → IfOk made (λ answer. AnswersTables before after known program answer.status answer.text.items)
-    → IfOk made (λ answer. AnswersTables before after given program answer.status answer.text.items)
-tables-given before after program given known made same h =
-    subst (λ (names : Option (List ℕ)). IfOk made (λ answer. AnswersTables before after names program answer.status answer.text.items)) (sym same) h
+pub tables-given : {E : Type 0} (limits : Limits) (before after : StoreMeaning) (program : Program) (given known : Option (List ℕ)) (made : Result Answer E) → given ≡ known
+    → IfOk made (λ answer. AnswersTables limits before after known program answer.status answer.text.items)
+    → IfOk made (λ answer. AnswersTables limits before after given program answer.status answer.text.items)
+tables-given limits before after program given known made same h =
+    subst (λ (names : Option (List ℕ)). IfOk made (λ answer. AnswersTables limits before after names program answer.status answer.text.items)) (sym same) h
 
 -- the answer of a program whose text is whole, told of the time before it was read
-pub whole-files : {E : Type 0} (before between after : StoreMeaning) (name : List ℕ) (predicates : Option (List ℕ)) (made : Result Answer E) (bytes held : List ℕ)
+pub whole-files : {E : Type 0} (limits : Limits) (before between after : StoreMeaning) (name : List ℕ) (predicates : Option (List ℕ)) (made : Result Answer E) (bytes held : List ℕ)
     → KeepsFiles before between → length bytes ≤ program_text.limit → IsFileNamed before.files name bytes → held ≡ bytes
-    → IfOk made (λ answer. AnswersProgramText (AnswersTables between after predicates) held answer.status answer.text.items)
-    → IfOk made (λ answer. AnswersFiles before after name predicates answer.status answer.text.items)
-whole-files before between after name predicates made bytes held kept within file same h =
-    passed (AnswersProgramText (AnswersTables between after predicates) held) (AnswersFiles before after name predicates) made
+    → IfOk made (λ answer. AnswersProgramText (AnswersTables limits between after predicates) held answer.status answer.text.items)
+    → IfOk made (λ answer. AnswersFiles limits before after name predicates answer.status answer.text.items)
+whole-files limits before between after name predicates made bytes held kept within file same h =
+    passed (AnswersProgramText (AnswersTables limits between after predicates) held) (AnswersFiles limits before after name predicates) made
     (λ status text answers. read_whole bytes status text within file
-    (AnswersProgramText-earlier before kept (subst (λ (bs : List ℕ). AnswersProgramText (AnswersTables between after predicates) bs status text) same answers))) h
+    (AnswersProgramText-earlier before kept (subst (λ (bs : List ℕ). AnswersProgramText (AnswersTables limits between after predicates) bs status text) same answers))) h
 
 -- ---- calls
 
@@ -162,10 +162,10 @@ ends_by status result text answers (all written) = whole status text answers wri
 ends_by status result text answers (front written) = write_fault status text answers written
 
 -- the answer to words, of which the text is held
-pub named-held : {words : List (List ℕ)} {before after : StoreMeaning} {program : List ℕ} {predicates : Option (List ℕ)} {status : ℕ} (text held : List ℕ)
-    → NamesFiles words program predicates → held ≡ text → AnswersFiles before after program predicates status text → Answers words before after status held
-named-held {words = words} {before = before} {after = after} {program = program} {predicates = predicates} {status = status} text held names same answers =
-    subst (λ (t : List ℕ). Answers words before after status t) (sym same) (named program predicates status text names answers)
+pub asked-held : {words : List (List ℕ)} {before after : StoreMeaning} {program : List ℕ} {predicates : Option (List ℕ)} {limits : Limits} {status : ℕ} (text held : List ℕ)
+    → AsksTables words program predicates limits → held ≡ text → AnswersFiles limits before after program predicates status text → Answers words before after status held
+asked-held {words = words} {before = before} {after = after} {program = program} {predicates = predicates} {limits = limits} {status = status} text held asked same answers =
+    subst (λ (t : List ℕ). Answers words before after status t) (sym same) (tables program predicates limits status text asked answers)
 
 -- what stays in a call that writes
 pub Frame-wrote : {before after : StoreMeaning} {old new : SinkMeaning} {status result : ℕ} {text : List ℕ} → KeepsFiles before after → Wrote old text new status result

@@ -2,6 +2,7 @@
 use Rattle.std.specs.List.{Contains, flat_map}
 use Rattle.std.proofs.Common.{◌≡◌, ℕ, zero, suc, List, [], ◌∷◌, ◌++◌, codes, Option, sym, ap, ◌∙◌, arith, append_assoc}
 use Rattle.thr_base.specs.Outside.{StoreMeaning}
+use Rattle.thr_base.specs.declared.limits.Limits.{Limits}
 use Rattle.thr_base.specs.declared.names.RuleName.TheVariants.{Rg}
 use Rattle.lin_rows.specs.Row.{Row}
 use Rattle.transition_formula.specs.Program.{Program}
@@ -14,7 +15,7 @@ use Rattle.horn_rules.specs.Stored.{sets_of}
 use Rattle.horn_rules.specs.Table.{IsTable, fact_line, positions_text}
 use Rattle.horn_rules.specs.Cover.{HasNoneFailing, NoRunFails, CoveredLeastIsSafe}
 use Rattle.thread_cfg.specs.Laws.{TextsFailAlike}
-use Rattle.threader_cli.specs.Answer.{AnswersProgram, table, leaves, many_facts, many_jobs, AnswersPredicates, bad_line, read, AnswersText, unread, read_whole, AnswersUnread, fault, long, AnswersTables, alone, second_thread, with_predicates, HasFailingLine, TextKind, TablesTellSafety}
+use Rattle.threader_cli.specs.Answer.{AnswersProgram, table, leaves, many_facts, many_jobs, AnswersPredicates, bad_line, read, AnswersText, unread, read_whole, AnswersUnread, fault, long, AnswersTables, alone, with_predicates, HasFailingLine, TextKind, TablesTellSafety}
 
 -- ---- lines
 
@@ -70,7 +71,7 @@ none-failing program sets text i is none statement (fact, least, says) at =
     })
 
 -- where it is the table of what covers all runs, no run fails
-program-safe : {program : Program} {lists : List (List Row)} {status : ℕ} {text : List ℕ} → CoveredLeastIsSafe → AnswersProgram program lists status text → status ≡ 0 → ¬ HasFailingLine text
+program-safe : {limits : Limits} {program : Program} {lists : List (List Row)} {status : ℕ} {text : List ℕ} → CoveredLeastIsSafe → AnswersProgram limits program lists status text → status ≡ 0 → ¬ HasFailingLine text
     → NoRunFails program
 program-safe {program = program} {lists = lists} safe (table text is covers) done none =
     safe program Rg (sets_of program lists) covers (λ i. none-failing program (sets_of program lists) text i is none)
@@ -78,7 +79,7 @@ program-safe safe (leaves why) done none = cc
 program-safe safe (many_facts why) done none = cc
 program-safe safe (many_jobs why) done none = cc
 
-predicates-safe : {program : Program} {bytes : List ℕ} {status : ℕ} {text : List ℕ} → CoveredLeastIsSafe → AnswersPredicates program bytes status text → status ≡ 0 → ¬ HasFailingLine text
+predicates-safe : {limits : Limits} {program : Program} {bytes : List ℕ} {status : ℕ} {text : List ℕ} → CoveredLeastIsSafe → AnswersPredicates limits program bytes status text → status ≡ 0 → ¬ HasFailingLine text
     → NoRunFails program
 predicates-safe safe (bad_line n bad) done none = cc
 predicates-safe safe (read lists status text is answers) done none = program-safe safe answers done none
@@ -88,19 +89,18 @@ unread-other : {kind : TextKind} {name : List ℕ} {before after : StoreMeaning}
 unread-other (fault why) done = cc
 unread-other (long why) done = cc
 
-text-safe : {kind : TextKind} {program : Program} {name : List ℕ} {before after : StoreMeaning} {status : ℕ} {text : List ℕ} → CoveredLeastIsSafe
-    → AnswersText kind (AnswersPredicates program) name before after status text → status ≡ 0 → ¬ HasFailingLine text → NoRunFails program
+text-safe : {limits : Limits} {kind : TextKind} {program : Program} {name : List ℕ} {before after : StoreMeaning} {status : ℕ} {text : List ℕ} → CoveredLeastIsSafe
+    → AnswersText kind (AnswersPredicates limits program) name before after status text → status ≡ 0 → ¬ HasFailingLine text → NoRunFails program
 text-safe safe (unread status text why) done none = absurd (unread-other why done)
 text-safe safe (read_whole bytes status text within file answers) done none = predicates-safe safe answers done none
 
-tables-safe : {before after : StoreMeaning} {predicates : Option (List ℕ)} {program : Program} {status : ℕ} {text : List ℕ} → CoveredLeastIsSafe
-    → AnswersTables before after predicates program status text → status ≡ 0 → ¬ HasFailingLine text → NoRunFails program
+tables-safe : {limits : Limits} {before after : StoreMeaning} {predicates : Option (List ℕ)} {program : Program} {status : ℕ} {text : List ℕ} → CoveredLeastIsSafe
+    → AnswersTables limits before after predicates program status text → status ≡ 0 → ¬ HasFailingLine text → NoRunFails program
 tables-safe safe (alone program status text answers) done none = program-safe safe answers done none
-tables-safe safe (second_thread name program more) done none = cc
-tables-safe safe (with_predicates name program status text one answers) done none = text-safe safe answers done none
+tables-safe safe (with_predicates name program status text answers) done none = text-safe safe answers done none
 
 -- Where the text's program fails as the text does, a table tells of the text whether it is safe.
 pub tables-tell-safety : CoveredLeastIsSafe → TextsFailAlike → TablesTellSafety
-tables-tell-safety safe alike bytes tree program before after predicates status text is answers done none fails =
+tables-tell-safety safe alike bytes tree program limits before after predicates status text is answers done none fails =
     let run = (alike bytes tree program is).1 fails in
     tables-safe safe answers done none run.run run.last run.is_run run.fails

@@ -1,9 +1,9 @@
--- What the program answers: its words, the files that they name, and the status and text that follow from both.
-use Rattle.std.specs.Prelude.{◌≡◌, ◌<◌, ◌≤◌, ℕ, Bool, true, not, List, [], ◌∷◌, ◌++◌, length, replicate, Option, Some, None, codes, decimal, ◌==◌, IsTrue}
-use Rattle.std.specs.List.{list_all}
-use Rattle.thr_base.specs.Limits.{text_limit, default_facts, default_jobs}
+-- What the program answers: what its words ask for, the files that they name, and the status and text that follow from both.
+use Rattle.std.specs.Prelude.{◌≡◌, ◌≤◌, ℕ, List, [], ◌++◌, length, replicate, Option, Some, None, codes, decimal}
+use Rattle.thr_base.specs.Limits.{text_limit}
 use Rattle.thr_base.specs.Outside.{StoreMeaning, SinkMeaning, Appends, WritesFront}
 use Rattle.thr_base.specs.Reading.{IsFileNamed, StopsReading, KeepsFiles}
+use Rattle.thr_base.specs.declared.limits.Limits.{Limits}
 use Rattle.thr_base.specs.declared.names.RuleName.TheVariants.{Rg}
 use Rattle.thr_base.specs.declared.stops.ReadStop.TheVariants.{Fault, TooLong}
 use Rattle.thr_base.specs.declared.stops.Refusal.{Refusal}
@@ -22,24 +22,17 @@ use Rattle.annotation_form.specs.Predicates.{IsReadAs, IsTextOfPredicates}
 use Rattle.serial_fix.specs.Least.{LeastLeaves, HasMoreFacts, HasMoreInstances}
 use Rattle.thread_cfg.specs.Read.{IsProgramText, Refuses}
 use Rattle.thread_cfg.specs.Interleaving.{TextFails}
-use Rattle.threader_cli.specs.Refusals.{not_built_text}
+use Rattle.command_line.specs.Request.{Asks, Request, Tables}
 
--- ---- words
+-- ---- what is built of what words can ask for
 
--- A word that does not begin with `-`.
-abbrev pub is_operand : List ℕ → Bool
-is_operand [] = true
-is_operand (b ∷ bytes) = not (b == 45)
-
--- the names of the program's file and, where predicates are given, of theirs
-abbrev pub file_names : List ℕ → Option (List ℕ) → List (List ℕ)
-file_names program None = program ∷ []
-file_names program (Some predicates) = program ∷ predicates ∷ []
-
--- The words are `tables`, the name of a program's file, and perhaps that of a file of predicates.
-pub record NamesFiles (words : List (List ℕ)) (program : List ℕ) (predicates : Option (List ℕ)) : Type 0 where
-  pub words_are : words ≡ codes "tables" ∷ file_names program predicates
-  pub operands : IsTrue (list_all is_operand (file_names program predicates))
+-- The words ask for the tables by rely-guarantee of this program, with the predicates of that file if one is named, within these limits.
+pub record AsksTables (words : List (List ℕ)) (program : List ℕ) (predicates : Option (List ℕ)) (limits : Limits) : Type 0 where
+  pub request : Request
+  pub asked : Asks words request
+  pub tables : request.work ≡ Tables program predicates
+  pub rule : request.options.rule ≡ Rg
+  pub limits_are : request.options.limits ≡ limits
 
 -- ---- kinds of texts
 
@@ -75,22 +68,23 @@ limit_text what limit = codes "UNKNOWN " ++ what ++ codes " " ++ decimal limit +
 abbrev pub no_predicates : Program → List (List Row)
 no_predicates program = replicate (length (homes program)) []
 
--- The status and the text that follow from a program and the predicates of its homes, a list for each in the order of homes.
-pub data AnswersProgram (program : Program) (lists : List (List Row)) : ℕ → List ℕ → Type 0 where
+-- The status and the text that follow from a program and the predicates of its homes, a list for each in the order of homes, where a run
+-- may use so much.
+pub data AnswersProgram (limits : Limits) (program : Program) (lists : List (List Row)) : ℕ → List ℕ → Type 0 where
   -- The table is that of the least set of rely-guarantee, and what its facts say covers all runs.
   table : (text : List ℕ) → IsTable program Rg (sets_of program lists) text → Covers program (LeastSays program Rg (sets_of program lists))
-      → AnswersProgram program lists 0 text
+      → AnswersProgram limits program lists 0 text
   -- A system that decides an instance over the least set is left undecided.
-  leaves : LeastLeaves program lists → AnswersProgram program lists 4 (codes "UNKNOWN leaves\n")
+  leaves : LeastLeaves program lists → AnswersProgram limits program lists 4 (codes "UNKNOWN leaves\n")
   -- The least set has more facts, or there are more instances over it, than a run may use.
-  many_facts : HasMoreFacts program lists default_facts → AnswersProgram program lists 4 (limit_text (codes "facts") default_facts)
-  many_jobs : HasMoreInstances program lists default_jobs → AnswersProgram program lists 4 (limit_text (codes "jobs") default_jobs)
+  many_facts : HasMoreFacts program lists limits.facts → AnswersProgram limits program lists 4 (limit_text (codes "facts") limits.facts)
+  many_jobs : HasMoreInstances program lists limits.jobs → AnswersProgram limits program lists 4 (limit_text (codes "jobs") limits.jobs)
 
 -- The status and the text that follow from a program and the bytes of a file of predicates.
-pub data AnswersPredicates (program : Program) (bytes : List ℕ) : ℕ → List ℕ → Type 0 where
-  bad_line : (n : ℕ) → IsBadLine (IsTextOfPredicates program) bytes n → AnswersPredicates program bytes 3 (bad_line_text predicates_text n)
-  read : (lists : List (List Row)) (status : ℕ) (text : List ℕ) → IsReadAs program bytes lists → AnswersProgram program lists status text
-      → AnswersPredicates program bytes status text
+pub data AnswersPredicates (limits : Limits) (program : Program) (bytes : List ℕ) : ℕ → List ℕ → Type 0 where
+  bad_line : (n : ℕ) → IsBadLine (IsTextOfPredicates program) bytes n → AnswersPredicates limits program bytes 3 (bad_line_text predicates_text n)
+  read : (lists : List (List Row)) (status : ℕ) (text : List ℕ) → IsReadAs program bytes lists → AnswersProgram limits program lists status text
+      → AnswersPredicates limits program bytes status text
 
 -- ---- what a table says of the program's text
 
@@ -129,40 +123,39 @@ pub data AnswersProgramText (OfProgram : Program → ℕ → List ℕ → Type 0
 -- ---- tables
 
 -- The status and the text that follow from the name of a file of predicates, if one is given, and a program.
-pub data AnswersTables (before after : StoreMeaning) : Option (List ℕ) → Program → ℕ → List ℕ → Type 0 where
-  alone : (program : Program) (status : ℕ) (text : List ℕ) → AnswersProgram program (no_predicates program) status text
-      → AnswersTables before after None program status text
-  -- Predicates are taken for programs of one thread alone.
-  second_thread : (name : List ℕ) (program : Program) → 1 < length program.threads
-      → AnswersTables before after (Some name) program 3 (refusal_text not_built_text)
-  with_predicates : (name : List ℕ) (program : Program) (status : ℕ) (text : List ℕ) → length program.threads ≤ 1
-      → AnswersText predicates_text (AnswersPredicates program) name before after status text
-      → AnswersTables before after (Some name) program status text
+pub data AnswersTables (limits : Limits) (before after : StoreMeaning) : Option (List ℕ) → Program → ℕ → List ℕ → Type 0 where
+  alone : (program : Program) (status : ℕ) (text : List ℕ) → AnswersProgram limits program (no_predicates program) status text
+      → AnswersTables limits before after None program status text
+  with_predicates : (name : List ℕ) (program : Program) (status : ℕ) (text : List ℕ)
+      → AnswersText predicates_text (AnswersPredicates limits program) name before after status text
+      → AnswersTables limits before after (Some name) program status text
 
 -- What is answered of a program tells of its text whether it is safe.
 abbrev pub TablesTellSafety : Type 0
-TablesTellSafety = (bytes : List ℕ) (tree : Tree) (program : Program) (before after : StoreMeaning) (predicates : Option (List ℕ)) (status : ℕ) (text : List ℕ)
-    → IsProgramText bytes tree program → AnswersTables before after predicates program status text → TellsSafety tree status text
+TablesTellSafety = (bytes : List ℕ) (tree : Tree) (program : Program) (limits : Limits) (before after : StoreMeaning) (predicates : Option (List ℕ)) (status : ℕ) (text : List ℕ)
+    → IsProgramText bytes tree program → AnswersTables limits before after predicates program status text → TellsSafety tree status text
 
 -- The status and the text that follow from the name of a program's file and, if one is given, that of a file of predicates.
-abbrev pub AnswersFiles : StoreMeaning → StoreMeaning → List ℕ → Option (List ℕ) → ℕ → List ℕ → Type 0
-AnswersFiles before after program predicates =
-    AnswersText program_text (AnswersProgramText (AnswersTables before after predicates)) program before after
+abbrev pub AnswersFiles : Limits → StoreMeaning → StoreMeaning → List ℕ → Option (List ℕ) → ℕ → List ℕ → Type 0
+AnswersFiles limits before after program predicates =
+    AnswersText program_text (AnswersProgramText (AnswersTables limits before after predicates)) program before after
 
 -- ---- calls
 
 -- The status and the text that follow from the words and the store.
 pub data Answers (words : List (List ℕ)) (before after : StoreMeaning) : ℕ → List ℕ → Type 0 where
-  usage : ((program : List ℕ) (predicates : Option (List ℕ)) → ¬ (NamesFiles words program predicates)) → Answers words before after 2 usage_text
-  named : (program : List ℕ) (predicates : Option (List ℕ)) (status : ℕ) (text : List ℕ) → NamesFiles words program predicates
-      → AnswersFiles before after program predicates status text → Answers words before after status text
+  -- The words are refused, or ask for what is not built.
+  usage : ((program : List ℕ) (predicates : Option (List ℕ)) (limits : Limits) → ¬ (AsksTables words program predicates limits)) → Answers words before after 2 usage_text
+  tables : (program : List ℕ) (predicates : Option (List ℕ)) (limits : Limits) (status : ℕ) (text : List ℕ) → AsksTables words program predicates limits
+      → AnswersFiles limits before after program predicates status text → Answers words before after status text
 
 -- How a call ends, by its status: its whole answer was written; the sink failed behind a front of it; or there was no memory, and
 -- nothing was written.
 pub data Ends (words : List (List ℕ)) (before after : StoreMeaning) (old new : SinkMeaning) : ℕ → Type 0 where
   whole : (status : ℕ) (text : List ℕ) → Answers words before after status text → Appends old text new → Ends words before after old new status
   write_fault : (status : ℕ) (text : List ℕ) → Answers words before after status text → WritesFront old text new → Ends words before after old new 6
-  no_memory : (program : List ℕ) (predicates : Option (List ℕ)) → NamesFiles words program predicates → new ≡ old → Ends words before after old new 7
+  no_memory : (program : List ℕ) (predicates : Option (List ℕ)) (limits : Limits) → AsksTables words program predicates limits → new ≡ old
+      → Ends words before after old new 7
 
 -- What stays in a call: the store's files and its honesty. No count of the store or of the sink falls.
 pub record Frame (before after : StoreMeaning) (old new : SinkMeaning) : Type 0 where

@@ -6,7 +6,7 @@ ghost use Rattle.threader_cli.specs.Answer as specs;
 ghost use Rattle.threader_cli.specs.Answer.{predicates_text, no_predicates, limit_text, AnswersFiles, AnswersPredicates, AnswersProgram, AnswersProgramText, AnswersTables, AnswersText, Ends, Frame, TablesTellSafety};
 ghost use Rattle.threader_cli.specs.inside.Parts.{names, IsReadText, Wrote};
 
-use crate::words::{Files, tables_files};
+use crate::words::{Asked, tables_asked};
 use annotation_form::read_predicates;
 use horn_rules::{home_count, table, where_nothing_fails_no_run_does};
 use itoa::Buffer;
@@ -14,19 +14,10 @@ use predicate_sets::Sets;
 use serial_fix::{LeastAnswer, least};
 use std::alloc::{AllocError, Global};
 use thr_base::{
-    DEFAULT_LIMITS, Failed, LineStop, NOT_BUILT, ReadStop, Refusal, Sink, Stop, Store, TEXT_LIMIT,
-    read_all, write_all,
+    Failed, Limits, LineStop, ReadStop, Refusal, Sink, Stop, Store, TEXT_LIMIT, read_all, write_all,
 };
 use thread_cfg::{read_program, texts_fail_alike};
 use transition_formula::Program;
-
-/// How many threads a program may have for which predicates are given.
-const MOST_READ_THREADS: u32 = 1;
-
-const SECOND_THREAD: Refusal = Refusal {
-    code: NOT_BUILT,
-    place: 0,
-};
 
 /// All that the program does for its words: the answer goes to the sink, and the result is the status.
 pub fn threader_serial<S: Store, K: Sink>(
@@ -38,14 +29,14 @@ pub fn threader_serial<S: Store, K: Sink>(
     ensures ends { Ends (map string_bytes words.now) (S.meaning store.old) (S.meaning store.new) (K.meaning out.old) (K.meaning out.new) result }
     ensures frame { Frame (S.meaning store.old) (S.meaning store.new) (K.meaning out.old) (K.meaning out.new) }
 {
-    let Some(files) = tables_files(words) else {
+    let Some(asked) = tables_asked(words) else {
         return write(
             out,
             2,
             b"usage: threader verify|tables|check|replay|generate|bench|help\n",
         );
     };
-    match answer_files(alloc, &files, store) {
+    match answer_files(alloc, &asked, store) {
         Ok(answer) => write(out, answer.status, &answer.text),
         Err(AllocError) => 7,
     }
@@ -111,15 +102,15 @@ fn too_long(alloc: Global, label: &str) -> Result<Answer, AllocError>
 /// The answer to the files of these names.
 fn answer_files<S: Store>(
     alloc: Global,
-    files: &Files<'_>,
+    asked: &Asked<'_>,
     store: &mut S,
 ) -> Result<Answer, AllocError>
-    ensures answer { IfOk result (λ answer. AnswersFiles (S.meaning store.old) (S.meaning store.new) files.now.program.now (names files.now.predicates) answer.status answer.text.items) }
+    ensures answer { IfOk result (λ answer. AnswersFiles asked.now.limits (S.meaning store.old) (S.meaning store.new) asked.now.program.now (names asked.now.predicates) answer.status answer.text.items) }
     ensures kept { KeepsFiles (S.meaning store.old) (S.meaning store.new) }
 {
-    let text = read_text(alloc, store, "program", TEXT_LIMIT, files.program)?;
+    let text = read_text(alloc, store, "program", TEXT_LIMIT, asked.program)?;
     match text {
-        Text::Whole(bytes) => answer_program(alloc, &bytes, files.predicates, store),
+        Text::Whole(bytes) => answer_program(alloc, &bytes, asked.predicates, asked.limits, store),
         Text::Unread(answer) => Ok(answer),
     }
 }
@@ -129,16 +120,17 @@ fn answer_program<S: Store>(
     alloc: Global,
     bytes: &[u8],
     predicates: Option<&str>,
+    limits: Limits,
     store: &mut S,
 ) -> Result<Answer, AllocError>
     requires { length bytes.now ≤ text_limit }
-    ensures answer { IfOk result (λ answer. AnswersProgramText (AnswersTables (S.meaning store.old) (S.meaning store.new) (names predicates.entry)) bytes.now answer.status answer.text.items) }
+    ensures answer { IfOk result (λ answer. AnswersProgramText (AnswersTables limits (S.meaning store.old) (S.meaning store.new) (names predicates.entry)) bytes.now answer.status answer.text.items) }
     ensures kept { KeepsFiles (S.meaning store.old) (S.meaning store.new) }
 {
     match read_program(alloc, bytes) {
         Ok(program) => {
             tables_tell_safety();
-            answer_tables(alloc, &program, predicates, store)
+            answer_tables(alloc, &program, predicates, limits, store)
         }
         Err(Stop::Refused(refusal)) => refused(alloc, refusal),
         Err(Stop::Memory) => Err(AllocError),
@@ -169,24 +161,24 @@ fn answer_tables<S: Store>(
     alloc: Global,
     program: &Program,
     predicates: Option<&str>,
+    limits: Limits,
     store: &mut S,
 ) -> Result<Answer, AllocError>
-    ensures answer { IfOk result (λ answer. AnswersTables (S.meaning store.old) (S.meaning store.new) (names predicates.entry) program.now answer.status answer.text.items) }
+    ensures answer { IfOk result (λ answer. AnswersTables limits (S.meaning store.old) (S.meaning store.new) (names predicates.entry) program.now answer.status answer.text.items) }
     ensures kept { KeepsFiles (S.meaning store.old) (S.meaning store.new) }
 {
     match predicates {
-        None => alone(alloc, program),
-        Some(_) if program.threads() > MOST_READ_THREADS => refused(alloc, SECOND_THREAD),
-        Some(name) => second(alloc, program, name, store),
+        None => alone(alloc, program, limits),
+        Some(name) => second(alloc, program, name, limits, store),
     }
 }
 
 /// The answer to a program without predicates.
-fn alone(alloc: Global, program: &Program) -> Result<Answer, AllocError>
-    ensures { IfOk result (λ answer. AnswersProgram program.now (no_predicates program.now) answer.status answer.text.items) }
+fn alone(alloc: Global, program: &Program, limits: Limits) -> Result<Answer, AllocError>
+    ensures { IfOk result (λ answer. AnswersProgram limits program.now (no_predicates program.now) answer.status answer.text.items) }
 {
     let sets = Sets::new(alloc, home_count(program))?;
-    tables(alloc, program, &sets)
+    tables(alloc, program, &sets, limits)
 }
 
 /// The answer to a program with the predicates in a file of this name.
@@ -194,25 +186,31 @@ fn second<S: Store>(
     alloc: Global,
     program: &Program,
     name: &str,
+    limits: Limits,
     store: &mut S,
 ) -> Result<Answer, AllocError>
-    ensures answer { IfOk result (λ answer. AnswersText predicates_text (AnswersPredicates program.now) name.now (S.meaning store.old) (S.meaning store.new) answer.status answer.text.items) }
+    ensures answer { IfOk result (λ answer. AnswersText predicates_text (AnswersPredicates limits program.now) name.now (S.meaning store.old) (S.meaning store.new) answer.status answer.text.items) }
     ensures kept { KeepsFiles (S.meaning store.old) (S.meaning store.new) }
 {
     let text = read_text(alloc, store, "predicates", TEXT_LIMIT, name)?;
     match text {
-        Text::Whole(bytes) => with_predicates(alloc, program, &bytes),
+        Text::Whole(bytes) => with_predicates(alloc, program, &bytes, limits),
         Text::Unread(answer) => Ok(answer),
     }
 }
 
 /// The answer to a program with the predicates that the bytes are the text of.
-fn with_predicates(alloc: Global, program: &Program, bytes: &[u8]) -> Result<Answer, AllocError>
+fn with_predicates(
+    alloc: Global,
+    program: &Program,
+    bytes: &[u8],
+    limits: Limits,
+) -> Result<Answer, AllocError>
     requires { length bytes.now ≤ text_limit }
-    ensures { IfOk result (λ answer. AnswersPredicates program.now bytes.now answer.status answer.text.items) }
+    ensures { IfOk result (λ answer. AnswersPredicates limits program.now bytes.now answer.status answer.text.items) }
 {
     match read_predicates(alloc, program, bytes) {
-        Ok(sets) => tables(alloc, program, &sets),
+        Ok(sets) => tables(alloc, program, &sets, limits),
         Err(LineStop::BadLine(line)) => bad_line(alloc, "predicates", line),
         Err(LineStop::Memory) => Err(AllocError),
     }
@@ -229,18 +227,23 @@ fn bad_line(alloc: Global, label: &str, line: u32) -> Result<Answer, AllocError>
 }
 
 /// The table of the least set, where homes have these predicates.
-fn tables(alloc: Global, program: &Program, sets: &Sets) -> Result<Answer, AllocError>
+fn tables(
+    alloc: Global,
+    program: &Program,
+    sets: &Sets,
+    limits: Limits,
+) -> Result<Answer, AllocError>
     requires { AreStoredSetsOf program.now sets.now }
-    ensures { IfOk result (λ answer. AnswersProgram program.now sets.now answer.status answer.text.items) }
+    ensures { IfOk result (λ answer. AnswersProgram limits program.now sets.now answer.status answer.text.items) }
 {
-    match least(alloc, program, sets, DEFAULT_LIMITS)? {
+    match least(alloc, program, sets, limits)? {
         LeastAnswer::Facts(facts) => Ok(Answer {
             status: 0,
             text: table(alloc, program, &facts)?,
         }),
         LeastAnswer::Leaves => said(alloc, 4, b"UNKNOWN leaves\n"),
-        LeastAnswer::TooManyFacts => too_low(alloc, "facts", DEFAULT_LIMITS.facts),
-        LeastAnswer::TooManyJobs => too_low(alloc, "jobs", DEFAULT_LIMITS.jobs),
+        LeastAnswer::TooManyFacts => too_low(alloc, "facts", limits.facts),
+        LeastAnswer::TooManyJobs => too_low(alloc, "jobs", limits.jobs),
     }
 }
 

@@ -1,51 +1,39 @@
-ghost use Rattle.std.specs.Prelude.{◌≡◌, ℕ, List, Option, map, codes, bytes_eq, string_bytes, option_map, IfSome, IfNone};
-ghost use Rattle.threader_cli.specs.Answer as specs;
-ghost use Rattle.threader_cli.specs.Answer.{NamesFiles};
+ghost use Rattle.std.specs.Prelude.{ℕ, List, Option, map, string_bytes, option_map, IfSome, IfNone};
+ghost use Rattle.thr_base.specs.declared.limits.Limits.{Limits as SpecLimits};
+ghost use Rattle.threader_cli.specs.Answer.{AsksTables};
 
-/// The names of the files that a call reads.
+use command_line::{Work, read_words, words_ask_for_one};
+use thr_base::{Limits, RuleName};
+
+/// The names of the files that a call reads, and what its run may use.
 #[derive(Clone, Copy)]
-pub struct Files<'a> {
+pub struct Asked<'a> {
     pub program: &'a str,
     pub predicates: Option<&'a str>,
+    pub limits: Limits,
 }
 
-/// The files that the words ask the tables of.
-pub fn tables_files(words: &[String]) -> Option<Files<'_>>
-    ensures named { IfSome result (λ files. NamesFiles (map string_bytes words.now) files.program.now (option_map (λ name. name.now) files.predicates)) }
-    ensures refused { IfNone result ((program : List ℕ) (predicates : Option (List ℕ)) → NamesFiles (map string_bytes words.now) program predicates → ⊥) }
+/// What the words ask of the tables by rely-guarantee. All else that words can ask for is not built.
+pub fn tables_asked(words: &[String]) -> Option<Asked<'_>>
+    ensures asked { IfSome result (λ asked. AsksTables (map string_bytes words.now) asked.program.now (option_map (λ name. name.now) asked.predicates) asked.limits) }
+    ensures refused { IfNone result ((program : List ℕ) (predicates : Option (List ℕ)) (limits : SpecLimits) → AsksTables (map string_bytes words.now) program predicates limits → ⊥) }
 {
-    match words {
-        [command, program] if is_tables(command.as_str()) && is_operand(program.as_str()) => Some(
-            Files {
-                program: program.as_str(),
-                predicates: None,
-            },
-        ),
-        [command, program, predicates]
-            if is_tables(command.as_str())
-                && is_operand(program.as_str())
-                && is_operand(predicates.as_str()) => {
-            Some(Files {
-                program: program.as_str(),
-                predicates: Some(predicates.as_str()),
-            })
-        }
-        _ => None,
-    }
-}
-
-fn is_tables(word: &str) -> bool
-    ensures { result ≡ bytes_eq word.now (codes "tables") }
-{
-    word == "tables"
-}
-
-/// Whether a word does not begin with `-`.
-fn is_operand(word: &str) -> bool
-    ensures { result ≡ specs.is_operand word.now }
-{
-    match word.as_bytes() {
-        [] => true,
-        [first, ..] => *first != b'-',
+    words_ask_for_one();
+    let request = read_words(words)?;
+    match request.work {
+        Work::Tables(program, predicates) => match request.options.rule {
+            RuleName::Rg => Some(Asked {
+                program,
+                predicates,
+                limits: request.options.limits,
+            }),
+            RuleName::Og => None,
+        },
+        Work::Verify(_) => None,
+        Work::Check(..) => None,
+        Work::Replay(..) => None,
+        Work::Generate(_) => None,
+        Work::Bench(_) => None,
+        Work::Help => None,
     }
 }

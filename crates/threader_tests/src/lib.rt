@@ -22,4 +22,6 @@ mod shapes;
 #[cfg(test)]
 mod tables;
 #[cfg(test)]
+mod threads;
+#[cfg(test)]
 mod words;

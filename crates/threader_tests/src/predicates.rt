@@ -22,14 +22,14 @@ s 1 5 : t1.i - t1.j <= 1, s 1 5 : -t1.i + t1.j <= -1, s 1 6 : t1.j <= 5, s 1 6 :
 s 1 1 :, s 1 2 : 1 2, s 1 3 : 1 2, s 1 4 : 1 2, s 1 5 : 1 2, s 1 6 : 1 2, s 1 7 :, e 1 1 :, e 1 2 :, e 1 3 :, e 1 4 :, e 1 5 :, e 1 6 :, e 1 7 :, e 1 8 :";
 
 /// A text of lines that end with commas, but for the last, which is `end`.
-fn lines(alloc: Global, text: &str) -> Result<String, AllocError> {
+pub fn lines(alloc: Global, text: &str) -> Result<String, AllocError> {
     let mut lines = text.replace(alloc, ", ", "\n")?.replace(alloc, ",", "\n")?;
     lines.push_str("end\n")?;
     Ok(lines)
 }
 
 /// The table of lines that are parted by commas.
-fn table(alloc: Global, text: &str) -> Result<String, AllocError> {
+pub fn table(alloc: Global, text: &str) -> Result<String, AllocError> {
     let mut table = text.replace(alloc, ", ", "\n")?;
     table.push_str("\nend\n")?;
     Ok(table)

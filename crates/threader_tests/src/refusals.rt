@@ -1,6 +1,6 @@
 //! One refusal of each rule, at its place.
 
-use crate::runs::{NOT_BUILT, one, run, run_bytes, run_with, two};
+use crate::runs::{one, run, run_bytes, run_with, two};
 use std::test::Fail;
 
 #[test]
@@ -73,9 +73,9 @@ fn the_greatest_first_value_is_read(rt: HostRuntime) -> Result<(), Fail> {
 }
 
 #[test]
-fn predicates_of_two_threads_are_refused_behind_the_program(rt: HostRuntime) -> Result<(), Fail> {
+fn predicates_are_read_behind_the_program(rt: HostRuntime) -> Result<(), Fail> {
     let sum = "int l; l = 170141183460469231731687303715884105727 + 1;";
-    for (body, answer) in [("", NOT_BUILT), (sum, "program E13 31\n")] {
+    for (body, answer) in [("", "predicates line 1\n"), (sum, "program E13 31\n")] {
         let text = two(rt.alloc(), "", body, "")?;
         let (status, written) = run_with(rt.alloc(), &text, "no predicates")?;
         assert_eq!(rt; written.as_str(), answer, "{body}");

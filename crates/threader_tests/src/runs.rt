@@ -10,8 +10,6 @@ pub const ASSIGNS_ONCE: &str = "int x;\nvoid *f(void *a) { x = 1; }\n\
 
 pub const ITS_TABLE: &str = "s 1 1 :\ns 1 2 :\ne 1 1 :\nend\n";
 
-pub const NOT_BUILT: &str = "program E14 0\n";
-
 /// A program of these declarations, and one thread that does this.
 pub fn one(alloc: Global, globals: &str, body: &str) -> Result<String, Fail> {
     Ok(format!(in alloc;

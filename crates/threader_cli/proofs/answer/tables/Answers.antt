@@ -1,32 +1,26 @@
 use Rattle.std.proofs.Common.{subst}
-use Rattle.thr_base.specs.Limits.{default_facts, default_jobs, default_nodes, default_refinements}
-use Rattle.thr_base.specs.declared.limits.Limits.{Limits}
 use Rattle.serial_fix.specs.Least.{IsLeastAnswer}
 use Rattle.threader_cli.proofs.AnswerLemmas.{said, table-answers}
 use Rattle.threader_cli.specs.Answer.{AnswersProgram, leaves, many_facts, many_jobs}
 use Rattle.threader_cli.proofs.answer.tables.Goals as goal
 
--- what a run may use where nothing else is asked
-abbrev limits : Limits
-limits = record { facts = default_facts; jobs = default_jobs; refinements = default_refinements; tree = default_nodes }
-
 pub returns-in_ok-table-in-Facts : goal.returns-in_ok-table-in-Facts
 returns-in_ok-table-in-Facts c =
-    let least = subst (IsLeastAnswer c.args.program.now c.args.sets.now limits) c.in-Facts.is c.in_ok-facts.ensures in
-    table-answers c.args.program.now c.args.sets.now c.in-Facts.facts.items c.deref.result.now c.in_ok-table-in-Facts.field-0.items least c.deref.ensures.value
+    let least = subst (IsLeastAnswer c.args.program.now c.args.sets.now c.args.limits) c.in-Facts.is c.in_ok-facts.ensures in
+    table-answers c.args.limits c.args.program.now c.args.sets.now c.in-Facts.facts.items c.deref.result.now c.in_ok-table-in-Facts.field-0.items least c.deref.ensures.value
     c.in_ok-table-in-Facts.ensures.least
 
 pub returns-in-Leaves : goal.returns-in-Leaves
 returns-in-Leaves c =
-    let undecided = subst (IsLeastAnswer c.args.program.now c.args.sets.now limits) c.in-Leaves.is c.in_ok-facts.ensures in
-    said (AnswersProgram c.args.program.now c.args.sets.now) c.said.result 4 _ c.said.ensures (leaves undecided)
+    let undecided = subst (IsLeastAnswer c.args.program.now c.args.sets.now c.args.limits) c.in-Leaves.is c.in_ok-facts.ensures in
+    said (AnswersProgram c.args.limits c.args.program.now c.args.sets.now) c.said.result 4 _ c.said.ensures (leaves undecided)
 
 pub returns-in-TooManyFacts : goal.returns-in-TooManyFacts
 returns-in-TooManyFacts c =
-    let more = subst (IsLeastAnswer c.args.program.now c.args.sets.now limits) c.in-TooManyFacts.is c.in_ok-facts.ensures in
-    said (AnswersProgram c.args.program.now c.args.sets.now) c.too_low.result 4 _ c.too_low.ensures (many_facts more)
+    let more = subst (IsLeastAnswer c.args.program.now c.args.sets.now c.args.limits) c.in-TooManyFacts.is c.in_ok-facts.ensures in
+    said (AnswersProgram c.args.limits c.args.program.now c.args.sets.now) c.too_low.result 4 _ c.too_low.ensures (many_facts more)
 
 pub returns-in-TooManyJobs : goal.returns-in-TooManyJobs
 returns-in-TooManyJobs c =
-    let more = subst (IsLeastAnswer c.args.program.now c.args.sets.now limits) c.in-TooManyJobs.is c.in_ok-facts.ensures in
-    said (AnswersProgram c.args.program.now c.args.sets.now) c.too_low-in-TooManyJobs.result 4 _ c.too_low-in-TooManyJobs.ensures (many_jobs more)
+    let more = subst (IsLeastAnswer c.args.program.now c.args.sets.now c.args.limits) c.in-TooManyJobs.is c.in_ok-facts.ensures in
+    said (AnswersProgram c.args.limits c.args.program.now c.args.sets.now) c.too_low-in-TooManyJobs.result 4 _ c.too_low-in-TooManyJobs.ensures (many_jobs more)
