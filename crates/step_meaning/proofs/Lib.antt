@@ -5,3 +5,4 @@ pub mod Outcomes
 pub mod Order
 pub mod InitialStates
 pub mod KnownEdges
+pub mod AddingProgram

@@ -1,18 +1,15 @@
-ghost use Rattle.std.specs.Prelude.{◌≡◌, IfOk};
-ghost use Rattle.std.specs.List.{AllByRecursion};
+ghost use Rattle.std.specs.Prelude.{◌≡◌, ◌∷◌, [], map, IfOk};
 ghost use Rattle.thr_base.specs.Number.{Fits};
-ghost use Rattle.lin_rows.specs.System.{IsRowOver};
-ghost use Rattle.transition_formula.specs.Program.{IsFormOver};
-ghost use Rattle.transition_formula.specs.Stored.{edge_of};
+ghost use Rattle.transition_formula.specs.Stored.{column_of, edge_of, thread_of};
 ghost use Rattle.transition_formula.specs.inside.Worked.{worked_program};
+ghost use Rattle.step_meaning.specs.inside.Adding.{adding_columns, adding_edge, adding_program, adding_thread};
 
 use super::*;
-use crate::look::first_stop;
 use lin_rows::Rows;
 use std::alloc::{AllocError, Global};
 use std::test::Fail;
 use thr_base::{EdgeNo, Loc, ThreadNo};
-use transition_formula::{Edge, Line, Program, two_threads};
+use transition_formula::{Column, Edge, Line, Program, ThreadGraph, two_threads};
 
 /// The least power of 2 whose double does not fit.
 const HALF: i128 = 85070591730234615865843651857942052864;
@@ -101,11 +98,28 @@ fn steps_whose_numbers_do_not_fit(rt: HostRuntime) -> Result<(), Fail> {
     Ok(())
 }
 
-/// Where `x <= bound`, it adds 1 to x. The counter is the second column.
+/// x and the counter of one thread.
+fn columns(alloc: Global) -> Result<Vec<Column>, AllocError>
+    ensures { IfOk result (λ made. map column_of made.items ≡ adding_columns) }
+{
+    let mut columns = Vec::new(alloc);
+    columns.push(Column {
+        text: Vec::from_slice(alloc, b"x")?,
+        owner: None,
+        start: Some(0),
+    })?;
+    columns.push(Column {
+        text: Vec::from_slice(alloc, b"t1.$pc")?,
+        owner: Some(ThreadNo(1)),
+        start: Some(1),
+    })?;
+    Ok(columns)
+}
+
+/// Where `x <= bound`, it adds 1 to x.
 fn adds_one(alloc: Global, bound: i128) -> Result<Edge, AllocError>
     requires { Fits bound }
-    ensures tests { IfOk result (λ edge. AllByRecursion (IsRowOver 2) (edge_of edge).tests) }
-    ensures sets { IfOk result (λ edge. AllByRecursion (λ set. IsFormOver 2 set.1) (edge_of edge).sets) }
+    ensures { IfOk result (λ edge. edge_of edge ≡ adding_edge bound) }
 {
     let mut tests = Rows::new(alloc, 2);
     tests.push(false, &[1, 0], bound)?;
@@ -127,12 +141,51 @@ fn adds_one(alloc: Global, bound: i128) -> Result<Edge, AllocError>
     })
 }
 
+fn threads(alloc: Global, bound: i128) -> Result<Vec<ThreadGraph>, AllocError>
+    requires { Fits bound }
+    ensures { IfOk result (λ made. map thread_of made.items ≡ adding_thread bound ∷ []) }
+{
+    let mut edges = Vec::new(alloc);
+    edges.push(adds_one(alloc, bound)?)?;
+    let mut threads = Vec::new(alloc);
+    threads.push(ThreadGraph {
+        counter: 1,
+        locations: 3,
+        edges,
+    })?;
+    Ok(threads)
+}
+
+/// One thread, which adds 1 to x where `x <= bound`.
+fn adding(alloc: Global, bound: i128) -> Result<Program, AllocError>
+    requires { Fits bound }
+    ensures { IfOk result (λ program. program ≡ adding_program bound) }
+{
+    let columns = columns(alloc)?;
+    let threads = threads(alloc, bound)?;
+    Ok(Program::new(columns, threads))
+}
+
+fn add(program: &Program, bound: i128, state: [i128; 2]) -> (StepAnswer, [i128; 2])
+    requires { program.now ≡ adding_program bound }
+{
+    let mut next = [7, 7];
+    let answer = step(program, &state, ThreadNo(1), EdgeNo(1), &[], &mut next);
+    (answer, next)
+}
+
 #[test]
 fn a_false_test_before_a_set_that_does_not_fit(rt: HostRuntime) -> Result<(), Fail> {
-    let blocked = adds_one(rt.alloc(), 5)?;
-    let overflows = adds_one(rt.alloc(), GREATEST)?;
-    assert!(rt; first_stop(1, &blocked, &[GREATEST, 1], &[]) == Some(false));
-    assert!(rt; first_stop(1, &overflows, &[GREATEST, 1], &[]) == None);
-    assert!(rt; first_stop(1, &blocked, &[5, 1], &[]) == Some(true));
+    let program = adding(rt.alloc(), 5)?;
+    let blocked = add(&program, 5, [GREATEST, 1]);
+    assert!(rt; blocked.0 == StepAnswer::Blocked);
+    assert!(rt; blocked.1.as_slice() == [7, 7].as_slice());
+    let added = add(&program, 5, [5, 1]);
+    assert!(rt; added.0 == StepAnswer::Next);
+    assert!(rt; added.1.as_slice() == [6, 2].as_slice());
+    let other = adding(rt.alloc(), GREATEST)?;
+    let overflows = add(&other, GREATEST, [GREATEST, 1]);
+    assert!(rt; overflows.0 == StepAnswer::Overflow);
+    assert!(rt; overflows.1.as_slice() == [7, 7].as_slice());
     Ok(())
 }
