@@ -176,9 +176,10 @@ fn homes_that_do_not_exist_are_refused(rt: HostRuntime) -> Result<(), Fail> {
 fn many(alloc: Global, count: u32) -> Result<(String, String), Fail> {
     let mut predicates = String::new(alloc);
     let mut positions = String::new(alloc);
-    for k in 1..count + 1 {
-        predicates.push_str(&format!(in alloc; "s 1 2 : x <= {k}\n")?)?;
-        positions.push_str(&format!(in alloc; " {k}")?)?;
+    for k in 0..count {
+        let position = k + 1;
+        predicates.push_str(&format!(in alloc; "s 1 2 : x <= {position}\n")?)?;
+        positions.push_str(&format!(in alloc; " {position}")?)?;
     }
     predicates.push_str("end\n")?;
     Ok((predicates, positions))
