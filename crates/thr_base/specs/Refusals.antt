@@ -60,10 +60,6 @@ atomic_body = 12
 abbrev pub coefficient : ℕ
 coefficient = 13
 
--- The text is in the profile, and what it needs is not built yet.
-abbrev pub not_built : ℕ
-not_built = 14
-
 -- ---- which comes first
 
 -- The refusal at the lower place comes first, at one place that with the lower code.

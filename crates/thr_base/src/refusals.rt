@@ -1,5 +1,5 @@
 ghost use Rattle.std.specs.Prelude.{◌≡◌, ◌↔◌, IsTrue};
-ghost use Rattle.thr_base.specs.Refusals.{Precedes, not_text, bad_byte, bad_number, expected, not_in_profile, unknown_name, twice_named, not_linear, bad_main, no_thread, too_many, atomic_body, coefficient, not_built};
+ghost use Rattle.thr_base.specs.Refusals.{Precedes, not_text, bad_byte, bad_number, expected, not_in_profile, unknown_name, twice_named, not_linear, bad_main, no_thread, too_many, atomic_body, coefficient};
 
 use crate::stops::Refusal;
 
@@ -42,9 +42,6 @@ pub const ATOMIC_BODY: u8 = 12;
 /// A number of a linear form or of its rows does not fit.
 pub const COEFFICIENT: u8 = 13;
 
-/// The text is in the profile, and what it needs is not built yet.
-pub const NOT_BUILT: u8 = 14;
-
 /// Whether the first of two refusals of a text is the one to name: that at the lower place, at one place that with the lower code.
 pub fn is_earlier(one: Refusal, other: Refusal) -> bool
     ensures { IsTrue result ↔ Precedes one other }
@@ -67,5 +64,4 @@ pub fn codes_are_as_defined()
     ensures too_many { TOO_MANY ≡ too_many }
     ensures atomic_body { ATOMIC_BODY ≡ atomic_body }
     ensures coefficient { COEFFICIENT ≡ coefficient }
-    ensures not_built { NOT_BUILT ≡ not_built }
 {}

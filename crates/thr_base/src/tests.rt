@@ -232,7 +232,7 @@ fn the_lower_place_comes_first(rt: HostRuntime) {
 
 #[test]
 fn stops_say_why(rt: HostRuntime) -> Result<(), Fail> {
-    let refused = Stop::Refused(Refusal { code: 14, place: 3 });
+    let refused = Stop::Refused(Refusal { code: 13, place: 3 });
     let said = format!(in rt.alloc();
         "{refused}; {}; {}",
         LineStop::BadLine(2),
@@ -240,7 +240,7 @@ fn stops_say_why(rt: HostRuntime) -> Result<(), Fail> {
     )?;
     assert_eq!(rt;
         said.as_str(),
-        "E14 at byte 3; line 2 is not allowed; the file is too long"
+        "E13 at byte 3; line 2 is not allowed; the file is too long"
     );
     Ok(())
 }
