@@ -8,10 +8,10 @@ use Rattle.std.proofs.lemmas.Nat.Bits.{bit_at_above}
 use Rattle.thr_base.specs.Held.{holds}
 use Rattle.lin_rows.specs.Row.{Row}
 use Rattle.lin_rows.specs.System.{System}
-use Rattle.farkas_cert.specs.Proof.{denying}
+use Rattle.farkas_cert.specs.Proof.{with_denial}
 use Rattle.farkas_cert.specs.declared.answers.LeaveKind.{LeaveKind}
 use Rattle.rational_entail.specs.Entailment.{leave_of}
-use Rattle.transition_formula.specs.Program.{numbered}
+use Rattle.transition_formula.specs.Program.{at_number}
 use Rattle.abstract_post.specs.Left.{first_leave}
 use Rattle.abstract_post.specs.inside.Found.{Tells, IsDecidedAt, AreDecided}
 
@@ -19,7 +19,7 @@ use Rattle.abstract_post.specs.inside.Found.{Tells, IsDecidedAt, AreDecided}
 pub holds-above : (held k : ℕ) → 0 < k → held < 2 ^ (k - 1) → false ≡ holds held k
 holds-above held k from few = let none = bit_at_above held (k - 1) (k - 1) few (omega arith) in ap (λ b. b == 1) (sym none)
 
-no-atom : (atoms : List Row) (k : ℕ) (atom : Row) → k ≤ 0 → numbered atoms k ≡ Some atom → ⊥
+no-atom : (atoms : List Row) (k : ℕ) (atom : Row) → k ≤ 0 → at_number atoms k ≡ Some atom → ⊥
 no-atom atoms zero atom below at = cc
 no-atom atoms (suc k) atom below at = absurd (omega arith)
 
@@ -39,12 +39,12 @@ decided-kept system row held next k kept is = record {
   decides = is.decides;
 }
 
-named-at : (atoms : List Row) (p k : ℕ) → k ≡ suc p → numbered atoms k ≡ slice_get atoms p
-named-at atoms p k same = ap (numbered atoms) same
+named-at : (atoms : List Row) (p k : ℕ) → k ≡ suc p → at_number atoms k ≡ slice_get atoms p
+named-at atoms p k same = ap (at_number atoms) same
 
 next-at : (system : System) (place : Row → Row) (atoms : List Row) (held next p q : ℕ) (atom : Row) (entailed : Bool) → AreDecided system place atoms held p → slice_get atoms p ≡ Some atom
     → Tells system (place atom) (Ok entailed) → q ≡ suc p → holds next q ≡ entailed → ((k : ℕ) → 0 < k → k ≢ q → holds next k ≡ holds held k)
-    → (k : ℕ) (other : Row) → k ≤ q → numbered atoms k ≡ Some other → IsDecidedAt system next k (place other)
+    → (k : ℕ) (other : Row) → k ≤ q → at_number atoms k ≡ Some other → IsDecidedAt system next k (place other)
 next-at system place atoms held next p q atom entailed are at tells after bit others zero other below there = cc
 next-at system place atoms held next p q atom entailed are at tells after bit others (suc k) other below there = elim (eqb_tells (suc k) q) [
   | inl (hit, same) ↦
@@ -64,21 +64,21 @@ decided-next system place atoms held next p q atom entailed are at tells after f
 
 -- the first atom that is left undecided
 first-leave-at : (system : System) (place : Row → Row) (atoms : List Row) (p : ℕ) (atom : Row) (kind : LeaveKind) → slice_get atoms p ≡ Some atom
-    → leave_of (denying system (place atom)) ≡ Some kind
-    → ((k : ℕ) (other : Row) → k < p → slice_get atoms k ≡ Some other → leave_of (denying system (place other)) ≡ None)
-    → first_leave (map (λ a. denying system (place a)) atoms) ≡ Some kind
+    → leave_of (with_denial system (place atom)) ≡ Some kind
+    → ((k : ℕ) (other : Row) → k < p → slice_get atoms k ≡ Some other → leave_of (with_denial system (place other)) ≡ None)
+    → first_leave (map (λ a. with_denial system (place a)) atoms) ≡ Some kind
 first-leave-at system place [] zero atom kind at leaves earlier = cc
 first-leave-at system place [] (suc p) atom kind at leaves earlier = cc
 first-leave-at system place (x ∷ xs) zero atom kind at leaves earlier =
     let same : x ≡ atom = cc in
-    ap (λ o. option_or o (first_leave (map (λ a. denying system (place a)) xs))) (ap (λ a. leave_of (denying system (place a))) same ∙ leaves)
+    ap (λ o. option_or o (first_leave (map (λ a. with_denial system (place a)) xs))) (ap (λ a. leave_of (with_denial system (place a))) same ∙ leaves)
 first-leave-at system place (x ∷ xs) (suc p) atom kind at leaves earlier =
-    ap (λ o. option_or o (first_leave (map (λ a. denying system (place a)) xs))) (earlier 0 x (omega arith) refl)
+    ap (λ o. option_or o (first_leave (map (λ a. with_denial system (place a)) xs))) (earlier 0 x (omega arith) refl)
     ∙ first-leave-at system place xs p atom kind at leaves (λ k other below there. earlier (suc k) other (omega arith) there)
 
 pub left-at : (system : System) (place : Row → Row) (atoms : List Row) (held p : ℕ) (atom : Row) (kind : LeaveKind) → leave_of system ≡ None → AreDecided system place atoms held p
     → slice_get atoms p ≡ Some atom → Tells system (place atom) (Err kind)
-    → first_leave (system ∷ map (λ a. denying system (place a)) atoms) ≡ Some kind
+    → first_leave (system ∷ map (λ a. with_denial system (place a)) atoms) ≡ Some kind
 left-at system place atoms held p atom kind decided are at tells =
-    ap (λ o. option_or o (first_leave (map (λ a. denying system (place a)) atoms))) decided
+    ap (λ o. option_or o (first_leave (map (λ a. with_denial system (place a)) atoms))) decided
     ∙ first-leave-at system place atoms p atom kind at tells (λ k other below there. (are.each (suc k) other (omega arith) there).decides)

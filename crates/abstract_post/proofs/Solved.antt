@@ -8,8 +8,8 @@ use Rattle.thr_base.specs.Held.{positions, ArePositionsOf, WordsAreBelow}
 use Rattle.lin_rows.specs.Row.{Row}
 use Rattle.lin_rows.specs.System.{System}
 use Rattle.lin_rows.proofs.Lists.{AllByRecursion-weaken, slice_get-there}
-use Rattle.farkas_cert.specs.Proof.{denying}
-use Rattle.transition_formula.specs.Program.{Program, numbered}
+use Rattle.farkas_cert.specs.Proof.{with_denial}
+use Rattle.transition_formula.specs.Program.{Program, at_number}
 use Rattle.horn_rules.specs.declared.job.Premise.{Premise}
 use Rattle.horn_rules.specs.declared.job.Job.{Job}
 use Rattle.horn_rules.specs.Fact.{Statement, IsAtomOf}
@@ -66,16 +66,16 @@ within-rows law program job given rows view n before atoms comes rows_are view_i
 abbrev AreAlike : (Row → Row) → (Row → Row) → List Row → Type 0
 AreAlike one other atoms = AllByRecursion (λ atom. one atom ≡ other atom) atoms
 
-alike-at : (one other : Row → Row) (atoms : List Row) (k : ℕ) (atom : Row) → AreAlike one other atoms → numbered atoms k ≡ Some atom → one atom ≡ other atom
+alike-at : (one other : Row → Row) (atoms : List Row) (k : ℕ) (atom : Row) → AreAlike one other atoms → at_number atoms k ≡ Some atom → one atom ≡ other atom
 alike-at one other atoms zero atom alike at = cc
 alike-at one other [] (suc k) atom alike at = cc
 alike-at one other (x ∷ xs) (suc zero) atom alike at = let same : x ≡ atom = cc in subst (λ a. one a ≡ other a) same alike.0
 alike-at one other (x ∷ xs) (suc (suc k)) atom alike at = alike-at one other xs (suc k) atom alike.1 at
 
 denied-alike : (system : System) (one other : Row → Row) (atoms : List Row) → AreAlike one other atoms
-    → map (λ atom. denying system (one atom)) atoms ≡ map (λ atom. denying system (other atom)) atoms
+    → map (λ atom. with_denial system (one atom)) atoms ≡ map (λ atom. with_denial system (other atom)) atoms
 denied-alike system one other [] alike = refl
-denied-alike system one other (x ∷ xs) alike = ap₂ (λ (s : System) (l : List System). s ∷ l) (ap (denying system) alike.0) (denied-alike system one other xs alike.1)
+denied-alike system one other (x ∷ xs) alike = ap₂ (λ (s : System) (l : List System). s ∷ l) (ap (with_denial system) alike.0) (denied-alike system one other xs alike.1)
 
 found-alike : (system : System) (one other : Row → Row) (atoms : List Row) (what : Found) → AreAlike one other atoms → IsFound system one atoms what → IsFound system other atoms what
 found-alike system one other atoms found.Refuted alike is = is
@@ -103,11 +103,11 @@ found-of_case law program job given rows view n before atoms what comes rows_are
 
 -- ---- the post
 
-numbered-there : (atoms : List Row) (k : ℕ) → 0 < k → k ≤ length atoms → (atom : Row) × (numbered atoms k ≡ Some atom)
+numbered-there : (atoms : List Row) (k : ℕ) → 0 < k → k ≤ length atoms → (atom : Row) × (at_number atoms k ≡ Some atom)
 numbered-there atoms zero from to = absurd (omega arith)
 numbered-there atoms (suc k) from to = slice_get-there atoms k (omega arith)
 
-numbered-within : (atoms : List Row) (k : ℕ) (atom : Row) → numbered atoms k ≡ Some atom → (0 < k) × (k ≤ length atoms)
+numbered-within : (atoms : List Row) (k : ℕ) (atom : Row) → at_number atoms k ≡ Some atom → (0 < k) × (k ≤ length atoms)
 numbered-within atoms zero atom at = cc
 numbered-within atoms (suc k) atom at = let inside = slice_get_within atoms k atom at in (omega arith, omega arith)
 

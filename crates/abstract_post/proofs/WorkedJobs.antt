@@ -9,7 +9,7 @@ use Rattle.thr_base.specs.declared.names.Instance.TheVariants as stored
 use Rattle.lin_rows.specs.Row.{Row}
 use Rattle.lin_rows.specs.Atom.{IsAtom}
 use Rattle.lin_rows.proofs.Lists.{AllByRecursion-weaken}
-use Rattle.transition_formula.specs.Program.{Program, IsThreadOf, IsEdgeOf, numbered}
+use Rattle.transition_formula.specs.Program.{Program, IsThreadOf, IsEdgeOf, at_number}
 use Rattle.transition_formula.specs.inside.Worked.{worked_program, worked_thread, first_edge, second_edge}
 use Rattle.horn_rules.specs.declared.job.Premise.{Premise}
 use Rattle.horn_rules.specs.declared.job.Job.{Job}
@@ -33,11 +33,11 @@ set-is program home atoms n wide is = record {
 -- what is known of a premise of the tests
 pub record IsWorked (program : Program) (premise : Premise) (home : Home) : Type 0 where
   pub id_is : premise.id.0 ≡ 1
-  pub home_is : numbered (homes program) premise.fact.home.0 ≡ Some home
+  pub home_is : at_number (homes program) premise.fact.home.0 ≡ Some home
   pub set_is : IsSetOf program home premise.set.value
   pub within : premise.fact.held < 2 ^ length premise.set.value
 
-pub worked-premise : (program : Program) (premise : Premise) (home : Home) (k n : ℕ) → program ≡ worked_program → premise.id.0 ≡ 1 → premise.fact.home.0 ≡ k → numbered (homes worked_program) k ≡ Some home
+pub worked-premise : (program : Program) (premise : Premise) (home : Home) (k n : ℕ) → program ≡ worked_program → premise.id.0 ≡ 1 → premise.fact.home.0 ≡ k → at_number (homes worked_program) k ≡ Some home
     → n ≡ home_width (length program.columns) home → (set : List Row) → premise.set.value ≡ set → IsAtomSetOver n set → premise.fact.held < 2 ^ length premise.set.value → IsWorked program premise home
 worked-premise program premise home k n worked id at there wide set same is within = record {
   id_is = id;
@@ -55,11 +55,11 @@ found-there None home at = cc
 found-there (Some found) home at = cc
 
 stands : (program : Program) (premise : Premise) (home : Home) → IsWorked program premise home → (premise_says program premise).home ≡ home
-stands program premise home is = found-there (numbered (homes program) premise.fact.home.0) home is.home_is
+stands program premise home is = found-there (at_number (homes program) premise.fact.home.0) home is.home_is
 
 fits : (program : Program) (premise : Premise) (home : Home) → IsWorked program premise home → IsPremise program premise
 fits program premise home is = record {
-  has_home = is-there (numbered (homes program) premise.fact.home.0) home is.home_is;
+  has_home = is-there (at_number (homes program) premise.fact.home.0) home is.home_is;
   set_is = subst (λ h. IsSetOf program h premise.set.value) (sym (stands program premise home is)) is.set_is;
   held_within = is.within;
 }
@@ -71,7 +71,7 @@ pub start-job : (program : Program) (job : Job) (i : ThreadNo) → program ≡ w
     → job.home.0 ≡ 2 → IsAtomSetOver (length program.columns) job.target.value → IsJob program job
 start-job program job i worked instance_is one first_is second_is home_is target_is =
     let there : IsThreadOf program i.0 (worked_thread 2 first_edge) = rw (worked, one) refl in
-    let target : numbered (homes program) job.home.0 ≡ Some (State i.0 1) = rw (worked, home_is, one) refl in (
+    let target : at_number (homes program) job.home.0 ≡ Some (State i.0 1) = rw (worked, home_is, one) refl in (
       init_case program i.0,
       record {
         instance = Init i.0;
@@ -102,7 +102,7 @@ pub guar-job : (program : Program) (job : Job) (id : FactId) (e : EdgeNo) (p : P
     → IsWorked program p (State 2 1) → job.home.0 ≡ 8 → IsAtomSetOver (length program.columns + length program.columns) job.target.value → IsJob program job
 guar-job program job id e p worked instance_is first one first_is second_is is home_is target_is =
     let thread = worked_thread 3 second_edge in
-    let target : numbered (homes program) job.home.0 ≡ Some (Env 2 e.0) = rw (worked, home_is, one) refl in (
+    let target : at_number (homes program) job.home.0 ≡ Some (Env 2 e.0) = rw (worked, home_is, one) refl in (
       guar_case program 2 e.0 thread second_edge (premise_says program p),
       record {
         instance = Guar p e.0;

@@ -5,7 +5,7 @@ use Rattle.std.specs.List.{AllByRecursion}
 use Rattle.thr_base.specs.declared.names.RuleName.{RuleName}
 use Rattle.lin_rows.specs.Row.{Row}
 use Rattle.lin_rows.specs.System.{System}
-use Rattle.farkas_cert.specs.Proof.{denying}
+use Rattle.farkas_cert.specs.Proof.{with_denial}
 use Rattle.farkas_cert.specs.declared.answers.LeaveKind.{LeaveKind}
 use Rattle.rational_entail.specs.Entailment.{leave_of}
 use Rattle.transition_formula.specs.Program.{Program}
@@ -24,7 +24,7 @@ first_leave (system ∷ systems) = option_or (leave_of system) (first_leave syst
 
 -- what a post is decided by: the system of its case, and for each atom of the target, in their order, it with the atom's negation
 abbrev pub systems_of : Case → List Row → List System
-systems_of given atoms = given.system ∷ map (λ atom. denying given.system (given.place atom)) atoms
+systems_of given atoms = given.system ∷ map (λ atom. with_denial given.system (given.place atom)) atoms
 
 -- Some of these is left undecided, and the first one with this kind.
 abbrev pub IsLeft : Case → List Row → LeaveKind → Type 0

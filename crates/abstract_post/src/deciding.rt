@@ -8,7 +8,7 @@ ghost use Rattle.horn_rules.specs.Case.{placed_at};
 ghost use Rattle.abstract_post.specs.inside.Found.{Tells, IsFound};
 
 use farkas_cert::{Decided, LeaveKind, refuted_has_no_point};
-use horn_rules::placed;
+use horn_rules::place_atom;
 use lin_rows::{Atom, RowsView};
 use rational_entail::{Entailed, decide, entails};
 use std::alloc::{AllocError, Global};
@@ -33,7 +33,7 @@ fn entails_placed(
     requires { before + length atom.now.coefficients ≤ (system_of rows.now).columns }
     ensures { IfOk result (Tells (system_of rows.now) (placed_at before (system_of rows.now).columns atom.now)) }
 {
-    let atom = placed(alloc, atom, before, rows.columns())?;
+    let atom = place_atom(alloc, atom, before, rows.columns())?;
     let entailed = entails(alloc, rows, &atom)?;
     match entailed {
         Entailed::Yes(_) => Ok(Ok(true)),

@@ -14,7 +14,7 @@ use Rattle.transition_formula.specs.Program.{Program}
 use Rattle.horn_rules.specs.Home.{Home, State, homes, IsHomeOf, by_number}
 use Rattle.std.specs.Prelude.{Option, None, unwrap_or}
 use Rattle.std.specs.Option.{IsSome}
-use Rattle.transition_formula.specs.Program.{numbered}
+use Rattle.transition_formula.specs.Program.{at_number}
 use Rattle.horn_rules.specs.Stored.{home_of, home_numbered, HasItsHome, fact_of, sets_of}
 use Rattle.horn_rules.specs.Fact.{statement_of}
 use Rattle.horn_rules.proofs.Numbers.{home-numbered}
@@ -78,13 +78,13 @@ over-homes program Og xs =
 
 -- ---- the homes of an annotation's facts
 
-named-there : (program : Program) (n : ℕ) (found : Option Home) → numbered (homes program) n ≡ found → IsSome found → IsHomeOf program (unwrap_or found (State 0 0))
+named-there : (program : Program) (n : ℕ) (found : Option Home) → at_number (homes program) n ≡ found → IsSome found → IsHomeOf program (unwrap_or found (State 0 0))
 named-there program n None at there = cc
 named-there program n (Some home) at there = home-numbered program n home at
 
 homes-there : (program : Program) (facts : List StoredFact) → AllByRecursion (HasItsHome program) facts → AllByRecursion (IsHomeOf program) (map (λ fact. home_numbered program fact.home.0) facts)
 homes-there program [] all = tt
-homes-there program (fact ∷ facts) all = (named-there program fact.home.0 (numbered (homes program) fact.home.0) refl all.0, homes-there program facts all.1)
+homes-there program (fact ∷ facts) all = (named-there program fact.home.0 (at_number (homes program) fact.home.0) refl all.0, homes-there program facts all.1)
 
 unmapped : (program : Program) (found : List StoredHome) → AllByRecursion (IsHomeOf program) (map home_of found) → AllByRecursion (λ home. IsHomeOf program (home_of home)) found
 unmapped program [] all = tt

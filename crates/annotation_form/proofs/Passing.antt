@@ -7,7 +7,7 @@ use Rattle.lin_rows.specs.Row.{Row}
 use Rattle.lin_rows.specs.System.{IsPoint}
 use Rattle.farkas_cert.specs.Proof.{Entails}
 use Rattle.farkas_cert.proofs.Refutations.{refuted-has-no-whole-point}
-use Rattle.transition_formula.specs.Program.{Program, numbered}
+use Rattle.transition_formula.specs.Program.{Program, at_number}
 use Rattle.transition_formula.specs.Laws.{FailingRunsReach}
 use Rattle.horn_rules.specs.Home.{Home, State, IsHomeOf, homes}
 use Rattle.horn_rules.specs.Fact.{Statement, IsStatementOf, statement_of}
@@ -47,7 +47,7 @@ resolved-one statements numbers one other a b =
 
 -- ---- each instance over listed statements has numbers
 
-number-of : (statements : List Statement) (f : Statement) → Contains statements f → (n : ℕ) × (numbered statements n ≡ Some f)
+number-of : (statements : List Statement) (f : Statement) → Contains statements f → (n : ℕ) × (at_number statements n ≡ Some f)
 number-of statements f there = let (k, at) = slice_get-Contains statements f there in (suc k, at)
 
 numbers-of : (statements : List Statement) (instance : Instance Statement) → AllByRecursion (Contains statements) (premises_of instance) → (numbers : Instance ℕ) × IsResolved statements numbers instance
@@ -73,7 +73,7 @@ statements-are program annotation is (fact ∷ facts) = (
   statements-are program annotation is facts,
 )
 
-home-there : (program : Program) (n : ℕ) (found : Option Home) → numbered (homes program) n ≡ found → IsSome found → IsHomeOf program (unwrap_or found (State 0 0))
+home-there : (program : Program) (n : ℕ) (found : Option Home) → at_number (homes program) n ≡ found → IsSome found → IsHomeOf program (unwrap_or found (State 0 0))
 home-there program n None at there = cc
 home-there program n (Some home) at there = home-numbered program n home at
 
@@ -81,7 +81,7 @@ statements-home : (program : Program) (annotation : Annotation) (facts : List St
     → AllByRecursion (λ statement. IsHomeOf program statement.home) (map (λ fact. statement_of (sets_of program annotation.sets) (fact_of program fact)) facts)
 statements-home program annotation [] all = tt
 statements-home program annotation (fact ∷ facts) all = (
-  home-there program fact.home.0 (numbered (homes program) fact.home.0) refl all.0,
+  home-there program fact.home.0 (at_number (homes program) fact.home.0) refl all.0,
   statements-home program annotation facts all.1,
 )
 
@@ -113,7 +113,7 @@ gives program annotation given (Gives n certificates) z (statement, at, proves) 
   record { at_target = proves.at_target; entailed = entailed-each annotation given certificates statement.atoms proves.entailed },
 )
   where
-    listed : (k : ℕ) → numbered (statements_of program annotation) k ≡ Some statement → Contains (statements_of program annotation) statement
+    listed : (k : ℕ) → at_number (statements_of program annotation) k ≡ Some statement → Contains (statements_of program annotation) statement
     listed zero e = cc
     listed (suc k) e = Contains-slice_get (statements_of program annotation) k statement e
 

@@ -7,7 +7,7 @@ use Rattle.std.proofs.lemmas.Option.{slice_get-map, get_or_from_slice_get}
 use Rattle.thr_base.specs.Limits.{most_predicates}
 use Rattle.lin_rows.specs.Row.{Row}
 use Rattle.lin_rows.proofs.Lists.{AllByRecursion-append, AllByRecursion-rest}
-use Rattle.transition_formula.specs.Program.{Program, numbered}
+use Rattle.transition_formula.specs.Program.{Program, at_number}
 use Rattle.horn_rules.specs.Home.{Home, State, Env, homes}
 use Rattle.horn_rules.specs.Fact.{IsAtomOf, IsSetOf}
 use Rattle.horn_rules.specs.Stored.{same_home}
@@ -62,7 +62,7 @@ home_atoms-same home xs p other = home_atoms-append home xs (p ∷ []) ∙ ap (�
 
 -- ---- the sets
 
-pub set_at-lists_of : (program : Program) (before : List Predicate) (n : ℕ) (home : Home) → numbered (homes program) n ≡ Some home → set_at (lists_of program before) n ≡ home_atoms home before
+pub set_at-lists_of : (program : Program) (before : List Predicate) (n : ℕ) (home : Home) → at_number (homes program) n ≡ Some home → set_at (lists_of program before) n ≡ home_atoms home before
 set_at-lists_of program before zero home e = cc
 set_at-lists_of program before (suc k) home e =
     let place : suc k - 1 ≡ k = omega arith in
@@ -85,7 +85,7 @@ map-set f g (z ∷ xs) zero x y at is h =
 map-set f g (z ∷ xs) (suc k) x y at is h =
     ap₂ (λ v vs. v ∷ vs) (h 0 z refl (λ q. omega arith)) (map-set f g xs k x y at is (λ j w e other. h (suc j) w e (λ q. other (omega arith))))
 
-pub with_set-lists_of : (program : Program) (before : List Predicate) (n : ℕ) (home : Home) (atom : Row) → numbered (homes program) n ≡ Some home
+pub with_set-lists_of : (program : Program) (before : List Predicate) (n : ℕ) (home : Home) (atom : Row) → at_number (homes program) n ≡ Some home
     → with_set (lists_of program before) n (set_at (lists_of program before) n ++ atom ∷ []) ≡ lists_of program (before ++ record { home = home; atom = atom } ∷ [])
 with_set-lists_of program before zero home atom e = cc
 with_set-lists_of program before (suc k) home atom e =

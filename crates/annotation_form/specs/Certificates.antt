@@ -3,7 +3,7 @@ use Rattle.std.specs.Prelude.{◌≡◌, ◌≢◌, ◌<◌, ◌+◌, ◌⊎◌,
 use Rattle.std.specs.List.{Contains}
 use Rattle.thr_base.specs.Number.{Fits}
 use Rattle.farkas_cert.specs.Cert.{Pairs}
-use Rattle.transition_formula.specs.Program.{numbered}
+use Rattle.transition_formula.specs.Program.{at_number}
 use Rattle.std.specs.Prelude.{Some}
 
 -- The numbers of rows rise strictly from above `last`, and the multipliers fit and are not 0.
@@ -14,5 +14,5 @@ AreListed last ((k, m) ∷ pairs) = (last < k) × Fits m × (m ≢ pos 0) × Are
 -- The certificate has number n among those that are kept: it was there and nothing changed, or it is new and stands last now.
 abbrev pub IsKept : List Pairs → Pairs → ℕ → List Pairs → Type 0
 IsKept before pairs n later =
-    ((numbered before n ≡ Some pairs) × (later ≡ before))
+    ((at_number before n ≡ Some pairs) × (later ≡ before))
     ⊎ ((¬ Contains before pairs) × (n ≡ length before + 1) × (later ≡ before ++ pairs ∷ []))

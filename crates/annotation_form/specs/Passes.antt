@@ -4,8 +4,8 @@ use Rattle.std.specs.List.{AllByRecursion, Contains}
 use Rattle.lin_rows.specs.Row.{Row}
 use Rattle.lin_rows.specs.System.{System}
 use Rattle.farkas_cert.specs.Cert.{Pairs}
-use Rattle.farkas_cert.specs.Proof.{Proves, denying}
-use Rattle.transition_formula.specs.Program.{Program, IsProgram, numbered}
+use Rattle.farkas_cert.specs.Proof.{Proves, with_denial}
+use Rattle.transition_formula.specs.Program.{Program, IsProgram, at_number}
 use Rattle.horn_rules.specs.Home.{State}
 use Rattle.horn_rules.specs.Fact.{Statement}
 use Rattle.horn_rules.specs.Instance.{Instance}
@@ -17,13 +17,13 @@ use Rattle.annotation_form.specs.Annotation.{Annotation, Group, Refuted, Gives, 
 
 -- The certificate of the number is there, and refutes the system within the bounds of a check.
 abbrev pub CertificateProves : Annotation → System → ℕ → Type 0
-CertificateProves annotation system c = (pairs : Pairs) × (numbered annotation.certificates c ≡ Some pairs) × Proves system pairs
+CertificateProves annotation system c = (pairs : Pairs) × (at_number annotation.certificates c ≡ Some pairs) × Proves system pairs
 
 -- Each atom, as the case places it, is entailed by its certificate.
 abbrev pub CertificatesProve : Annotation → Case → List ℕ → List Row → Type 0
 CertificatesProve annotation given [] [] = Unit {0}
 CertificatesProve annotation given (c ∷ certificates) (atom ∷ atoms) =
-    CertificateProves annotation (denying given.system (given.place atom)) c × CertificatesProve annotation given certificates atoms
+    CertificateProves annotation (with_denial given.system (given.place atom)) c × CertificatesProve annotation given certificates atoms
 CertificatesProve annotation given certificates atoms = ⊥
 
 -- The case gives the statement: it stands at the case's target, and each of its atoms is entailed by its certificate.
@@ -35,7 +35,7 @@ pub record GivesBy (annotation : Annotation) (given : Case) (certificates : List
 abbrev pub ProvesCase : Program → Annotation → Case → Group → Type 0
 ProvesCase program annotation given (Refuted c) = CertificateProves annotation given.system c
 ProvesCase program annotation given (Gives n certificates) =
-    (statement : Statement) × (numbered (statements_of program annotation) n ≡ Some statement) × GivesBy annotation given certificates statement
+    (statement : Statement) × (at_number (statements_of program annotation) n ≡ Some statement) × GivesBy annotation given certificates statement
 
 -- The group proves the check of the instance over the annotation's facts.
 pub record ProvesCheck (program : Program) (annotation : Annotation) (numbers : Instance ℕ) (group : Group) : Type 0 where

@@ -1,5 +1,5 @@
 ghost use Rattle.std.specs.Prelude.{◌≡◌, ◌-◌, ◌^◌, ◌<◌, ◌≤◌, ◌++◌, ◌∷◌, [], Some, length, map, IfOk, OnErr, OnOk};
-ghost use Rattle.transition_formula.specs.Program.{numbered};
+ghost use Rattle.transition_formula.specs.Program.{at_number};
 ghost use Rattle.annotation_form.specs.Annotation.{group_of};
 ghost use Rattle.annotation_form.specs.Certificates.{AreListed, IsKept};
 
@@ -90,7 +90,7 @@ impl Annotation {
     pub fn cert(&self, n: u32) -> &[(u32, i128)]
         requires from_1 { 0 < n }
         requires there { n ≤ length self.now.certificates }
-        ensures { numbered self.now.certificates n ≡ Some result.now }
+        ensures { at_number self.now.certificates n ≡ Some result.now }
     {
         self.certificates.at(n as usize - 1)
     }

@@ -107,12 +107,12 @@ alone (kind.Within s) word = Some (setting s (value_within word) ∷ [])
 alone kind.Unknown word = None
 
 -- What a word of this kind says with a next one behind it. What the words behind it say is given, from the next on and behind the next.
-abbrev pub followed : Kind → List ℕ → List ℕ → Option (List Argument) → Option (List Argument) → Option (List Argument)
-followed kind.Operand word next from_next behind_next = in_front (operand word) from_next
-followed (kind.Flag f) word next from_next behind_next = in_front (flag f word) from_next
-followed (kind.Before s) word next from_next behind_next = in_front (setting s next) behind_next
-followed (kind.Within s) word next from_next behind_next = in_front (setting s (value_within word)) from_next
-followed kind.Unknown word next from_next behind_next = None
+abbrev pub with_next_word : Kind → List ℕ → List ℕ → Option (List Argument) → Option (List Argument) → Option (List Argument)
+with_next_word kind.Operand word next from_next behind_next = in_front (operand word) from_next
+with_next_word (kind.Flag f) word next from_next behind_next = in_front (flag f word) from_next
+with_next_word (kind.Before s) word next from_next behind_next = in_front (setting s next) behind_next
+with_next_word (kind.Within s) word next from_next behind_next = in_front (setting s (value_within word)) from_next
+with_next_word kind.Unknown word next from_next behind_next = None
 
 -- the arguments that the words behind the command are, or none where they are refused
 abbrev pub arguments : List (List ℕ) → Option (List Argument)
@@ -120,4 +120,4 @@ arguments [] = Some []
 arguments (word ∷ []) = (if is_end word then Some [] else alone (kind_of word) word)
 arguments (word ∷ next ∷ others) =
     if is_end word then Some (map operand (next ∷ others))
-    else followed (kind_of word) word next (arguments (next ∷ others)) (arguments others)
+    else with_next_word (kind_of word) word next (arguments (next ∷ others)) (arguments others)

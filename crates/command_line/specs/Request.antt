@@ -42,13 +42,13 @@ abbrev pub with_operand : Given → List ℕ → Option Given
 with_operand given word = option_map (λ operands. record given { operands = operands }) (one_more given.operands word)
 
 -- a flag, where it was not given before
-abbrev pub raised : Bool → Option Bool
-raised false = Some true
-raised true = None
+abbrev pub raised_flag : Bool → Option Bool
+raised_flag false = Some true
+raised_flag true = None
 
 abbrev pub with_flag : Given → Flag → Option Given
-with_flag given Serial = option_map (λ up. record given { serial = up }) (raised given.serial)
-with_flag given Journal = option_map (λ up. record given { journal = up }) (raised given.journal)
+with_flag given Serial = option_map (λ up. record given { serial = up }) (raised_flag given.serial)
+with_flag given Journal = option_map (λ up. record given { journal = up }) (raised_flag given.journal)
 
 -- a value, where none was given before
 abbrev pub first : Option (List ℕ) → List ℕ → Option (List ℕ)

@@ -4,14 +4,14 @@ use Rattle.std.specs.Prelude.{◌≡◌, ◌≢◌, ◌⊎◌, ◌<◌, ◌-◌,
 use Rattle.std.specs.List.{Contains}
 use Rattle.lin_rows.specs.System.{System}
 use Rattle.lin_rows.specs.Atom.{greatest}
-use Rattle.lin_rows.specs.Normal.{reduced}
+use Rattle.lin_rows.specs.Normal.{reduced_row}
 use Rattle.farkas_cert.specs.Cert.{Pairs, Refutes}
 use Rattle.farkas_cert.specs.Reduced.{IsReduced}
 use Rattle.farkas_cert.specs.Proof.{overflow_of}
 use Rattle.farkas_cert.specs.Elimination.{outcome_of, left_by, Refuted, Point}
 use Rattle.farkas_cert.specs.declared.answers.LeaveKind.{LeaveKind}
 use Rattle.farkas_cert.specs.declared.answers.LeaveKind.TheVariants.{Overflow, Rows}
-use Rattle.transition_formula.specs.Program.{Program, numbered}
+use Rattle.transition_formula.specs.Program.{Program, at_number}
 use Rattle.derivation_tree.specs.declared.scope.TreeLeft.{TreeLeft}
 use Rattle.derivation_tree.specs.declared.scope.TreeLeft.TheVariants as left
 use Rattle.derivation_tree.specs.declared.scope.System.TheVariants.{Cut, Full, Chain}
@@ -38,14 +38,14 @@ IsStuckAt nodes pairs n node =
     let from = length (rows_of (take (n - node.size) nodes)) in
     let to = length (rows_of (take n nodes)) in
     let sum = sum_at nodes pairs n node in
-    (overflow_of (system_over (rows_of nodes)).rows (pairs_within from to pairs) ≢ None) ⊎ ((is_constant sum ≡ false) × ((reduced sum).bound ≡ greatest))
+    (overflow_of (system_over (rows_of nodes)).rows (pairs_within from to pairs) ≢ None) ⊎ ((is_constant sum ≡ false) × ((reduced_row sum).bound ≡ greatest))
 
 -- Node k is the first such.
 pub record IsFirstStuck (nodes : List Node) (pairs : Pairs) (k : ℕ) : Type 0 where
   pub node : Node
-  pub there : numbered nodes k ≡ Some node
+  pub there : at_number nodes k ≡ Some node
   pub stuck : IsStuckAt nodes pairs k node
-  pub first : (n : ℕ) (earlier : Node) → n < k → numbered nodes n ≡ Some earlier → ¬ IsStuckAt nodes pairs n earlier
+  pub first : (n : ℕ) (earlier : Node) → n < k → at_number nodes n ≡ Some earlier → ¬ IsStuckAt nodes pairs n earlier
 
 -- ---- how far a tree is looked at
 
@@ -64,7 +64,7 @@ IsWhole x d = (a : ℤ) → Contains x a → (q : ℤ) × (a ≡ q *ℤ d)
 
 -- these whole numbers are x / d
 abbrev pub AreQuotients : List ℤ → List ℤ → ℤ → Type 0
-AreQuotients z x d = (c : ℕ) (q : ℤ) → numbered z c ≡ Some q → numbered x c ≡ Some (q *ℤ d)
+AreQuotients z x d = (c : ℕ) (q : ℤ) → at_number z c ≡ Some q → at_number x c ≡ Some (q *ℤ d)
 
 -- The elimination's point of the chain is whole, and the replay of its run has numbers that do not fit.
 pub record ChainOverflows (program : Program) (tree : Tree) : Type 0 where

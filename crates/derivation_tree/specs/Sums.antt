@@ -4,7 +4,7 @@ use Rattle.std.specs.List.{AllByRecursion, list_any}
 use Rattle.std.specs.Ordering.{int_eq}
 use Rattle.lin_rows.specs.Row.{Row}
 use Rattle.lin_rows.specs.System.{System, IsRationalPoint}
-use Rattle.lin_rows.specs.Normal.{reduced}
+use Rattle.lin_rows.specs.Normal.{reduced_row}
 use Rattle.lin_rows.specs.Atom.{inequality}
 use Rattle.farkas_cert.specs.Cert.{Pairs, Refutes, weighted_sum}
 use Rattle.farkas_cert.specs.Reduced.{IsReduced}
@@ -59,7 +59,7 @@ is_constant row = not (list_any (λ a. not (int_eq a (pos 0))) row.coefficients)
 
 -- the normal form of a sum; a sum without coefficients teaches nothing
 abbrev pub predicate_at : Home → Row → List Predicate
-predicate_at home row = if is_constant row then [] else record { home = home; atom = reduced row } ∷ []
+predicate_at home row = if is_constant row then [] else record { home = home; atom = reduced_row row } ∷ []
 
 -- the predicates of the nodes in their order, which may be the same at several nodes
 abbrev pub predicates_of : List Node → Pairs → List Predicate

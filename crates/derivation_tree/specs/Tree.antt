@@ -1,7 +1,7 @@
 -- Derivations unfolded into trees: a node is an instance with the nodes of its premises, and a fact that is used twice has two nodes.
 -- Nodes are numbered from 1, each after its premises' nodes, the root last.
 use Rattle.std.specs.Prelude.{◌≡◌, ◌==◌, ℕ, ◌+◌, if◌then◌else◌, List, [], ◌∷◌, Option, Some, None, unwrap_or}
-use Rattle.transition_formula.specs.Program.{Program, Thread, Edge, numbered}
+use Rattle.transition_formula.specs.Program.{Program, Thread, Edge, at_number}
 use Rattle.horn_rules.specs.Home.{Home, State, Env as AtEdge}
 use Rattle.horn_rules.specs.Instance.{Instance, map_instance}
 use Rattle.horn_rules.specs.Instance as instance
@@ -47,10 +47,10 @@ tree_of (f ∷ earlier) id = if f.id == id then tree_over (map_instance (tree_of
 
 -- thread i, and edge e of it; where there is none, one with nothing in it, which no node names
 abbrev pub thread_at : Program → ℕ → Thread
-thread_at program i = unwrap_or (numbered program.threads i) (record { counter = 0; locations = 0; edges = [] })
+thread_at program i = unwrap_or (at_number program.threads i) (record { counter = 0; locations = 0; edges = [] })
 
 abbrev pub edge_at : Program → ℕ → ℕ → Edge
-edge_at program i e = unwrap_or (numbered (thread_at program i).edges e) (record { from = 0; to = 0; inputs = 0; tests = []; sets = [] })
+edge_at program i e = unwrap_or (at_number (thread_at program i).edges e) (record { from = 0; to = 0; inputs = 0; tests = []; sets = [] })
 
 abbrev pub thread_of : Home → ℕ
 thread_of (State i l) = i

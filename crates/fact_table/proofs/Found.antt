@@ -5,7 +5,7 @@ use Rattle.std.specs.List.{filter, range_with_len}
 use Rattle.thr_base.specs.declared.names.Fact.{Fact}
 use Rattle.thr_base.specs.declared.names.FactId.{FactId}
 use Rattle.fact_table.specs.declared.live_fact.LiveFact.{LiveFact}
-use Rattle.fact_table.specs.Live.{ids_at, HasFact, IsLive, Lacks, NoneIsMarked, unmarked}
+use Rattle.fact_table.specs.Live.{ids_at, HasFact, IsLive, Lacks, NoneIsMarked, unmarked_facts}
 use Rattle.fact_table.specs.inside.FactIds.{key_of, is_key}
 use Rattle.fact_table.specs.inside.HomeIds.{with_id}
 use Rattle.fact_table.specs.inside.Index.{id_of, later}
@@ -147,6 +147,6 @@ kept_unmarked : (b : Bool) (f : LiveFact) (kept : List LiveFact) → f.marked �
 kept_unmarked true f kept is none = none
 kept_unmarked false f kept is none = (is, none)
 
-pub NoneIsMarked-unmarked : (live : List LiveFact) → NoneIsMarked (unmarked live)
+pub NoneIsMarked-unmarked : (live : List LiveFact) → NoneIsMarked (unmarked_facts live)
 NoneIsMarked-unmarked [] = tt
-NoneIsMarked-unmarked (f ∷ live) = kept_unmarked f.marked f (unmarked live) refl (NoneIsMarked-unmarked live)
+NoneIsMarked-unmarked (f ∷ live) = kept_unmarked f.marked f (unmarked_facts live) refl (NoneIsMarked-unmarked live)

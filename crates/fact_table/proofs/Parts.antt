@@ -3,7 +3,7 @@ use Rattle.std.proofs.Common.{◌≡◌, ℕ, zero, suc, ◌+◌, ◌-◌, ◌<�
 use Rattle.std.specs.List.{insert}
 use Rattle.std.proofs.lemmas.List.Edits.{length-insert}
 use Rattle.thr_base.specs.declared.names.FactId.{FactId}
-use Rattle.fact_table.specs.inside.HomeIds.{HomeIds, parts, AreEnds, raised, with_id, start_of}
+use Rattle.fact_table.specs.inside.HomeIds.{HomeIds, parts, AreEnds, raised_ends, with_id, start_of}
 use Rattle.fact_table.proofs.Inserts.{drop-insert, take-drop-insert, take-drop-insert_at}
 
 pub length-parts : (ids : List FactId) (from : ℕ) (ends : List ℕ) → length (parts ids from ends) ≡ length ends
@@ -61,7 +61,7 @@ parts-insert_behind ids id at from (end ∷ ends) le within are =
     cc
 
 pub parts-insert : (ids : List FactId) (id : FactId) (from : ℕ) (ends : List ℕ) (place : ℕ) → AreEnds (length ids) from ends → place < length ends
-    → parts (insert ids (get_or ends place 0) id) from (raised place ends) ≡ with_id (parts ids from ends) place id
+    → parts (insert ids (get_or ends place 0) id) from (raised_ends place ends) ≡ with_id (parts ids from ends) place id
 parts-insert ids id from [] place are lt = absurd (omega arith)
 parts-insert ids id from (end ∷ ends) zero are lt =
     let many : (end + 1) - from ≡ suc (end - from) = omega arith in
@@ -85,7 +85,7 @@ AreEnds-raised_behind : (count from : ℕ) (ends : List ℕ) → AreEnds count f
 AreEnds-raised_behind count from [] are = tt
 AreEnds-raised_behind count from (end ∷ ends) are = (omega arith, omega arith, AreEnds-raised_behind count end ends are.2)
 
-pub AreEnds-raised : (count from : ℕ) (ends : List ℕ) (place : ℕ) → AreEnds count from ends → AreEnds (count + 1) from (raised place ends)
+pub AreEnds-raised : (count from : ℕ) (ends : List ℕ) (place : ℕ) → AreEnds count from ends → AreEnds (count + 1) from (raised_ends place ends)
 AreEnds-raised count from [] zero are = tt
 AreEnds-raised count from [] (suc place) are = tt
 AreEnds-raised count from (end ∷ ends) zero are = (omega arith, omega arith, AreEnds-raised_behind count end ends are.2)
@@ -104,7 +104,7 @@ place_within room ids ends was home is some within =
 
 pub seen-push : (room : ℕ) (ids new_ids : List FactId) (ends new_ends : List ℕ) (place end : ℕ) (id : FactId) (was : HomeIds)
     → seen room ids ends ≡ was → AreEnds (length ids) 0 ends → place < length ends → end ≡ get_or ends place 0
-    → new_ids ≡ insert ids end id → new_ends ≡ raised place ends
+    → new_ids ≡ insert ids end id → new_ends ≡ raised_ends place ends
     → seen room new_ids new_ends ≡ record was { count = was.count + 1; lists = with_id was.lists place id }
 seen-push room ids new_ids ends new_ends place end id was is are lt at ids_is ends_is =
     let bound = ends_below (length ids) 0 ends are place lt in
@@ -117,7 +117,7 @@ seen-push room ids new_ids ends new_ends place end id was is are lt at ids_is en
     subst Seen is (cc)
 
 pub fits-push : (ids new_ids : List FactId) (ends new_ends : List ℕ) (place end : ℕ) (id : FactId) → AreEnds (length ids) 0 ends → place < length ends → end ≡ get_or ends place 0
-    → new_ids ≡ insert ids end id → new_ends ≡ raised place ends
+    → new_ids ≡ insert ids end id → new_ends ≡ raised_ends place ends
     → (length new_ids ≡ length ids + 1) × AreEnds (length new_ids) 0 new_ends
 fits-push ids new_ids ends new_ends place end id are lt at ids_is ends_is =
     let bound = ends_below (length ids) 0 ends are place lt in

@@ -50,13 +50,13 @@ abbrev pub with_mark : ℕ → LiveFact → LiveFact
 with_mark id f = if f.id.0 == id then record f { marked = true } else f
 
 -- the facts without those that are marked
-abbrev pub unmarked : List LiveFact → List LiveFact
-unmarked live = filter (λ f. not f.marked) live
+abbrev pub unmarked_facts : List LiveFact → List LiveFact
+unmarked_facts live = filter (λ f. not f.marked) live
 
 -- ---- the rank of a fact: what the order in which instances are taken looks at
 
-abbrev pub capped : ℕ → ℕ
-capped n = min n (2 ^ 32 - 1)
+abbrev pub capped_number : ℕ → ℕ
+capped_number n = min n (2 ^ 32 - 1)
 
 abbrev pub no_rank : Rank
 no_rank = record { size = 0; chain = 0 }
@@ -67,13 +67,13 @@ rank_at live id = unwrap_or (option_map (λ f. f.rank) (live_at live id.0)) no_r
 
 -- the rank of a fact by that of its premise, or of its two premises: its size is 1 more than theirs together
 abbrev pub rank_after : Rank → Rank
-rank_after first = record { size = capped (first.size + 1); chain = capped (first.chain + 1) }
+rank_after first = record { size = capped_number (first.size + 1); chain = capped_number (first.chain + 1) }
 
 abbrev pub rank_told : Rank → Rank
-rank_told first = record { size = capped (first.size + 1); chain = first.chain }
+rank_told first = record { size = capped_number (first.size + 1); chain = first.chain }
 
 abbrev pub rank_after_both : Rank → Rank → Rank
-rank_after_both first second = record { size = capped (capped (first.size + second.size) + 1); chain = capped (first.chain + 1) }
+rank_after_both first second = record { size = capped_number (capped_number (first.size + second.size) + 1); chain = capped_number (first.chain + 1) }
 
 -- the rank of what an instance gives: how many facts its derivation has, and how many steps lead to it on the side of first premises
 abbrev pub rank_of : List LiveFact → Instance → Rank

@@ -1,7 +1,7 @@
 ghost use Rattle.std.specs.Prelude.{◌≡◌, ℕ, ◌+◌, ◌-◌, ◌<◌, ◌≤◌, ◌^◌, [], replicate, length, map, take, drop, slice_index_or, slice_index, EachIndex, IfOk};
 ghost use Rattle.std.specs.List.{insert};
 ghost use Rattle.std.specs.Vec.{vec_capacity};
-ghost use Rattle.fact_table.specs.inside.HomeIds.{AreEnds, parts, raised, start_of, with_id};
+ghost use Rattle.fact_table.specs.inside.HomeIds.{AreEnds, parts, raised_ends, start_of, with_id};
 
 use std::alloc::{AllocError, Global};
 use std::marker::Model;
@@ -113,7 +113,7 @@ fn start_at(ends: &[u32], place: usize) -> u32
 fn raise(ends: &mut Vec<u32>, from: usize)
     requires place { from ≤ length ends.old.items }
     requires room { EachIndex ends.old.items (λ k. slice_index ends.old.items k + 1 < 2 ^ 32) }
-    ensures { ends.new.items ≡ raised from ends.old.items }
+    ensures { ends.new.items ≡ raised_ends from ends.old.items }
 {
     raise_all(&mut ends[from..]);
 }

@@ -1,6 +1,6 @@
 ghost use Rattle.std.specs.Prelude.{◌≡◌, ◌+◌, ◌-◌, ◌^◌, ◌<◌, ◌≤◌, length, map, option_map, IfOk};
 ghost use Rattle.std.specs.Vec.{vec_capacity};
-ghost use Rattle.fact_table.specs.Live.{ArePremisesLive, IsLive, NoneIsMarked, ids_at, is_marked, live_at, rank_at as rank_in, unmarked, with_mark};
+ghost use Rattle.fact_table.specs.Live.{ArePremisesLive, IsLive, NoneIsMarked, ids_at, is_marked, live_at, rank_at as rank_in, unmarked_facts, with_mark};
 ghost use Rattle.fact_table.specs.Table.{HasHome, IsInsertAnswer, IsTable, NamesLive, no_facts};
 ghost use Rattle.fact_table.specs.inside.Stored.{marked_at};
 
@@ -66,10 +66,10 @@ impl Table {
         requires home { HasHome self.old.homes fact.home.0 }
         requires premises { ArePremisesLive self.old.live kept }
         requires ids { self.old.given < 2 ^ 32 - 1 }
-        requires unmarked { NoneIsMarked self.old.live }
+        requires unmarked_facts { NoneIsMarked self.old.live }
         ensures answer { IsInsertAnswer self.old fact kept result self.new }
         ensures live { NamesLive result self.new.live }
-        ensures unmarked { NoneIsMarked self.new.live }
+        ensures unmarked_facts { NoneIsMarked self.new.live }
         ensures homes { self.new.homes ≡ self.old.homes }
         ensures given { self.new.given ≤ self.old.given + 1 }
     {
@@ -155,9 +155,9 @@ impl Table {
 
     /// Takes out the facts that are marked, and says how many.
     pub fn sweep(&mut self) -> u32
-        ensures live { self.new ≡ record self.old { live = unmarked self.old.live } }
+        ensures live { self.new ≡ record self.old { live = unmarked_facts self.old.live } }
         ensures count { result + length self.new.live ≡ length self.old.live }
-        ensures unmarked { NoneIsMarked self.new.live }
+        ensures unmarked_facts { NoneIsMarked self.new.live }
     {
         let before = self.facts.len();
         keep_unmarked(&mut self.facts);
@@ -179,7 +179,7 @@ fn mark_at(facts: &mut Vec<LiveFact>, place: usize)
 }
 
 fn keep_unmarked(facts: &mut Vec<LiveFact>)
-    ensures facts { facts.new.items ≡ unmarked facts.old.items }
+    ensures facts { facts.new.items ≡ unmarked_facts facts.old.items }
     ensures capacity { vec_capacity facts.new ≡ vec_capacity facts.old }
 {
     facts.retain(|fact| !fact.marked);

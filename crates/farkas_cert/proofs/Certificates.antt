@@ -11,7 +11,7 @@ use Rattle.farkas_cert.specs.Cert.{Pairs}
 use Rattle.farkas_cert.specs.Reduced.{IsReduced}
 use Rattle.lin_rows.specs.Gcd.{gcd}
 use Rattle.farkas_cert.specs.Divided.{over}
-use Rattle.farkas_cert.specs.Line.{Line, coefficient_at, given_lines, is_false, has_variable, refuting, nonzero_pairs, is_nonzero, made_line, lowest_column, lowest_of}
+use Rattle.farkas_cert.specs.Line.{Line, coefficient_at, given_lines, is_false, has_variable, refuting_multipliers, nonzero_pairs, is_nonzero, made_line, lowest_column, lowest_of}
 use Rattle.farkas_cert.specs.Proof.{Proves, overflow_of}
 use Rattle.farkas_cert.specs.BackSubstitution.{RationalPoint, Kept, Solved, Bounded, set_column}
 use Rattle.farkas_cert.specs.Elimination.{Outcome, Refuted, Point, Leaves, Work, Next, Goes, Ends, every, refutation_outcome, constant_test, constant_test_by, follows, without_equality, substituted_line, equality_stage, paired_line, positives, negatives, with_column, without_column, pairs_at, are_too_many, pair_stage, take_column_out, take_column_out_by, stage, then_constant_test, point_from, or_leaves, or_ends, goes_on, stages, beginning, outcome_of, outcome_within}
@@ -49,7 +49,7 @@ constant_test-sound system number work h = by_found (find (is_false system.colum
   by_found None e = all_filter (IsDerived system) (has_variable system.columns) work.lines h
   by_found (Some line) e =
       let at = found (IsDerived system) (is_false system.columns) work.lines line h e in
-      sound_refuted system number (refuting system.columns line) (false_refutes system line at.0 at.1)
+      sound_refuted system number (refuting_multipliers system.columns line) (false_refutes system line at.0 at.1)
 
 -- ---- the stages
 

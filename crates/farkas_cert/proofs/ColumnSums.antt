@@ -2,7 +2,7 @@
 use Rattle.std.proofs.Common.{◌≡◌, ℕ, zero, suc, ◌+◌, ◌<◌, List, [], ◌∷◌, length, drop, get_or, Option, Some, None, Err, IsSome, ◌&&◌, ℤ, pos, ◌+ℤ◌, ◌*ℤ◌, refl, sym, ◌∙◌, ap, subst, drop-cons, add-one, arith}
 use Rattle.std.specs.Option.{option_map_or}
 use Rattle.thr_base.specs.Number.{Fits, fits}
-use Rattle.lin_rows.specs.Row.{Row, scaled}
+use Rattle.lin_rows.specs.Row.{Row, multiple_of}
 use Rattle.lin_rows.proofs.Integers.{mul-zero_ℤ}
 use Rattle.lin_rows.proofs.Numbers.{fits-true}
 use Rattle.lin_rows.proofs.Booleans.{both_true, given_where_true}
@@ -10,7 +10,7 @@ use Rattle.farkas_cert.specs.Cert.{Pairs, InOrder, AllowsAt, row_numbered}
 use Rattle.farkas_cert.specs.Proof.{products, numbers_of}
 use Rattle.farkas_cert.specs.inside.Columns.{sum_with, column_from, number_at}
 
-pub get_or-scaled : (m : ℤ) (xs : List ℤ) (n : ℕ) → get_or (scaled m xs) n (pos 0) ≡ m *ℤ get_or xs n (pos 0)
+pub get_or-scaled : (m : ℤ) (xs : List ℤ) (n : ℕ) → get_or (multiple_of m xs) n (pos 0) ≡ m *ℤ get_or xs n (pos 0)
 get_or-scaled m [] n = sym (mul-zero_ℤ m)
 get_or-scaled m (x ∷ xs) zero = refl
 get_or-scaled m (x ∷ xs) (suc n) = get_or-scaled m xs n

@@ -7,11 +7,11 @@ use Rattle.std.proofs.lemmas.List.{take_more, take_more_set, drop_more, drop-set
 use Rattle.std.proofs.lemmas.Int.{ints}
 use Rattle.thr_base.specs.Number.{Fits, fits}
 use Rattle.lin_rows.specs.Exact.{fitting}
-use Rattle.lin_rows.specs.Row.{scaled}
+use Rattle.lin_rows.specs.Row.{multiple_of}
 use Rattle.lin_rows.proofs.Integers.{mul-zero_ℤ, map-over_one}
 use Rattle.lin_rows.proofs.Lists.{AllByRecursion-map}
 use Rattle.lin_rows.proofs.Numbers.{Fits-int_div_euclid, fits-true}
-use Rattle.farkas_cert.specs.Divided.{divided, over}
+use Rattle.farkas_cert.specs.Divided.{divided_numbers, over}
 use Rattle.std.specs.Int.{int_div_euclid}
 use Rattle.lin_rows.specs.Gcd.{gcd_of}
 use Rattle.farkas_cert.specs.Line.{all_fit, combination, combination_fits}
@@ -108,12 +108,12 @@ pub combined_numbers-all : (a : ℤ) (xs : List ℤ) (b : ℤ) (ys : List ℤ)
 unfolding combined_numbers
 combined_numbers-all a [] b [] = refl
 combined_numbers-all a [] b (y ∷ ys) =
-    rw (zero_left, combined_numbers-all a [] b ys) (right_alone (fits (b *ℤ y)) (all_fit (scaled b ys)) (all_fit (scaled b ys)) (b *ℤ y) (scaled b ys))
+    rw (zero_left, combined_numbers-all a [] b ys) (right_alone (fits (b *ℤ y)) (all_fit (multiple_of b ys)) (all_fit (multiple_of b ys)) (b *ℤ y) (multiple_of b ys))
 combined_numbers-all a (x ∷ xs) b [] =
-    rw (zero_right, combined_numbers-all a xs b [], ← sum-none (scaled a xs)) (right_alone (fits (a *ℤ x)) (all_fit (scaled a xs)) (all_fit (scaled a xs)) (a *ℤ x) (scaled a xs))
+    rw (zero_right, combined_numbers-all a xs b [], ← sum-none (multiple_of a xs)) (right_alone (fits (a *ℤ x)) (all_fit (multiple_of a xs)) (all_fit (multiple_of a xs)) (a *ℤ x) (multiple_of a xs))
 combined_numbers-all a (x ∷ xs) b (y ∷ ys) =
     rw (both_numbers, combined_numbers-all a xs b ys)
-    (both_there (fits (a *ℤ x)) (fits (b *ℤ y)) (fits (a *ℤ x +ℤ b *ℤ y)) (all_fit (scaled a xs)) (all_fit (scaled b ys)) (all_fit (combination a xs b ys))
+    (both_there (fits (a *ℤ x)) (fits (b *ℤ y)) (fits (a *ℤ x +ℤ b *ℤ y)) (all_fit (multiple_of a xs)) (all_fit (multiple_of b ys)) (all_fit (combination a xs b ys))
     (a *ℤ x +ℤ b *ℤ y) (combination a xs b ys))
 
 pub all_fit-true : (xs : List ℤ) → all_fit xs ≡ true → AllByRecursion Fits xs
@@ -150,7 +150,7 @@ pub combined_fit : (a : ℤ) (xs : List ℤ) (b : ℤ) (ys made : List ℤ) → 
 combined_fit a xs b ys made e =
     let is = some_by (combination_fits a xs b ys) (combination a xs b ys) made (e ∙ combined_numbers-all a xs b ys) in
     subst (λ zs. AllByRecursion Fits zs) (sym is.1)
-    (all_fit-true (combination a xs b ys) (third_true (all_fit (scaled a xs)) (all_fit (scaled b ys)) (all_fit (combination a xs b ys)) is.0))
+    (all_fit-true (combination a xs b ys) (third_true (all_fit (multiple_of a xs)) (all_fit (multiple_of b ys)) (all_fit (combination a xs b ys)) is.0))
 
 -- ---- a change of each number in place
 
@@ -173,18 +173,18 @@ get_from_drop numbers given i e =
     rw (sym (add-zero i)) (sym left ∙ same ∙ right)
 
 -- Numbers whose divisor is at most 1 are divided already.
-pub divided_already : (xs : List ℤ) → gcd_of xs ≤ 1 → xs ≡ divided xs
-unfolding divided
+pub divided_already : (xs : List ℤ) → gcd_of xs ≤ 1 → xs ≡ divided_numbers xs
+unfolding divided_numbers
 divided_already xs h = at (gcd_of xs) refl h where
   at : (g : ℕ) → gcd_of xs ≡ g → g ≤ 1 → xs ≡ map (over (gcd_of xs)) xs
   at zero e h = sym (divided-same xs e)
   at (suc zero) e h = rw e (sym (map-over_one xs))
   at (suc (suc g)) e h = absurd (omega arith)
 
-pub divided_is : (xs ys : List ℤ) (d : ℤ) → d ≡ pos (gcd_of xs) → ys ≡ map (λ x. int_div_euclid x d) xs → ys ≡ divided xs
-unfolding divided
+pub divided_is : (xs ys : List ℤ) (d : ℤ) → d ≡ pos (gcd_of xs) → ys ≡ map (λ x. int_div_euclid x d) xs → ys ≡ divided_numbers xs
+unfolding divided_numbers
 divided_is xs ys d e h = h ∙ ap (λ d. map (λ x. int_div_euclid x d) xs) e
 
-pub divided_fit : (xs : List ℤ) → AllByRecursion Fits xs → AllByRecursion Fits (divided xs)
-unfolding divided
+pub divided_fit : (xs : List ℤ) → AllByRecursion Fits xs → AllByRecursion Fits (divided_numbers xs)
+unfolding divided_numbers
 divided_fit xs h = AllByRecursion-map Fits Fits (over (gcd_of xs)) (λ x k. Fits-int_div_euclid x (gcd_of xs) k) xs h

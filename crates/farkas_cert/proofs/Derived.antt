@@ -6,11 +6,11 @@ use Rattle.std.proofs.lemmas.Int.{unsigned_abs-mul}
 use Rattle.std.proofs.lemmas.Nat.{mul-le}
 use Rattle.std.proofs.lemmas.Nat.Gcd.{le_of_dvd}
 use Rattle.std.proofs.Math.Nat.{mul-dvd-mul_left}
-use Rattle.lin_rows.specs.Row.{Row, product_of, scaled, sum_of}
+use Rattle.lin_rows.specs.Row.{Row, product_of, multiple_of, sum_of}
 use Rattle.lin_rows.specs.System.{System}
 use Rattle.lin_rows.specs.Gcd.{gcd_of}
 use Rattle.lin_rows.proofs.Booleans.{given_where_true}
-use Rattle.farkas_cert.specs.Divided.{over, divided}
+use Rattle.farkas_cert.specs.Divided.{over, divided_numbers}
 use Rattle.farkas_cert.specs.Line.{Line, bound_of, multipliers_of, combination, combination_fits, made_line}
 use Rattle.lin_rows.proofs.Divisors.{DividesAll, AllZero, AllZero-from_gcd_of, gcd_of-greatest}
 use Rattle.farkas_cert.proofs.Divisors.{divided-exact, divided-same}
@@ -23,9 +23,9 @@ use Rattle.farkas_cert.proofs.Weighted.{values_at, bounds_of}
 -- ---- what is made
 
 pub made_is : (equal : Bool) (a : ℤ) (xs : List ℤ) (b : ℤ) (ys : List ℤ) (line : Line) → made_line equal a xs b ys ≡ Some line
-    → record { equal = equal; numbers = divided (combination a xs b ys) } ≡ line
+    → record { equal = equal; numbers = divided_numbers (combination a xs b ys) } ≡ line
 unfolding made_line
-made_is equal a xs b ys line e = (given_where_true (combination_fits a xs b ys) (record { equal = equal; numbers = divided (combination a xs b ys) }) line e).1
+made_is equal a xs b ys line e = (given_where_true (combination_fits a xs b ys) (record { equal = equal; numbers = divided_numbers (combination a xs b ys) }) line e).1
 
 -- ---- lists without a common divisor
 
@@ -42,14 +42,14 @@ at_most_one g zero p h = omega arith
 at_most_one g (suc zero) p h = omega arith
 at_most_one g (suc (suc d)) p h = absurd (omega (arith, le_of_dvd p h, mul-le g 2 g (suc (suc d)) (omega arith) (omega arith)))
 
-primitive_by : (g d : ℕ) (xs : List ℤ) → g ≡ gcd_of xs → g * d ∣ g → (d ≤ 1) ⊎ AllZero (divided xs)
+primitive_by : (g d : ℕ) (xs : List ℤ) → g ≡ gcd_of xs → g * d ∣ g → (d ≤ 1) ⊎ AllZero (divided_numbers xs)
 primitive_by zero d xs e h =
     inr (rw (divided-same xs (sym e)) (AllZero-from_gcd_of xs (sym e)))
 primitive_by (suc g) d xs e h = inl (at_most_one (suc g) d (omega arith) h)
 
-pub divided_primitive : (xs : List ℤ) → IsPrimitive (divided xs)
+pub divided_primitive : (xs : List ℤ) → IsPrimitive (divided_numbers xs)
 divided_primitive xs d h =
-    primitive_by (gcd_of xs) d xs refl (gcd_of-greatest (gcd_of xs * d) xs (rw (divided-exact xs) at (multiplied (gcd_of xs) d (divided xs) h)))
+    primitive_by (gcd_of xs) d xs refl (gcd_of-greatest (gcd_of xs * d) xs (rw (divided-exact xs) at (multiplied (gcd_of xs) d (divided_numbers xs) h)))
 
 -- ---- the invariant of a line
 
@@ -83,7 +83,7 @@ bound_defect_linear system =
 
 -- what vanishes on two lists vanishes on what is made of them
 pub made_vanishes : (f : List ℤ → ℤ) → IsLinear f → (a : ℤ) (xs : List ℤ) (b : ℤ) (ys : List ℤ) → f xs ≡ pos 0 → f ys ≡ pos 0
-    → f (divided (combination a xs b ys)) ≡ pos 0
+    → f (divided_numbers (combination a xs b ys)) ≡ pos 0
 made_vanishes f h a xs b ys e k =
     divided_vanishes f h (combination a xs b ys)
     (of_combination f h a xs b ys ∙ ap (λ t. a *ℤ t +ℤ b *ℤ f ys) e ∙ ap (λ t. a *ℤ pos 0 +ℤ b *ℤ t) k ∙ omega (arith, linear, mul-zero_ℤ a, mul-zero_ℤ b))
@@ -95,16 +95,16 @@ drop-map (suc n) f (x ∷ xs) = drop-map n f xs
 
 drop-combination : (n : ℕ) (a : ℤ) (xs : List ℤ) (b : ℤ) (ys : List ℤ) → drop n (combination a xs b ys) ≡ combination a (drop n xs) b (drop n ys)
 drop-combination n a xs b ys =
-    drop-sum n (scaled a xs) (scaled b ys) ∙ ap (λ t. sum_of t (drop n (scaled b ys))) (drop-scaled n a xs) ∙ ap (λ t. sum_of (scaled a (drop n xs)) t) (drop-scaled n b ys)
+    drop-sum n (multiple_of a xs) (multiple_of b ys) ∙ ap (λ t. sum_of t (drop n (multiple_of b ys))) (drop-scaled n a xs) ∙ ap (λ t. sum_of (multiple_of a (drop n xs)) t) (drop-scaled n b ys)
 
-signs_divided : (equal : Bool) (rows : List Row) (n : ℕ) (xs : List ℤ) → Signs equal rows (drop n xs) → Signs equal rows (drop n (divided xs))
-unfolding divided
+signs_divided : (equal : Bool) (rows : List Row) (n : ℕ) (xs : List ℤ) → Signs equal rows (drop n xs) → Signs equal rows (drop n (divided_numbers xs))
+unfolding divided_numbers
 signs_divided equal rows n xs h = rw (drop-map n (over (gcd_of xs)) xs) (signs_over equal (gcd_of xs) rows (drop n xs) h)
 
 -- A line that is made has the invariant, where its multipliers have the signs.
 derived_made : (system : System) (equal : Bool) (a : ℤ) (left : Line) (b : ℤ) (right : Line) → IsDerived system left → IsDerived system right
     → Signs equal system.rows (combination a (multipliers_of system.columns left) b (multipliers_of system.columns right))
-    → IsDerived system (record { equal = equal; numbers = divided (combination a left.numbers b right.numbers) })
+    → IsDerived system (record { equal = equal; numbers = divided_numbers (combination a left.numbers b right.numbers) })
 derived_made system equal a left b right h k s = record {
   coefficients = λ y. let e = made_vanishes (defect system y) (defect_linear system y) a left.numbers b right.numbers
       (omega (arith, linear, h.coefficients y)) (omega (arith, linear, k.coefficients y)) in omega (arith, linear);
@@ -122,9 +122,9 @@ pub derived_by_equality : (system : System) (a : ℤ) (left : Line) (b : ℤ) (r
 derived_by_equality system a left b right result n e h k m =
     let signs_right : Signs true system.rows (multipliers_of system.columns right) = rw e at k.signs in
     let signs : Signs left.equal system.rows (combination a (multipliers_of system.columns left) b (multipliers_of system.columns right)) =
-    signs_sum left.equal system.rows (scaled a (multipliers_of system.columns left)) (scaled b (multipliers_of system.columns right))
+    signs_sum left.equal system.rows (multiple_of a (multipliers_of system.columns left)) (multiple_of b (multipliers_of system.columns right))
     (signs_scaled left.equal a system.rows (multipliers_of system.columns left) n h.signs)
-    (signs_weaker left.equal system.rows (scaled b (multipliers_of system.columns right)) (signs_any b system.rows (multipliers_of system.columns right) signs_right)) in
+    (signs_weaker left.equal system.rows (multiple_of b (multipliers_of system.columns right)) (signs_any b system.rows (multipliers_of system.columns right) signs_right)) in
     subst (λ (l : Line). IsDerived system l) (made_is left.equal a left.numbers b right.numbers result m) (derived_made system left.equal a left b right h k signs)
 
 -- two lines, added
@@ -133,7 +133,7 @@ pub derived_by_pair : (system : System) (a : ℤ) (left : Line) (b : ℤ) (right
     → made_line false a left.numbers b right.numbers ≡ Some result → IsDerived system result
 derived_by_pair system a left b right result n o h k m =
     let signs : Signs false system.rows (combination a (multipliers_of system.columns left) b (multipliers_of system.columns right)) =
-    signs_sum false system.rows (scaled a (multipliers_of system.columns left)) (scaled b (multipliers_of system.columns right))
+    signs_sum false system.rows (multiple_of a (multipliers_of system.columns left)) (multiple_of b (multipliers_of system.columns right))
     (signs_scaled false a system.rows (multipliers_of system.columns left) n (signs_false left.equal system.rows (multipliers_of system.columns left) h.signs))
     (signs_scaled false b system.rows (multipliers_of system.columns right) o (signs_false right.equal system.rows (multipliers_of system.columns right) k.signs)) in
     subst (λ (l : Line). IsDerived system l) (made_is false a left.numbers b right.numbers result m) (derived_made system false a left b right h k signs)

@@ -6,7 +6,7 @@ use Rattle.std.proofs.lemmas.Nat.{mod_below}
 use Rattle.std.proofs.lemmas.Nat.Gcd.{IsGcd-from_zero, IsGcd-from_mod}
 use Rattle.lin_rows.specs.Gcd.{gcd_within, gcd_of}
 use Rattle.lin_rows.proofs.Divisors.{DividesAll, AllZero, AllZero-from_gcd_of, gcd_of-divides, exact_quotient, zero_from_abs}
-use Rattle.farkas_cert.specs.Divided.{over, divided}
+use Rattle.farkas_cert.specs.Divided.{over, divided_numbers}
 use Rattle.lin_rows.proofs.Integers.{zero-mul_ℤ}
 
 gcd_within-IsGcd : (fuel a b : ℕ) → b ≤ fuel → IsGcd a b (gcd_within fuel a b)
@@ -27,8 +27,8 @@ over_all g (x ∷ xs) h =
     let r = over_all g xs h.1 in
     cc
 
-pub divided-exact : (xs : List ℤ) → map (λ x. pos (gcd_of xs) *ℤ x) (divided xs) ≡ xs
-unfolding divided
+pub divided-exact : (xs : List ℤ) → map (λ x. pos (gcd_of xs) *ℤ x) (divided_numbers xs) ≡ xs
+unfolding divided_numbers
 divided-exact xs = over_all (gcd_of xs) xs (gcd_of-divides xs)
 
 zeros_over : (g : ℕ) (xs : List ℤ) → g ≡ 0 → AllZero xs → map (over g) xs ≡ xs
@@ -39,6 +39,6 @@ zeros_over g (x ∷ xs) e h =
     cc
 
 -- Zeros are divided by nothing.
-pub divided-same : (xs : List ℤ) → gcd_of xs ≡ 0 → divided xs ≡ xs
-unfolding divided
+pub divided-same : (xs : List ℤ) → gcd_of xs ≡ 0 → divided_numbers xs ≡ xs
+unfolding divided_numbers
 divided-same xs e = zeros_over (gcd_of xs) xs e (AllZero-from_gcd_of xs e)

@@ -1,9 +1,9 @@
 -- Linear functions of lists: each number, each product with a list, of the whole list or of a part. What they give of a combination.
 use Rattle.std.proofs.Common.{◌≡◌, ℕ, zero, suc, refl, sym, ap, ◌∙◌, arith, List, [], ◌∷◌, take, drop, get_or}
 use Rattle.std.specs.Prelude.{ℤ, pos, neg_ℤ, ◌+ℤ◌, ◌-ℤ◌, ◌*ℤ◌, ◌≤ℤ◌, ◌<ℤ◌}
-use Rattle.lin_rows.specs.Row.{product_of, scaled, sum_of}
+use Rattle.lin_rows.specs.Row.{product_of, multiple_of, sum_of}
 use Rattle.lin_rows.specs.Gcd.{gcd_of}
-use Rattle.farkas_cert.specs.Divided.{divided}
+use Rattle.farkas_cert.specs.Divided.{divided_numbers}
 use Rattle.farkas_cert.specs.Line.{combination}
 use Rattle.farkas_cert.proofs.Divisors.{divided-exact, divided-same}
 use Rattle.lin_rows.proofs.Integers.{mul-add_ℤ, add-mul_ℤ, mul_assoc_ℤ, mul-zero_ℤ, zero-mul_ℤ, mul_comm_ℤ, mul-neg_ℤ}
@@ -11,7 +11,7 @@ use Rattle.farkas_cert.proofs.Integers.{linear, eq_of_mul_right_ℤ, le_of_mul_r
 
 pub record IsLinear (f : List ℤ → ℤ) : Type 0 where
   pub of_sum : (xs ys : List ℤ) → f (sum_of xs ys) ≡ f xs +ℤ f ys
-  pub of_scaled : (k : ℤ) (xs : List ℤ) → f (scaled k xs) ≡ k *ℤ f xs
+  pub of_scaled : (k : ℤ) (xs : List ℤ) → f (multiple_of k xs) ≡ k *ℤ f xs
 
 -- ---- products
 
@@ -21,7 +21,7 @@ product-sum (x ∷ xs) [] zs = omega (arith, linear)
 product-sum (x ∷ xs) (y ∷ ys) [] = refl
 product-sum (x ∷ xs) (y ∷ ys) (z ∷ zs) = omega (arith, linear, product-sum xs ys zs, add-mul_ℤ x y z)
 
-pub product-scaled : (k : ℤ) (xs zs : List ℤ) → product_of (scaled k xs) zs ≡ k *ℤ product_of xs zs
+pub product-scaled : (k : ℤ) (xs zs : List ℤ) → product_of (multiple_of k xs) zs ≡ k *ℤ product_of xs zs
 product-scaled k [] zs = sym (mul-zero_ℤ k)
 product-scaled k (x ∷ xs) [] = sym (mul-zero_ℤ k)
 product-scaled k (x ∷ xs) (z ∷ zs) = omega (arith, linear, product-scaled k xs zs, mul_assoc_ℤ k x z, mul-add_ℤ k (x *ℤ z) (product_of xs zs))
@@ -37,7 +37,7 @@ get-sum (x ∷ xs) [] c = omega (arith, linear)
 get-sum (x ∷ xs) (y ∷ ys) zero = refl
 get-sum (x ∷ xs) (y ∷ ys) (suc c) = get-sum xs ys c
 
-pub get-scaled : (k : ℤ) (xs : List ℤ) (c : ℕ) → get_or (scaled k xs) c (pos 0) ≡ k *ℤ get_or xs c (pos 0)
+pub get-scaled : (k : ℤ) (xs : List ℤ) (c : ℕ) → get_or (multiple_of k xs) c (pos 0) ≡ k *ℤ get_or xs c (pos 0)
 get-scaled k [] c = sym (mul-zero_ℤ k)
 get-scaled k (x ∷ xs) zero = refl
 get-scaled k (x ∷ xs) (suc c) = get-scaled k xs c
@@ -53,7 +53,7 @@ take-sum (suc n) [] ys = refl
 take-sum (suc n) (x ∷ xs) [] = refl
 take-sum (suc n) (x ∷ xs) (y ∷ ys) = ap (λ zs. (x +ℤ y) ∷ zs) (take-sum n xs ys)
 
-pub take-scaled : (n : ℕ) (k : ℤ) (xs : List ℤ) → take n (scaled k xs) ≡ scaled k (take n xs)
+pub take-scaled : (n : ℕ) (k : ℤ) (xs : List ℤ) → take n (multiple_of k xs) ≡ multiple_of k (take n xs)
 take-scaled zero k xs = refl
 take-scaled (suc n) k [] = refl
 take-scaled (suc n) k (x ∷ xs) = ap (λ zs. (k *ℤ x) ∷ zs) (take-scaled n k xs)
@@ -68,7 +68,7 @@ drop-sum (suc n) [] ys = refl
 drop-sum (suc n) (x ∷ xs) [] = sum-none (drop n xs)
 drop-sum (suc n) (x ∷ xs) (y ∷ ys) = drop-sum n xs ys
 
-pub drop-scaled : (n : ℕ) (k : ℤ) (xs : List ℤ) → drop n (scaled k xs) ≡ scaled k (drop n xs)
+pub drop-scaled : (n : ℕ) (k : ℤ) (xs : List ℤ) → drop n (multiple_of k xs) ≡ multiple_of k (drop n xs)
 drop-scaled zero k xs = refl
 drop-scaled (suc n) k [] = refl
 drop-scaled (suc n) k (x ∷ xs) = drop-scaled n k xs
@@ -94,35 +94,35 @@ difference-linear f g h k = record {
 -- ---- combinations and what is left of them after the division
 
 pub of_combination : (f : List ℤ → ℤ) → IsLinear f → (a : ℤ) (xs : List ℤ) (b : ℤ) (ys : List ℤ) → f (combination a xs b ys) ≡ a *ℤ f xs +ℤ b *ℤ f ys
-of_combination f h a xs b ys = omega (arith, linear, h.of_sum (scaled a xs) (scaled b ys), h.of_scaled a xs, h.of_scaled b ys)
+of_combination f h a xs b ys = omega (arith, linear, h.of_sum (multiple_of a xs) (multiple_of b ys), h.of_scaled a xs, h.of_scaled b ys)
 
-pub of_divided : (f : List ℤ → ℤ) → IsLinear f → (xs : List ℤ) → pos (gcd_of xs) *ℤ f (divided xs) ≡ f xs
-of_divided f h xs = sym (h.of_scaled (pos (gcd_of xs)) (divided xs)) ∙ ap f (divided-exact xs)
+pub of_divided : (f : List ℤ → ℤ) → IsLinear f → (xs : List ℤ) → pos (gcd_of xs) *ℤ f (divided_numbers xs) ≡ f xs
+of_divided f h xs = sym (h.of_scaled (pos (gcd_of xs)) (divided_numbers xs)) ∙ ap f (divided-exact xs)
 
 by_size : {P : Type 0} (g : ℕ) → (g ≡ 0 → P) → (pos 0 <ℤ pos g → P) → P
 by_size zero same positive = same refl
 by_size (suc g) same positive = positive (omega (arith, linear))
 
-by_divisor : {P : Type 0} (xs : List ℤ) → (divided xs ≡ xs → P) → (pos 0 <ℤ pos (gcd_of xs) → P) → P
+by_divisor : {P : Type 0} (xs : List ℤ) → (divided_numbers xs ≡ xs → P) → (pos 0 <ℤ pos (gcd_of xs) → P) → P
 by_divisor xs same positive = by_size (gcd_of xs) (λ e. same (divided-same xs e)) positive
 
 -- What vanishes on both vanishes on the made line; what is not negative stays so.
-pub divided_vanishes : (f : List ℤ → ℤ) → IsLinear f → (xs : List ℤ) → f xs ≡ pos 0 → f (divided xs) ≡ pos 0
+pub divided_vanishes : (f : List ℤ → ℤ) → IsLinear f → (xs : List ℤ) → f xs ≡ pos 0 → f (divided_numbers xs) ≡ pos 0
 divided_vanishes f h xs e = by_divisor xs
     (λ z. ap f z ∙ e)
-    (λ p. eq_of_mul_right_ℤ (f (divided xs)) (pos 0) (pos (gcd_of xs)) p (mul_comm_ℤ (f (divided xs)) (pos (gcd_of xs)) ∙ of_divided f h xs ∙ e ∙ sym (zero-mul_ℤ (pos (gcd_of xs)))))
+    (λ p. eq_of_mul_right_ℤ (f (divided_numbers xs)) (pos 0) (pos (gcd_of xs)) p (mul_comm_ℤ (f (divided_numbers xs)) (pos (gcd_of xs)) ∙ of_divided f h xs ∙ e ∙ sym (zero-mul_ℤ (pos (gcd_of xs)))))
 
-pub divided_not_negative : (f : List ℤ → ℤ) → IsLinear f → (xs : List ℤ) → pos 0 ≤ℤ f xs → pos 0 ≤ℤ f (divided xs)
+pub divided_not_negative : (f : List ℤ → ℤ) → IsLinear f → (xs : List ℤ) → pos 0 ≤ℤ f xs → pos 0 ≤ℤ f (divided_numbers xs)
 divided_not_negative f h xs e = by_divisor xs
     (λ z. let i = ap f z in omega (arith, linear))
-    (λ p. let i = mul_comm_ℤ (f (divided xs)) (pos (gcd_of xs)) ∙ of_divided f h xs in
-    le_of_mul_right_ℤ (pos 0) (f (divided xs)) (pos (gcd_of xs)) p (omega (arith, linear, zero-mul_ℤ (pos (gcd_of xs)))))
+    (λ p. let i = mul_comm_ℤ (f (divided_numbers xs)) (pos (gcd_of xs)) ∙ of_divided f h xs in
+    le_of_mul_right_ℤ (pos 0) (f (divided_numbers xs)) (pos (gcd_of xs)) p (omega (arith, linear, zero-mul_ℤ (pos (gcd_of xs)))))
 
-pub from_divided_vanishes : (f : List ℤ → ℤ) → IsLinear f → (xs : List ℤ) → f (divided xs) ≡ pos 0 → f xs ≡ pos 0
+pub from_divided_vanishes : (f : List ℤ → ℤ) → IsLinear f → (xs : List ℤ) → f (divided_numbers xs) ≡ pos 0 → f xs ≡ pos 0
 from_divided_vanishes f h xs e = sym (of_divided f h xs) ∙ ap (λ t. pos (gcd_of xs) *ℤ t) e ∙ mul-zero_ℤ (pos (gcd_of xs))
 
-pub from_divided_at_most : (f : List ℤ → ℤ) → IsLinear f → (xs : List ℤ) → f (divided xs) ≤ℤ pos 0 → f xs ≤ℤ pos 0
+pub from_divided_at_most : (f : List ℤ → ℤ) → IsLinear f → (xs : List ℤ) → f (divided_numbers xs) ≤ℤ pos 0 → f xs ≤ℤ pos 0
 from_divided_at_most f h xs e =
     let g = pos (gcd_of xs) in
     let n : pos 0 ≤ℤ g = omega (arith, linear) in
-    omega (arith, linear, mul_right_le_ℤ (f (divided xs)) (pos 0) g n e, zero-mul_ℤ g, mul_comm_ℤ (f (divided xs)) g, of_divided f h xs)
+    omega (arith, linear, mul_right_le_ℤ (f (divided_numbers xs)) (pos 0) g n e, zero-mul_ℤ g, mul_comm_ℤ (f (divided_numbers xs)) g, of_divided f h xs)

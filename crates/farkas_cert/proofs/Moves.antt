@@ -3,7 +3,7 @@ use Rattle.std.proofs.Common.{◌≡◌, ℕ, ◌<◌, sym, ap, ◌∙◌, arith
 use Rattle.std.specs.Prelude.{ℤ, pos, neg_ℤ, ◌+ℤ◌, ◌-ℤ◌, ◌*ℤ◌, ◌<ℤ◌, unsigned_abs, slice_set, ◌&&◌}
 use Rattle.std.proofs.lemmas.List.{length-set, length-map, get_or-take}
 use Rattle.thr_base.specs.Number.{fits}
-use Rattle.lin_rows.specs.Row.{product_of, scaled}
+use Rattle.lin_rows.specs.Row.{product_of, multiple_of}
 use Rattle.lin_rows.specs.Gcd.{gcd}
 use Rattle.lin_rows.proofs.Divisors.{IsGcd-gcd}
 use Rattle.farkas_cert.specs.Divided.{over}
@@ -26,7 +26,7 @@ pub record Moved (c : ℕ) (point : RationalPoint) (f : Fraction) (next : Ration
   pub scale_positive : pos 0 <ℤ scale
   pub of_value : divisor *ℤ scale ≡ f.denominator
   pub of_point : divisor *ℤ share ≡ point.denominator
-  pub numerators : next.numerators ≡ slice_set (scaled scale point.numerators) c (f.numerator *ℤ share)
+  pub numerators : next.numerators ≡ slice_set (multiple_of scale point.numerators) c (f.numerator *ℤ share)
   pub denominator : next.denominator ≡ point.denominator *ℤ scale
 
 some_point : (b : Bool) (x y : RationalPoint) → cond b (Some x) None ≡ Some y → x ≡ y
@@ -41,7 +41,7 @@ assigned_moved c point f next h k e =
     let d = IsGcd-gcd (unsigned_abs point.denominator) (unsigned_abs f.denominator) in
     let scale = over g f.denominator in
     let share = over g point.denominator in
-    let numerators = slice_set (scaled scale point.numerators) c (f.numerator *ℤ share) in
+    let numerators = slice_set (multiple_of scale point.numerators) c (f.numerator *ℤ share) in
     let denominator = point.denominator *ℤ scale in
     let same = some_point (all_fit numerators && fits denominator) (record { numerators = numerators; denominator = denominator }) next e in
     let positive = gcd_positive (unsigned_abs point.denominator) (unsigned_abs f.denominator) (positive_abs f.denominator k) in
@@ -61,7 +61,7 @@ assigned_moved c point f next h k e =
 pub moved_length : (n c : ℕ) (point : RationalPoint) (f : Fraction) (next : RationalPoint) → Moved c point f next → length point.numerators ≡ n
     → length next.numerators ≡ n
 moved_length n c point f next m h =
-    rw m.numerators (length-set (scaled m.scale point.numerators) c (f.numerator *ℤ m.share) ∙ length-map point.numerators (λ x. m.scale *ℤ x) ∙ h)
+    rw m.numerators (length-set (multiple_of m.scale point.numerators) c (f.numerator *ℤ m.share) ∙ length-map point.numerators (λ x. m.scale *ℤ x) ∙ h)
 
 pub moved_positive : (c : ℕ) (point : RationalPoint) (f : Fraction) (next : RationalPoint) → Moved c point f next → pos 0 <ℤ point.denominator
     → pos 0 <ℤ next.denominator
@@ -75,7 +75,7 @@ moved_slack : (n c : ℕ) (point : RationalPoint) (f : Fraction) (next : Rationa
     slack n next line.numbers ≡ (m.scale *ℤ product_of (slice_set (take n line.numbers) c (pos 0)) point.numerators +ℤ coefficient_at c line *ℤ (f.numerator *ℤ m.share)) -ℤ bound_of n line *ℤ (point.denominator *ℤ m.scale)
 moved_slack n c point f next line m l h =
     let xs = take n line.numbers in
-    let ns = scaled m.scale point.numerators in
+    let ns = multiple_of m.scale point.numerators in
     let y = f.numerator *ℤ m.share in
     let long : c < length ns = rw (length-map point.numerators (λ x. m.scale *ℤ x)) (omega arith) in
     let set = set_product xs ns c y long in

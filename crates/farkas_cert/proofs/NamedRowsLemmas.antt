@@ -10,7 +10,7 @@ use Rattle.lin_rows.proofs.Lists.{AllByRecursion-append, AllByRecursion-weaken}
 use Rattle.std.proofs.lemmas.List.{length-append, length-map}
 use Rattle.farkas_cert.specs.Cert.{row_numbered}
 use Rattle.farkas_cert.specs.inside.Columns.{perhaps_denying, CanBeDenied}
-use Rattle.farkas_cert.specs.Proof.{denying}
+use Rattle.farkas_cert.specs.Proof.{with_denial}
 use Rattle.farkas_cert.specs.NamedRows.{IsNamed}
 
 none_is_not : IsSome {T = Row} None → ⊥
@@ -65,7 +65,7 @@ named_alone system held = record { columns = held.columns; count = let few = hel
 over-negation : (columns : ℕ) (atom : Row) → IsAtom atom → length atom.coefficients ≡ columns → IsRowOver columns (negation atom)
 over-negation columns atom is_atom width = record { width = length-map atom.coefficients neg_ℤ ∙ width; fits = (IsAtom-negation atom is_atom).fits }
 
-named_denying : (system : System) (atom : Row) → IsWellFormed system → CanBeDenied system atom → IsNamed (denying system atom)
+named_denying : (system : System) (atom : Row) → IsWellFormed system → CanBeDenied system atom → IsNamed (with_denial system atom)
 named_denying system atom held can =
     let few = held.count in
     let more = length-append system.rows (negation atom ∷ []) in record {

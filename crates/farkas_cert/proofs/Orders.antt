@@ -6,7 +6,7 @@ use Rattle.std.specs.List.{AllByRecursion}
 use Rattle.std.proofs.lemmas.Bool.{ltb-true, lt-ltb}
 use Rattle.std.proofs.lemmas.Int.{ints}
 use Rattle.std.proofs.lemmas.List.{length-map}
-use Rattle.lin_rows.specs.Row.{Row, scaled, sum_of}
+use Rattle.lin_rows.specs.Row.{Row, multiple_of, sum_of}
 use Rattle.lin_rows.specs.System.{System}
 use Rattle.lin_rows.proofs.Lists.{AllByRecursion-at}
 use Rattle.farkas_cert.specs.Cert.{Pairs, InOrder, AllowsAt, IsContradiction, Refutes, row_numbered, add_weighted, weighted_sum}
@@ -38,7 +38,7 @@ add_weighted-swap : (p q : Option Row) (m n : ℤ) (total : Row) → add_weighte
 add_weighted-swap None q m n total = refl
 add_weighted-swap (Some row) None m n total = refl
 add_weighted-swap (Some row) (Some other) m n total =
-    let coefficients = sum_of-swap (scaled m row.coefficients) (scaled n other.coefficients) total.coefficients in
+    let coefficients = sum_of-swap (multiple_of m row.coefficients) (multiple_of n other.coefficients) total.coefficients in
     let bound = swap_ℤ (m *ℤ row.bound) (n *ℤ other.bound) total.bound in
     cc
 

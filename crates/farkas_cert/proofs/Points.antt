@@ -7,7 +7,7 @@ use Rattle.std.proofs.lemmas.Int.{ints}
 use Rattle.std.proofs.lemmas.List.{length-replicate}
 use Rattle.lin_rows.specs.Row.{Row, product_of, MeetsOver}
 use Rattle.lin_rows.specs.System.{System, HasWidths, IsRationalPoint}
-use Rattle.farkas_cert.specs.Line.{Line, given_line, given_lines, coefficient_at, bound_of, is_nonzero, is_false, fails, has_variable, lowest_column, lowest_of, refuting, nonzero_pairs}
+use Rattle.farkas_cert.specs.Line.{Line, given_line, given_lines, coefficient_at, bound_of, is_nonzero, is_false, fails, has_variable, lowest_column, lowest_of, refuting_multipliers, nonzero_pairs}
 use Rattle.farkas_cert.specs.Proof.{overflow_of}
 use Rattle.farkas_cert.specs.BackSubstitution.{RationalPoint, Fraction, Kept, Solved, Bounded, bound_on, bounds_from, chosen_value, assigned_point, set_column}
 use Rattle.farkas_cert.specs.Elimination.{Outcome, Refuted, Point, Leaves, Work, Next, Goes, Ends, every, refutation_outcome, constant_test, constant_test_by, follows, without_equality, substituted_line, equality_stage, with_column, without_column, positives, negatives, pairs_at, are_too_many, pair_stage, take_column_out, take_column_out_by, stage, then_constant_test, or_leaves, point_from, point_of, or_ends, goes_on, stages, beginning, outcome_of, outcome_within}
@@ -94,7 +94,7 @@ unfolding constant_test
 constant_test-leads system number work h = at (find (is_false system.columns) work.lines) refl where
   at : (o : Option Line) → find (is_false system.columns) work.lines ≡ o → NextLeads system (constant_test_by system number work o)
   at None e = λ point x d over meets. h point x d over (constant_test-holds system.columns point work.lines over.positive e meets)
-  at (Some line) e = no_point_refuted system number (refuting system.columns line)
+  at (Some line) e = no_point_refuted system number (refuting_multipliers system.columns line)
 
 -- ---- the step of the point
 

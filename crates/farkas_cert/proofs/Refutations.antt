@@ -2,14 +2,14 @@
 use Rattle.std.proofs.Common.{◌≡◌, ℕ, zero, suc, List, [], ◌∷◌, Option, Some, None, Bool, true, false, MatchBool, ℤ, pos, ◌+ℤ◌, ◌*ℤ◌, ◌≤ℤ◌, ◌<ℤ◌, refl, sym, ◌∙◌, ap, subst, arith}
 use Rattle.std.proofs.lemmas.Int.{ints, by_lt_z}
 use Rattle.std.specs.List.{AllByRecursion}
-use Rattle.lin_rows.specs.Row.{Row, Meets, MeetsOver, product_of, scaled, sum_of}
+use Rattle.lin_rows.specs.Row.{Row, Meets, MeetsOver, product_of, multiple_of, sum_of}
 use Rattle.lin_rows.specs.Atom.{negation}
 use Rattle.lin_rows.proofs.Integers.{mul-le-mul_ℤ, mul-lt-mul_ℤ, mul_assoc_ℤ, add-mul_ℤ, mul_comm_ℤ, mul-zero_ℤ}
 use Rattle.lin_rows.proofs.Lists.{AllByRecursion-append, AllByRecursion-weaken}
 use Rattle.lin_rows.proofs.Points.{product_of-scaled, product_of-sum_of, product_of-AllZero, MeetsOver-one}
 use Rattle.lin_rows.proofs.Atoms.{Meets-inequality, Meets-negation}
 use Rattle.farkas_cert.specs.Cert.{Pairs, InOrder, Allows, AllowsAt, row_numbered, add_weighted, weighted_sum}
-use Rattle.farkas_cert.specs.Proof.{RefutedHasNoPoint, RefutedHasNoWholePoint, PointsMeetWeightedSums, PointsMeetEntailed, denying}
+use Rattle.farkas_cert.specs.Proof.{RefutedHasNoPoint, RefutedHasNoWholePoint, PointsMeetWeightedSums, PointsMeetEntailed, with_denial}
 
 -- what is known of the row that a pair names
 record IsWeighed (x : List ℤ) (d m : ℤ) (row : Row) : Type 0 where
@@ -32,11 +32,11 @@ weighted-more : (x : List ℤ) (d m : ℤ) (row ws : Row) → IsWeighed x d m ro
 weighted-more x d m row ws is rest =
     let p = product_of row.coefficients x in
     let here = weighted-row m p (row.bound *ℤ d) row.equal is.meets is.allows in
-    let left : product_of (sum_of (scaled m row.coefficients) ws.coefficients) x ≡ m *ℤ p +ℤ product_of ws.coefficients x =
-    product_of-sum_of (scaled m row.coefficients) ws.coefficients x ∙ ap (λ v. v +ℤ product_of ws.coefficients x) (product_of-scaled m row.coefficients x) in
+    let left : product_of (sum_of (multiple_of m row.coefficients) ws.coefficients) x ≡ m *ℤ p +ℤ product_of ws.coefficients x =
+    product_of-sum_of (multiple_of m row.coefficients) ws.coefficients x ∙ ap (λ v. v +ℤ product_of ws.coefficients x) (product_of-scaled m row.coefficients x) in
     let right : (m *ℤ row.bound +ℤ ws.bound) *ℤ d ≡ m *ℤ (row.bound *ℤ d) +ℤ ws.bound *ℤ d =
     add-mul_ℤ (m *ℤ row.bound) ws.bound d ∙ ap (λ v. v +ℤ ws.bound *ℤ d) (mul_assoc_ℤ m row.bound d) in
-    at_most (product_of (sum_of (scaled m row.coefficients) ws.coefficients) x) ((m *ℤ row.bound +ℤ ws.bound) *ℤ d) (m *ℤ p) (m *ℤ (row.bound *ℤ d)) (product_of ws.coefficients x) (ws.bound *ℤ d) left right here rest
+    at_most (product_of (sum_of (multiple_of m row.coefficients) ws.coefficients) x) ((m *ℤ row.bound +ℤ ws.bound) *ℤ d) (m *ℤ p) (m *ℤ (row.bound *ℤ d)) (product_of ws.coefficients x) (ws.bound *ℤ d) left right here rest
   where
     at_most : (l r a b c e : ℤ) → l ≡ a +ℤ c → r ≡ b +ℤ e → a ≤ℤ b → c ≤ℤ e → l ≤ℤ r
     at_most l r a b c e p q h i = omega (arith, ints)
@@ -96,7 +96,7 @@ points-meet-entailed system atom z is_atom entails point =
     let denied : (Meets atom z → ⊥) → ⊥ = λ fails.
     let negated = MeetsOver-one (negation atom) z ((Meets-negation atom z is_atom.no_equality).1 fails) in
     let rows = AllByRecursion-weaken (λ row. Meets row z) (λ row. MeetsOver row z (pos 1)) (λ row h. MeetsOver-one row z h) system.rows point.meets in
-    refuted-has-no-point (denying system atom) z (pos 1) entails record {
+    refuted-has-no-point (with_denial system atom) z (pos 1) entails record {
       whole = point.whole;
       positive = omega (arith, ints);
       meets = AllByRecursion-append (λ row. MeetsOver row z (pos 1)) system.rows (negation atom ∷ []) rows (negated, tt);

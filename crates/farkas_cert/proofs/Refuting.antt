@@ -10,7 +10,7 @@ use Rattle.lin_rows.specs.System.{System}
 use Rattle.lin_rows.proofs.Booleans.{both_true}
 use Rattle.farkas_cert.specs.Cert.{Refutes, weighted_sum}
 use Rattle.farkas_cert.specs.Reduced.{IsReduced}
-use Rattle.farkas_cert.specs.Line.{Line, given_line, given_lines, bound_of, multipliers_of, is_nonzero, has_variable, fails, is_false, refuting, nonzero_pairs}
+use Rattle.farkas_cert.specs.Line.{Line, given_line, given_lines, bound_of, multipliers_of, is_nonzero, has_variable, fails, is_false, refuting_multipliers, nonzero_pairs}
 use Rattle.lin_rows.proofs.Divisors.{DividesAll, AllZero}
 use Rattle.lin_rows.proofs.Integers.{zero-mul_ℤ, one-mul_ℤ, neg-mul_ℤ}
 use Rattle.farkas_cert.proofs.Integers.{linear}
@@ -208,8 +208,8 @@ by_kind system line true true e p h z f = by_positive system line h e z (omega (
 by_kind system line true false e p h z f = by_negative system line h z (nonzero_negative (bound_of system.columns line) f p)
 
 pub false_refutes : (system : System) (line : Line) → IsDerived system line → is_false system.columns line ≡ true
-    → IsProvedBy system (refuting system.columns line)
-unfolding is_false refuting
+    → IsProvedBy system (refuting_multipliers system.columns line)
+unfolding is_false refuting_multipliers
 false_refutes system line h f =
     let parts = both_true (not (has_variable system.columns line)) (fails line.equal (bound_of system.columns line)) f in
     by_kind system line line.equal (int_lt (pos 0) (bound_of system.columns line)) refl refl h (no_variable system.columns line (not_true (has_variable system.columns line) parts.0)) parts.1

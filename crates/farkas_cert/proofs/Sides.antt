@@ -5,7 +5,7 @@ use Rattle.std.specs.Int.{int_signum, IsGcd}
 use Rattle.std.proofs.lemmas.List.{get_or-take}
 use Rattle.lin_rows.specs.Gcd.{gcd}
 use Rattle.lin_rows.proofs.Divisors.{IsGcd-gcd}
-use Rattle.farkas_cert.specs.Divided.{over, divided}
+use Rattle.farkas_cert.specs.Divided.{over, divided_numbers}
 use Rattle.farkas_cert.specs.Line.{Line, coefficient_at, is_nonzero, combination, made_line}
 use Rattle.farkas_cert.specs.BackSubstitution.{RationalPoint, Fraction, bound_on}
 use Rattle.farkas_cert.specs.Elimination.{paired_line, substituted_line}
@@ -119,7 +119,7 @@ slack_split : (n c : ℕ) (point : RationalPoint) (line : Line) → c < n
 slack_split n c point line l =
     omega (arith, linear, without_product (take n line.numbers) point.numerators c, ap (λ t. t *ℤ get_or point.numerators c (pos 0)) (get_or-take n line.numbers c (pos 0) l))
 
-holds_unreduced : (equal : Bool) (f : List ℤ → ℤ) → IsLinear f → (xs : List ℤ) → Holds equal (f (divided xs)) → Holds equal (f xs)
+holds_unreduced : (equal : Bool) (f : List ℤ → ℤ) → IsLinear f → (xs : List ℤ) → Holds equal (f (divided_numbers xs)) → Holds equal (f xs)
 holds_unreduced true f l xs h = from_divided_vanishes f l xs h
 holds_unreduced false f l xs h = from_divided_at_most f l xs h
 
@@ -129,7 +129,7 @@ unreduced : (n : ℕ) (point : RationalPoint) (equal : Bool) (a : ℤ) (left : L
     → Holds equal (a *ℤ slack n point left.numbers +ℤ b *ℤ slack n point right.numbers)
 unreduced n point equal a left b right next e h =
     let xs = combination a left.numbers b right.numbers in
-    let here : Holds equal (slack n point (divided xs)) = subst (λ (line : Line). MeetsLine n point line) (sym (made_is equal a left.numbers b right.numbers next e)) h in
+    let here : Holds equal (slack n point (divided_numbers xs)) = subst (λ (line : Line). MeetsLine n point line) (sym (made_is equal a left.numbers b right.numbers next e)) h in
     subst (λ t. Holds equal t) (of_combination (slack n point) (slack_linear n point) a left.numbers b right.numbers) (holds_unreduced equal (slack n point) (slack_linear n point) xs here)
 
 pub substituted_back : (n c : ℕ) (point : RationalPoint) (equality line next : Line) → is_nonzero (coefficient_at c equality) ≡ true

@@ -2,7 +2,7 @@
 use Rattle.std.proofs.Common.{◌≡◌, ℕ, zero, suc, ◌≤◌, sym, ap, ◌∙◌, arith, subst, List, [], ◌∷◌, map, drop, Bool, true, false, Some, Option}
 use Rattle.std.specs.Prelude.{ℤ, pos, negsuc, neg_ℤ, ◌+ℤ◌, ◌*ℤ◌, ◌≤ℤ◌, MatchBool, ⊤, slice_get}
 use Rattle.std.proofs.Math.Nat.{zero-div}
-use Rattle.lin_rows.specs.Row.{Row, scaled, sum_of}
+use Rattle.lin_rows.specs.Row.{Row, multiple_of, sum_of}
 use Rattle.farkas_cert.specs.Cert.{InOrder, AllowsAt, Allows, row_numbered}
 use Rattle.farkas_cert.specs.Divided.{over}
 use Rattle.farkas_cert.specs.Line.{nonzero_pairs}
@@ -51,12 +51,12 @@ row_over false true g m h = rw h (ap pos (zero-div g))
 row_over false false g (pos n) h = omega (arith, linear)
 row_over false false g (negsuc n) h = absurd (omega (arith, linear))
 
-pub signs_scaled : (equal : Bool) (a : ℤ) (rows : List Row) (ms : List ℤ) → pos 0 ≤ℤ a → Signs equal rows ms → Signs equal rows (scaled a ms)
+pub signs_scaled : (equal : Bool) (a : ℤ) (rows : List Row) (ms : List ℤ) → pos 0 ≤ℤ a → Signs equal rows ms → Signs equal rows (multiple_of a ms)
 signs_scaled equal a rows [] n h = tt
 signs_scaled equal a [] (m ∷ ms) n h = h
 signs_scaled equal a (row ∷ rows) (m ∷ ms) n h = (row_scaled row.equal equal a m n h.0, signs_scaled equal a rows ms n h.1)
 
-pub signs_any : (b : ℤ) (rows : List Row) (ms : List ℤ) → Signs true rows ms → Signs true rows (scaled b ms)
+pub signs_any : (b : ℤ) (rows : List Row) (ms : List ℤ) → Signs true rows ms → Signs true rows (multiple_of b ms)
 signs_any b rows [] h = tt
 signs_any b [] (m ∷ ms) h = h
 signs_any b (row ∷ rows) (m ∷ ms) h = (row_any row.equal b m h.0, signs_any b rows ms h.1)

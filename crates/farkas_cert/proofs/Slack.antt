@@ -3,7 +3,7 @@ use Rattle.std.proofs.Common.{◌≡◌, ℕ, zero, suc, ◌<◌, refl, sym, ap,
 use Rattle.std.specs.Prelude.{ℤ, pos, ◌+ℤ◌, ◌-ℤ◌, ◌*ℤ◌, ◌≤ℤ◌, slice_set, ◌&&◌}
 use Rattle.std.specs.Option.{option_map, option_and_then}
 use Rattle.thr_base.specs.Number.{fits}
-use Rattle.lin_rows.specs.Row.{product_of, scaled}
+use Rattle.lin_rows.specs.Row.{product_of, multiple_of}
 use Rattle.lin_rows.specs.Exact.{fitting}
 use Rattle.farkas_cert.specs.Line.{Line, coefficient_at, bound_of}
 use Rattle.farkas_cert.specs.BackSubstitution.{RationalPoint, Fraction, fraction, minus_products, bound_on}
@@ -54,7 +54,7 @@ without_product (x ∷ xs) [] (suc c) = omega (arith, linear, mul-zero_ℤ (get_
 without_product (x ∷ xs) (n ∷ ns) zero = omega (arith, linear, zero-mul_ℤ n)
 without_product (x ∷ xs) (n ∷ ns) (suc c) = omega (arith, linear, without_product xs ns c)
 
-pub product-scaled_right : (k : ℤ) (xs ns : List ℤ) → product_of xs (scaled k ns) ≡ k *ℤ product_of xs ns
+pub product-scaled_right : (k : ℤ) (xs ns : List ℤ) → product_of xs (multiple_of k ns) ≡ k *ℤ product_of xs ns
 product-scaled_right k [] ns = sym (mul-zero_ℤ k)
 product-scaled_right k (x ∷ xs) [] = sym (mul-zero_ℤ k)
 product-scaled_right k (x ∷ xs) (n ∷ ns) = omega (arith, linear, product-scaled_right k xs ns, mul_left_comm_ℤ x k n, mul-add_ℤ k (x *ℤ n) (product_of xs ns))

@@ -6,7 +6,7 @@ use Rattle.std.specs.Ordering.{int_eq}
 use Rattle.std.specs.Option.{option_map_or}
 use Rattle.std.specs.List.{AllByRecursion}
 use Rattle.thr_base.specs.Number.{fits}
-use Rattle.lin_rows.specs.Row.{Row, scaled, sum_of}
+use Rattle.lin_rows.specs.Row.{Row, multiple_of, sum_of}
 use Rattle.lin_rows.specs.System.{System, HasWidths}
 use Rattle.lin_rows.proofs.Booleans.{both_true}
 use Rattle.farkas_cert.specs.Cert.{Pairs, InOrder, AllowsAt, IsContradiction, row_numbered, add_weighted, weighted_sum}
@@ -50,7 +50,7 @@ pub Rising-products : (rows : List Row) (last : ℕ) (pairs : Pairs) → InOrder
 Rising-products rows last [] h = tt
 Rising-products rows last ((k, m) ∷ pairs) h = (h.0, Rising-products rows k pairs h.2)
 
-length-scaled : (m : ℤ) (xs : List ℤ) → length (scaled m xs) ≡ length xs
+length-scaled : (m : ℤ) (xs : List ℤ) → length (multiple_of m xs) ≡ length xs
 length-scaled m [] = refl
 length-scaled m (x ∷ xs) = ap suc (length-scaled m xs)
 
@@ -83,13 +83,13 @@ get_or-last (x ∷ xs) y (suc c) h = get_or-last xs y c (omega arith)
 
 -- a column of the weighted sum, of a pair whose row is there
 column_of_pair : (m : ℤ) (xs ws : List ℤ) (y rest : ℤ) (c : ℕ) → c < length xs → rest ≡ get_or ws c (pos 0)
-    → get_or (scaled m (xs ++ y ∷ [])) c (pos 0) +ℤ rest ≡ get_or (sum_of (scaled m xs) ws) c (pos 0)
+    → get_or (multiple_of m (xs ++ y ∷ [])) c (pos 0) +ℤ rest ≡ get_or (sum_of (multiple_of m xs) ws) c (pos 0)
 column_of_pair m xs ws y rest c h e =
     ap₂ ◌+ℤ◌ (get_or-scaled m (xs ++ y ∷ []) c ∙ ap (λ v. m *ℤ v) (get_or-front xs y c h) ∙ sym (get_or-scaled m xs c)) e
-    ∙ sym (get_or-sum_of (scaled m xs) ws c)
+    ∙ sym (get_or-sum_of (multiple_of m xs) ws c)
 
 bound_of_pair : (m : ℤ) (xs : List ℤ) (y rest bound : ℤ) (c : ℕ) → c ≡ length xs → rest ≡ bound
-    → get_or (scaled m (xs ++ y ∷ [])) c (pos 0) +ℤ rest ≡ m *ℤ y +ℤ bound
+    → get_or (multiple_of m (xs ++ y ∷ [])) c (pos 0) +ℤ rest ≡ m *ℤ y +ℤ bound
 bound_of_pair m xs y rest bound c h e =
     ap₂ ◌+ℤ◌ (get_or-scaled m (xs ++ y ∷ []) c ∙ ap (λ v. m *ℤ v) (get_or-last xs y c h)) e
 
@@ -109,7 +109,7 @@ total-column n c rows last ((k, m) ∷ pairs) widths h below =
     let row = there n rows k m widths h.1 in
     let rest = total-column n c rows k pairs widths h.2 below in
     let ws = weighted_sum rows pairs in
-    let P : Option Row → Type 0 = λ r. get_or (scaled m (numbers_of r)) c (pos 0) +ℤ total c (products rows pairs) ≡ get_or (add_weighted r m ws).coefficients c (pos 0) in
+    let P : Option Row → Type 0 = λ r. get_or (multiple_of m (numbers_of r)) c (pos 0) +ℤ total c (products rows pairs) ≡ get_or (add_weighted r m ws).coefficients c (pos 0) in
     subst P (sym row.1) (column_of_pair m row.0.coefficients ws.coefficients row.0.bound (total c (products rows pairs)) c (omega (arith, row.2)) rest)
 
 pub total-bound : (n : ℕ) (rows : List Row) (last : ℕ) (pairs : Pairs) → HaveWidth n rows → InOrder rows last pairs → total n (products rows pairs) ≡ (weighted_sum rows pairs).bound
@@ -118,7 +118,7 @@ total-bound n rows last ((k, m) ∷ pairs) widths h =
     let row = there n rows k m widths h.1 in
     let rest = total-bound n rows k pairs widths h.2 in
     let ws = weighted_sum rows pairs in
-    let P : Option Row → Type 0 = λ r. get_or (scaled m (numbers_of r)) n (pos 0) +ℤ total n (products rows pairs) ≡ (add_weighted r m ws).bound in
+    let P : Option Row → Type 0 = λ r. get_or (multiple_of m (numbers_of r)) n (pos 0) +ℤ total n (products rows pairs) ≡ (add_weighted r m ws).bound in
     subst P (sym row.1) (bound_of_pair m row.0.coefficients row.0.bound (total n (products rows pairs)) ws.bound n (sym row.2) rest)
 
 -- ---- sums that are all 0
@@ -135,7 +135,7 @@ length-weighted_sum n rows last ((k, m) ∷ pairs) widths h =
     let rest = length-weighted_sum n rows k pairs widths h.2 in
     let ws = weighted_sum rows pairs in
     let P : Option Row → Type 0 = λ r. length (add_weighted r m ws).coefficients ≤ n in
-    subst P (sym row.1) (length-sum_of-le n (scaled m row.0.coefficients) ws.coefficients (omega (arith, length-scaled m row.0.coefficients, row.2)) rest)
+    subst P (sym row.1) (length-sum_of-le n (multiple_of m row.0.coefficients) ws.coefficients (omega (arith, length-scaled m row.0.coefficients, row.2)) rest)
 
 abbrev AllZero : List ℤ → Type 0
 AllZero xs = AllByRecursion (λ a. a ≡ pos 0) xs

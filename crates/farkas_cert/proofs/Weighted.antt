@@ -6,7 +6,7 @@ use Rattle.std.specs.List.{AllByRecursion}
 use Rattle.std.proofs.lemmas.Int.{unsigned_abs-mul}
 use Rattle.std.proofs.lemmas.Nat.Gcd.{dvd-zero}
 use Rattle.std.proofs.Math.Nat.{dvd-mul_right}
-use Rattle.lin_rows.specs.Row.{Row, product_of, scaled}
+use Rattle.lin_rows.specs.Row.{Row, product_of, multiple_of}
 use Rattle.lin_rows.proofs.Points.{product_of-nil}
 use Rattle.farkas_cert.specs.Cert.{add_weighted, row_numbered, weighted_sum}
 use Rattle.farkas_cert.specs.Divided.{over}
@@ -31,7 +31,7 @@ sum_with : (o : Option Row) (row : Row) (m : ℤ) (total : Row) (y : List ℤ) �
 sum_with None row m total y e = absurd cc
 sum_with (Some other) row m total y e =
     let same : other ≡ row = cc in
-    product-sum (scaled m other.coefficients) total.coefficients y
+    product-sum (multiple_of m other.coefficients) total.coefficients y
     ∙ ap (λ t. t +ℤ product_of total.coefficients y) (product-scaled m other.coefficients y)
     ∙ ap (λ (r : Row). m *ℤ product_of r.coefficients y +ℤ product_of total.coefficients y) same
 

@@ -3,8 +3,8 @@ use Rattle.std.proofs.Common.{◌≡◌, ℕ, refl, ◌^◌, ◌+◌, true, fals
 use Rattle.std.specs.Prelude.{ℤ, pos, neg_ℤ}
 use Rattle.lin_rows.specs.Row.{Row}
 use Rattle.lin_rows.specs.System.{System}
-use Rattle.farkas_cert.specs.Divided.{divided}
-use Rattle.farkas_cert.specs.Line.{given_lines, has_variable, lowest_column, lowest_of, is_false, refuting, nonzero_pairs, made_line}
+use Rattle.farkas_cert.specs.Divided.{divided_numbers}
+use Rattle.farkas_cert.specs.Line.{given_lines, has_variable, lowest_column, lowest_of, is_false, refuting_multipliers, nonzero_pairs, made_line}
 use Rattle.farkas_cert.specs.BackSubstitution.{fraction, bound_on, bounds_from, assigned_point, set_column}
 use Rattle.farkas_cert.specs.Elimination.{Refuted, Point, Leaves, outcome_of, outcome_within, beginning, stages, stage, take_column_out, point_from, constant_test, equality_stage, pair_stage, pairs_at, paired_line, substituted_line, without_equality, every}
 use Rattle.farkas_cert.specs.declared.answers.LeaveKind.TheVariants.{Overflow}
@@ -50,5 +50,5 @@ worked :
     ≡ Point (pos 1 ∷ pos 0 ∷ []) (pos 1))
     -- no columns, with 0 <= 0
     × (outcome_of (over_columns 0 (at_most [] (pos 0) ∷ [])) ≡ Point [] (pos 1))
-unfolding outcome_within beginning stages stage take_column_out point_from constant_test equality_stage pair_stage pairs_at paired_line substituted_line without_equality every fraction bound_on bounds_from assigned_point set_column given_lines has_variable lowest_column lowest_of is_false refuting nonzero_pairs made_line divided
+unfolding outcome_within beginning stages stage take_column_out point_from constant_test equality_stage pair_stage pairs_at paired_line substituted_line without_equality every fraction bound_on bounds_from assigned_point set_column given_lines has_variable lowest_column lowest_of is_false refuting_multipliers nonzero_pairs made_line divided_numbers
 worked = (refl, refl, refl, refl, refl, refl, refl, refl, refl, refl, refl)

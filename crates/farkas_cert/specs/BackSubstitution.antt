@@ -5,7 +5,7 @@ use Rattle.std.specs.Int.{int_div_euclid}
 use Rattle.std.specs.Option.{option_map, option_and_then}
 use Rattle.thr_base.specs.Number.{fits}
 use Rattle.lin_rows.specs.Exact.{fitting}
-use Rattle.lin_rows.specs.Row.{scaled}
+use Rattle.lin_rows.specs.Row.{multiple_of}
 use Rattle.lin_rows.specs.Gcd.{gcd}
 use Rattle.farkas_cert.specs.Divided.{over}
 use Rattle.farkas_cert.specs.Line.{Line, coefficient_at, bound_of, all_fit}
@@ -97,7 +97,7 @@ chosen_value None None = whole (pos 0)
 -- Column c gets v times the share, and the others and the denominator are multiplied by the scale; nothing where a product does not fit.
 abbrev pub assigned_point_by : ℕ → RationalPoint → ℤ → ℤ → ℤ → Option RationalPoint
 assigned_point_by c point v share scale =
-    let numerators = slice_set (scaled scale point.numerators) c (v *ℤ share) in
+    let numerators = slice_set (multiple_of scale point.numerators) c (v *ℤ share) in
     let denominator = point.denominator *ℤ scale in
     cond (all_fit numerators && fits denominator) (Some (record { numerators = numerators; denominator = denominator })) None
 

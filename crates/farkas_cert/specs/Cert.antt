@@ -1,7 +1,7 @@
 -- Certificates: multipliers of a system's rows whose weighted sum is a contradiction.
 use Rattle.std.specs.Prelude.{◌≡◌, ℕ, zero, suc, ◌<◌, ℤ, pos, ◌+ℤ◌, ◌*ℤ◌, ◌≤ℤ◌, ◌<ℤ◌, false, List, [], ◌∷◌, Option, Some, None, slice_get, MatchBool, ⊤}
 use Rattle.std.specs.List.{AllByRecursion}
-use Rattle.lin_rows.specs.Row.{Row, scaled, sum_of}
+use Rattle.lin_rows.specs.Row.{Row, multiple_of, sum_of}
 use Rattle.lin_rows.specs.System.{System}
 
 -- the numbers of rows, from 1, each with its multiplier; rows that are not listed have 0
@@ -32,7 +32,7 @@ abbrev pub add_weighted : Option Row → ℤ → Row → Row
 add_weighted None m total = total
 add_weighted (Some row) m total = record {
   equal = false;
-  coefficients = sum_of (scaled m row.coefficients) total.coefficients;
+  coefficients = sum_of (multiple_of m row.coefficients) total.coefficients;
   bound = m *ℤ row.bound +ℤ total.bound;
 }
 

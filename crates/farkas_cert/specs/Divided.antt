@@ -8,5 +8,5 @@ abbrev pub over : ℕ → ℤ → ℤ
 over g x = int_div_euclid x (pos g)
 
 -- the numbers over their greatest common divisor
-unfoldable pub divided : List ℤ → List ℤ
-divided xs = map (over (gcd_of xs)) xs
+unfoldable pub divided_numbers : List ℤ → List ℤ
+divided_numbers xs = map (over (gcd_of xs)) xs

@@ -8,7 +8,7 @@ use Rattle.lin_rows.specs.System.{System}
 use Rattle.farkas_cert.specs.Cert.{Pairs}
 use Rattle.lin_rows.specs.Gcd.{gcd}
 use Rattle.farkas_cert.specs.Divided.{over}
-use Rattle.farkas_cert.specs.Line.{Line, given_lines, coefficient_at, lowest_column, lowest_of, has_variable, is_false, refuting, nonzero_pairs, is_nonzero, made_line}
+use Rattle.farkas_cert.specs.Line.{Line, given_lines, coefficient_at, lowest_column, lowest_of, has_variable, is_false, refuting_multipliers, nonzero_pairs, is_nonzero, made_line}
 use Rattle.farkas_cert.specs.Proof.{overflow_of}
 use Rattle.farkas_cert.specs.declared.answers.LeaveKind.{LeaveKind}
 use Rattle.farkas_cert.specs.declared.answers.LeaveKind.TheVariants.{Overflow, Rows}
@@ -51,7 +51,7 @@ refutation_outcome system number ms =
 
 -- The first false line without a variable ends the work as refuted; the other lines without a variable are removed.
 abbrev pub constant_test_by : System → ℕ → Work → Option Line → Next
-constant_test_by system number work (Some line) = Ends (refutation_outcome system number (refuting system.columns line))
+constant_test_by system number work (Some line) = Ends (refutation_outcome system number (refuting_multipliers system.columns line))
 constant_test_by system number work None = Goes (record work { lines = filter (has_variable system.columns) work.lines })
 
 unfoldable pub constant_test : System → ℕ → Work → Next

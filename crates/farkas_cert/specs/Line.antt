@@ -2,8 +2,8 @@
 use Rattle.std.specs.Prelude.{ℕ, zero, suc, min, ℤ, pos, negsuc, neg_ℤ, Bool, true, false, cond, not, ◌&&◌, int_lt, List, [], ◌∷◌, ◌++◌, map, fold, take, drop, get_or, replicate, slice_set, Option, Some, None}
 use Rattle.std.specs.List.{list_all, list_any, position_or_len}
 use Rattle.thr_base.specs.Number.{fits}
-use Rattle.lin_rows.specs.Row.{Row, scaled, sum_of}
-use Rattle.farkas_cert.specs.Divided.{divided}
+use Rattle.lin_rows.specs.Row.{Row, multiple_of, sum_of}
+use Rattle.farkas_cert.specs.Divided.{divided_numbers}
 use Rattle.farkas_cert.specs.Cert.{Pairs}
 
 pub record Line : Type 0 where
@@ -59,8 +59,8 @@ unfoldable pub is_false : ℕ → Line → Bool
 is_false n line = not (has_variable n line) && fails line.equal (bound_of n line)
 
 -- the multipliers by which a false line refutes: all negated where it is an equality with a positive bound
-unfoldable pub refuting : ℕ → Line → List ℤ
-refuting n line = cond (line.equal && int_lt (pos 0) (bound_of n line)) (map neg_ℤ (multipliers_of n line)) (multipliers_of n line)
+unfoldable pub refuting_multipliers : ℕ → Line → List ℤ
+refuting_multipliers n line = cond (line.equal && int_lt (pos 0) (bound_of n line)) (map neg_ℤ (multipliers_of n line)) (multipliers_of n line)
 
 -- the multipliers that are not 0, with the numbers of their rows, from k on
 unfoldable pub nonzero_pairs : ℕ → List ℤ → Pairs
@@ -72,12 +72,12 @@ all_fit xs = list_all fits xs
 
 -- a times the one list plus b times the other: coefficients, bounds and multipliers alike
 abbrev pub combination : ℤ → List ℤ → ℤ → List ℤ → List ℤ
-combination a xs b ys = sum_of (scaled a xs) (scaled b ys)
+combination a xs b ys = sum_of (multiple_of a xs) (multiple_of b ys)
 
 -- Each product and each sum of a combination fits.
 abbrev pub combination_fits : ℤ → List ℤ → ℤ → List ℤ → Bool
-combination_fits a xs b ys = all_fit (scaled a xs) && (all_fit (scaled b ys) && all_fit (combination a xs b ys))
+combination_fits a xs b ys = all_fit (multiple_of a xs) && (all_fit (multiple_of b ys) && all_fit (combination a xs b ys))
 
 -- A made line is divided by the greatest common divisor of its numbers. None is made where a product or a sum does not fit.
 unfoldable pub made_line : Bool → ℤ → List ℤ → ℤ → List ℤ → Option Line
-made_line equal a xs b ys = cond (combination_fits a xs b ys) (Some (record { equal = equal; numbers = divided (combination a xs b ys) })) None
+made_line equal a xs b ys = cond (combination_fits a xs b ys) (Some (record { equal = equal; numbers = divided_numbers (combination a xs b ys) })) None

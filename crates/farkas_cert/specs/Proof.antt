@@ -3,7 +3,7 @@ use Rattle.std.specs.Prelude.{◌≡◌, ℕ, suc, ℤ, List, [], ◌∷◌, ◌
 use Rattle.std.specs.Option.{option_or}
 use Rattle.thr_base.specs.Number.{fits}
 use Rattle.std.specs.List.{AllByRecursion}
-use Rattle.lin_rows.specs.Row.{Row, Meets, MeetsOver, scaled, sum_of}
+use Rattle.lin_rows.specs.Row.{Row, Meets, MeetsOver, multiple_of, sum_of}
 use Rattle.lin_rows.specs.System.{System, IsPoint, IsRationalPoint, with_row}
 use Rattle.lin_rows.specs.Atom.{IsAtom, negation}
 use Rattle.farkas_cert.specs.Cert.{Pairs, Refutes, IsRefuted, InOrder, row_numbered, weighted_sum}
@@ -17,7 +17,7 @@ numbers_of (Some row) = row.coefficients ++ row.bound ∷ []
 -- for each pair its row's number and the products of that row's numbers with the multiplier
 abbrev pub products : List Row → Pairs → List (ℕ × List ℤ)
 products rows [] = []
-products rows ((k, m) ∷ pairs) = (k, scaled m (numbers_of (row_numbered rows k))) ∷ products rows pairs
+products rows ((k, m) ∷ pairs) = (k, multiple_of m (numbers_of (row_numbered rows k))) ∷ products rows pairs
 
 -- the first place at which one of two lists has a number that does not fit
 abbrev pub unfit_place : List ℤ → List ℤ → Option ℕ
@@ -43,12 +43,12 @@ pub record Proves (system : System) (pairs : Pairs) : Type 0 where
   pub fits : overflow_of system.rows pairs ≡ None
 
 -- the system with an atom's negation as its last row
-abbrev pub denying : System → Row → System
-denying system atom = with_row system (negation atom)
+abbrev pub with_denial : System → Row → System
+with_denial system atom = with_row system (negation atom)
 
 -- The system without the atom is refuted.
 abbrev pub Entails : System → Row → Type 0
-Entails system atom = IsRefuted (denying system atom)
+Entails system atom = IsRefuted (with_denial system atom)
 
 -- ---- laws
 -- A refuted system has no rational point.

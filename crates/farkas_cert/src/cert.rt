@@ -4,7 +4,7 @@ ghost use Rattle.thr_base.specs.Number.{Fits};
 ghost use Rattle.lin_rows.specs.View.{system_of};
 ghost use Rattle.farkas_cert.specs.Cert.{InOrder, AllowsAt, row_numbered};
 ghost use Rattle.farkas_cert.specs.Line.{nonzero_pairs};
-ghost use Rattle.farkas_cert.specs.Proof.{Entails, Proves, denying};
+ghost use Rattle.farkas_cert.specs.Proof.{Entails, Proves, with_denial};
 ghost use Rattle.farkas_cert.specs.Answer.{IsCertAnswer};
 
 use crate::answers::CertAnswer;
@@ -103,9 +103,9 @@ pub fn check_cert(rows: &RowsView<'_>, cert: &[(u32, i128)]) -> CertAnswer
 /// the last.
 pub fn check_entails(rows: &RowsView<'_>, atom: &Atom, cert: &[(u32, i128)]) -> CertAnswer
     requires { length atom.now.coefficients ≡ (system_of rows.now).columns }
-    ensures answer { IsCertAnswer (denying (system_of rows.now) atom.now) cert.now result }
-    ensures proves { (result ≡ CertAnswer.Proves) ↔ Proves (denying (system_of rows.now) atom.now) cert.now }
+    ensures answer { IsCertAnswer (with_denial (system_of rows.now) atom.now) cert.now result }
+    ensures proves { (result ≡ CertAnswer.Proves) ↔ Proves (with_denial (system_of rows.now) atom.now) cert.now }
     ensures entailed { result ≡ CertAnswer.Proves → Entails (system_of rows.now) atom.now }
 {
-    check_named(&NamedRows::denying(rows, atom), cert)
+    check_named(&NamedRows::with_denial(rows, atom), cert)
 }

@@ -4,7 +4,7 @@ ghost use Rattle.std.specs.List.{AllByRecursion};
 ghost use Rattle.thr_base.specs.Number.{Fits};
 ghost use Rattle.lin_rows.specs.Exact.{fitting};
 ghost use Rattle.farkas_cert.specs.Combination.{combined_number};
-ghost use Rattle.farkas_cert.specs.Divided.{divided};
+ghost use Rattle.farkas_cert.specs.Divided.{divided_numbers};
 
 use lin_rows::{divisor_of, floor_of, product_if_fits, sum_if_fits};
 
@@ -42,7 +42,7 @@ fn divide_by(numbers: &mut [i128], divisor: i128)
 /// Each number is divided by the greatest common divisor of all.
 pub fn divide(numbers: &mut [i128])
     requires { AllByRecursion Fits numbers.old }
-    ensures { numbers.new ≡ divided numbers.old }
+    ensures { numbers.new ≡ divided_numbers numbers.old }
 {
     let divisor = divisor_of(numbers);
     if 1 < divisor {

@@ -3,7 +3,7 @@ ghost use Rattle.thr_base.specs.Number.{Fits};
 ghost use Rattle.lin_rows.specs.Atom.{IsAtom, negation};
 ghost use Rattle.lin_rows.specs.View.{row_of, system_of};
 ghost use Rattle.farkas_cert.specs.Cert.{AllowsAt, row_numbered};
-ghost use Rattle.farkas_cert.specs.Proof.{denying, numbers_of};
+ghost use Rattle.farkas_cert.specs.Proof.{with_denial, numbers_of};
 ghost use Rattle.farkas_cert.specs.NamedRows.{IsNamed};
 ghost use Rattle.farkas_cert.specs.inside.Columns.{number_at};
 
@@ -43,9 +43,9 @@ impl<'a> NamedRows<'a> {
         }
     }
 
-    pub fn denying(rows: &RowsView<'a>, atom: &'a Atom) -> NamedRows<'a>
+    pub fn with_denial(rows: &RowsView<'a>, atom: &'a Atom) -> NamedRows<'a>
         requires { length atom.now.coefficients ≡ (system_of rows.now).columns }
-        ensures { result ≡ denying (system_of rows.now) atom.now }
+        ensures { result ≡ with_denial (system_of rows.now) atom.now }
     {
         NamedRows {
             rows: *rows,

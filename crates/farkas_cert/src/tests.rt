@@ -179,7 +179,7 @@ fn rows_that_can_be_named(rt: HostRuntime) -> Result<(), Fail> {
     };
     let view = rows.view();
     assert_eq!(rt; NamedRows::of(&view).count(), 2);
-    let named = NamedRows::denying(&view, &atom);
+    let named = NamedRows::with_denial(&view, &atom);
     assert_eq!(rt; (named.columns(), named.count()), (1, 3));
     assert_eq!(rt;
         (named.equality_of(3), named.equality_of(4)),

@@ -2,7 +2,7 @@
 use Rattle.std.proofs.Common.{◌≡◌, ◌≢◌, ◌⊎◌, ℕ, zero, suc, ◌+◌, ◌<◌, List, [], ◌∷◌, ◌++◌, map, length, get_or, Some, refl, sym, subst, inl, inr, arith}
 use Rattle.std.specs.List.{Contains, AllPairs, slice_get}
 use Rattle.std.proofs.lemmas.List.Elements.{Contains-append_left, Contains-append_right}
-use Rattle.transition_formula.specs.Program.{numbered}
+use Rattle.transition_formula.specs.Program.{at_number}
 use Rattle.horn_rules.specs.Home.{by_number}
 use Rattle.horn_rules.proofs.Lists.{Contains-first, Contains-later, first-or-later, contains-nothing, Contains-unmap}
 
@@ -50,7 +50,7 @@ by_number-from give n (x ∷ xs) y there = elim (Contains-append (give n x) (by_
 ]
 
 -- the same with numbers from 1
-pub numbered-there : {X Y : Type 0} (give : ℕ → X → List Y) (xs : List X) (n : ℕ) (x : X) (y : Y) → numbered xs n ≡ Some x → Contains (give n x) y → Contains (by_number give 1 xs) y
+pub numbered-there : {X Y : Type 0} (give : ℕ → X → List Y) (xs : List X) (n : ℕ) (x : X) (y : Y) → at_number xs n ≡ Some x → Contains (give n x) y → Contains (by_number give 1 xs) y
 numbered-there give xs zero x y at there = cc
 numbered-there give xs (suc k) x y at there =
     let number : suc k ≡ 1 + k = omega arith in
@@ -59,7 +59,7 @@ numbered-there give xs (suc k) x y at there =
 pub record IsNumbered {X Y : Type 0} (give : ℕ → X → List Y) (xs : List X) (y : Y) : Type 0 where
   pub n : ℕ
   pub x : X
-  pub x_is : numbered xs n ≡ Some x
+  pub x_is : at_number xs n ≡ Some x
   pub gives : Contains (give n x) y
 
 pub numbered-from : {X Y : Type 0} (give : ℕ → X → List Y) (xs : List X) (y : Y) → Contains (by_number give 1 xs) y → IsNumbered give xs y

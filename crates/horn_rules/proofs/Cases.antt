@@ -2,11 +2,11 @@
 use Rattle.std.proofs.Common.{◌≡◌, ℕ, ◌+◌, ◌-◌, length, Some, refl, sym, ap, ap₂, subst, ◌∙◌, arith}
 use Rattle.std.proofs.lemmas.List.{append-nil}
 use Rattle.lin_rows.specs.Row.{Row}
-use Rattle.transition_formula.specs.Program.{Program, Thread, Edge, IsThreadOf, IsEdgeOf, numbered}
+use Rattle.transition_formula.specs.Program.{Program, Thread, Edge, IsThreadOf, IsEdgeOf, at_number}
 use Rattle.horn_rules.specs.Home.{Home, State, Env}
 use Rattle.horn_rules.specs.Fact.{Statement}
 use Rattle.horn_rules.specs.Instance.{Instance, Init, Own, Guar, Env as Environment, Inter, first_of, second_of, map_instance}
-use Rattle.horn_rules.specs.Case.{Case, IsCaseOf, init, own, guar, env, inter, init_case, own_case, guar_case, env_case, inter_case, moved, placed_at}
+use Rattle.horn_rules.specs.Case.{Case, IsCaseOf, init, own, guar, env, inter, init_case, own_case, guar_case, env_case, inter_case, moved_row, placed_at}
 use Rattle.horn_rules.specs.Job.{premise_says}
 use Rattle.horn_rules.specs.Laws.{CasesAreUnique, JobsHaveOneCase, AtomsArePlaced}
 use Rattle.horn_rules.specs.declared.job.Premise.{Premise}
@@ -61,13 +61,13 @@ shape program instance given (inter k l i e other thread edge f g apart there at
 
 same-thread : (program : Program) (i j : ℕ) (one other : Thread) → i ≡ j → IsThreadOf program i one → IsThreadOf program j other → one ≡ other
 same-thread program i j one other same at there =
-    let both : Some one ≡ Some other = sym at ∙ ap (numbered program.threads) same ∙ there in
+    let both : Some one ≡ Some other = sym at ∙ ap (at_number program.threads) same ∙ there in
     cc
 
 same-edge : (program : Program) (i j e m : ℕ) (one other : Thread) (a b : Edge) → i ≡ j → e ≡ m → IsEdgeOf program i e one a → IsEdgeOf program j m other b → a ≡ b
 same-edge program i j e m one other a b same number at there =
     let thread = same-thread program i j one other same at.thread_is there.thread_is in
-    let both : Some a ≡ Some b = sym at.edge_is ∙ ap₂ (λ (t : Thread) n. numbered t.edges n) thread number ∙ there.edge_is in
+    let both : Some a ≡ Some b = sym at.edge_is ∙ ap₂ (λ (t : Thread) n. at_number t.edges n) thread number ∙ there.edge_is in
     cc
 
 state-same : (home : Home) (i l j m : ℕ) → home ≡ State i l → home ≡ State j m → (i ≡ j) × (l ≡ m)
@@ -148,11 +148,11 @@ jobs-one-case program job one other a b =
 
 -- ---- how a case places atoms
 
-placed-nowhere : (atom : Row) (k : ℕ) → k ≡ 0 → moved 0 k atom ≡ atom
-placed-nowhere atom k none = ap (λ j. moved 0 j atom) none ∙ ap (λ l. record atom { coefficients = l }) (append-nil atom.coefficients)
+placed-nowhere : (atom : Row) (k : ℕ) → k ≡ 0 → moved_row 0 k atom ≡ atom
+placed-nowhere atom k none = ap (λ j. moved_row 0 j atom) none ∙ ap (λ l. record atom { coefficients = l }) (append-nil atom.coefficients)
 
-behind-is : (n width k : ℕ) (atom : Row) → width - (n + length atom.coefficients) ≡ k → moved n k atom ≡ placed_at n width atom
-behind-is n width k atom e = ap (λ j. moved n j atom) (sym e)
+behind-is : (n width k : ℕ) (atom : Row) → width - (n + length atom.coefficients) ≡ k → moved_row n k atom ≡ placed_at n width atom
+behind-is n width k atom e = ap (λ j. moved_row n j atom) (sym e)
 
 pub atoms-placed : AtomsArePlaced
 atoms-placed program instance given atom (init i thread at) width = record {

@@ -4,7 +4,7 @@ use Rattle.std.specs.List.{Contains, slice_get}
 use Rattle.std.proofs.lemmas.Bool.Decides.{eqb_tells}
 use Rattle.thr_base.specs.declared.names.RuleName.{RuleName}
 use Rattle.thr_base.specs.declared.names.RuleName.TheVariants.{Rg, Og}
-use Rattle.transition_formula.specs.Program.{Program, Thread, Edge, IsThreadOf, IsEdgeOf, IsProgram, numbered}
+use Rattle.transition_formula.specs.Program.{Program, Thread, Edge, IsThreadOf, IsEdgeOf, IsProgram, at_number}
 use Rattle.transition_formula.specs.Step.{Steps, IsInitial}
 use Rattle.transition_formula.specs.Run.{Reaches, start, step}
 use Rattle.transition_formula.specs.Laws.{FailingRunsReach}
@@ -71,7 +71,7 @@ reached-inside program state k other is (step taken before _ reached leads) ther
     let one = reached-length program before reached in
     elim (eqb_tells k i) [
       | inl (hit, same) ↦
-          let both : Some other ≡ Some thread = sym there ∙ ap (numbered program.threads) same ∙ at.thread_is in
+          let both : Some other ≡ Some thread = sym there ∙ ap (at_number program.threads) same ∙ at.thread_is in
           let mine : other ≡ thread = cc in
           let place : IsInside thread state = record {
             l = edge.to;

@@ -7,7 +7,7 @@ use Rattle.thr_base.specs.declared.names.RuleName.TheVariants.{Rg, Og}
 use Rattle.lin_rows.specs.Row.{Row}
 use Rattle.lin_rows.proofs.Lists.{AllByRecursion-weaken}
 use Rattle.farkas_cert.specs.Cert.{IsRefuted}
-use Rattle.transition_formula.specs.Program.{Program, numbered}
+use Rattle.transition_formula.specs.Program.{Program, at_number}
 use Rattle.horn_rules.specs.Fact.{Sets, Fact, Statement, statement_of}
 use Rattle.horn_rules.specs.Instance.{Instance, Init, Own, Guar, Env, Inter, HasKind, premises_of, map_instance}
 use Rattle.horn_rules.specs.Case.{Case, IsCaseOf}
@@ -117,7 +117,7 @@ least-closed program rule sets gives instance given z has is all point =
 -- ---- where homes have no predicates
 
 -- an empty list has no number
-pub no-number : (k : ℕ) (atom : Row) → numbered [] k ≡ Some atom → ⊥
+pub no-number : (k : ℕ) (atom : Row) → at_number [] k ≡ Some atom → ⊥
 no-number zero atom e = cc
 no-number (suc k) atom e = cc
 
@@ -127,7 +127,7 @@ bare-fact sets given none open_ = record {
   entailed = record {
     open_system = open_;
     rising = tt;
-    exact = λ k. (λ c. absurd (contains-nothing k c), λ (atom, at, entails). absurd (no-number k atom (ap (λ l. numbered l k) (sym none) ∙ at)));
+    exact = λ k. (λ c. absurd (contains-nothing k c), λ (atom, at, entails). absurd (no-number k atom (ap (λ l. at_number l k) (sym none) ∙ at)));
   };
 }
 

@@ -9,14 +9,14 @@ use Rattle.std.proofs.lemmas.Bool.{ne_eqb}
 use Rattle.lin_rows.specs.Row.{Row, Meets, product_of}
 use Rattle.transition_formula.specs.Program.{Form, Program, Thread, Edge, IsThreadOf, IsEdgeOf, IsProgram}
 use Rattle.transition_formula.specs.Rows.{zeros, unit}
-use Rattle.transition_formula.specs.Step.{Steps, assigned}
+use Rattle.transition_formula.specs.Step.{Steps, after_sets}
 use Rattle.transition_formula.proofs.ProductLemmas.{product_of-append, product_of-zeros, product_of-one}
 use Rattle.transition_formula.proofs.Programs.{counter-within, edge-is}
 use Rattle.transition_formula.proofs.NextValues.{is_set, get_or-set, length-assigned, get_or-assigned, next_value-kept}
 use Rattle.transition_formula.proofs.StepRows.{length-after_step}
 use Rattle.horn_rules.specs.Home.{Home, State, home_width}
 use Rattle.horn_rules.specs.Fact.{Statement, IsAtomOf, IsStatementOf}
-use Rattle.horn_rules.specs.Case.{widened, moved, state_rows}
+use Rattle.horn_rules.specs.Case.{wider_row, moved_row, state_rows}
 use Rattle.horn_rules.specs.Steps.{Describes}
 use Rattle.lin_rows.proofs.Integers.{add-nothing_ℤ, nothing-add_ℤ}
 
@@ -39,7 +39,7 @@ product-moved n m xs before after inputs one e =
     ∙ nothing-add_ℤ _ _ _ (product_of-zeros n before) (product-widened m xs after inputs e)
 
 pub widened-meet : (program : Program) (home : Home) (k : ℕ) (atoms : List Row) (state rest : List ℤ) → length state ≡ home_width (length program.columns) home
-    → AllByRecursion (IsAtomOf program home) atoms → AllByRecursion (λ atom. Meets atom state) atoms → AllByRecursion (λ row. Meets row (state ++ rest)) (map (widened k) atoms)
+    → AllByRecursion (IsAtomOf program home) atoms → AllByRecursion (λ atom. Meets atom state) atoms → AllByRecursion (λ row. Meets row (state ++ rest)) (map (wider_row k) atoms)
 widened-meet program home k [] state rest e are hold = tt
 widened-meet program home k (atom ∷ atoms) state rest e are hold = (
   meets-alike atom (atom.coefficients ++ zeros k) state (state ++ rest) (product-widened k atom.coefficients state rest (are.0.one_each ∙ sym e)) hold.0,
@@ -47,7 +47,7 @@ widened-meet program home k (atom ∷ atoms) state rest e are hold = (
 )
 
 pub moved-meet : (program : Program) (home : Home) (n m : ℕ) (atoms : List Row) (before after inputs : List ℤ) → length before ≡ n → length after ≡ home_width (length program.columns) home
-    → AllByRecursion (IsAtomOf program home) atoms → AllByRecursion (λ atom. Meets (moved n m atom) (before ++ (after ++ inputs))) atoms → AllByRecursion (λ atom. Meets atom after) atoms
+    → AllByRecursion (IsAtomOf program home) atoms → AllByRecursion (λ atom. Meets (moved_row n m atom) (before ++ (after ++ inputs))) atoms → AllByRecursion (λ atom. Meets atom after) atoms
 moved-meet program home n m [] before after inputs one e are hold = tt
 moved-meet program home n m (atom ∷ atoms) before after inputs one e are hold = (
   meets-back atom (zeros n ++ (atom.coefficients ++ zeros m)) after (before ++ (after ++ inputs)) (product-moved n m atom.coefficients before after inputs one (are.0.one_each ∙ sym e)) hold.0,
@@ -62,7 +62,7 @@ three-lengths before after inputs = omega (arith, length-append before (after ++
 pub arrives : (thread : Thread) (edge : Edge) (before inputs after : List ℤ) → thread.counter < length before → Steps thread edge before inputs after
     → slice_get after thread.counter ≡ Some (pos edge.to)
 arrives thread edge before inputs after h steps =
-    let set_columns = assigned edge.sets (before ++ inputs) before in
+    let set_columns = after_sets edge.sets (before ++ inputs) before in
     let inside : thread.counter < length set_columns = omega (arith, length-assigned edge.sets (before ++ inputs) before) in
     let value = ap (λ state. get_or state thread.counter (pos 0)) steps.leads ∙ get_or-set_same set_columns thread.counter (pos edge.to) (pos 0) inside in
     let long : length after ≡ length before = ap length steps.leads ∙ length-after_step thread edge before inputs in
@@ -120,7 +120,7 @@ pub other-stays : (program : Program) (k i e : ℕ) (other thread : Thread) (edg
 other-stays program k i e other thread edge before inputs after v is apart there at one steps from =
     let c = other.counter in
     let w = before ++ inputs in
-    let set_columns = assigned edge.sets w before in
+    let set_columns = after_sets edge.sets w before in
     let within = counter-within program k other is there in
     let inside : c < length before = omega (arith, within.1) in
     let order = (is.threads_are i thread at.thread_is).in_order in

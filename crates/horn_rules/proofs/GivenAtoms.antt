@@ -6,7 +6,7 @@ use Rattle.lin_rows.specs.Atom.{IsAtom}
 use Rattle.lin_rows.specs.System.{IsPoint}
 use Rattle.farkas_cert.specs.Proof.{Entails}
 use Rattle.farkas_cert.proofs.Refutations.{points-meet-entailed}
-use Rattle.transition_formula.specs.Program.{Program, numbered}
+use Rattle.transition_formula.specs.Program.{Program, at_number}
 use Rattle.transition_formula.proofs.Lookups.{AllByRecursion-numbered}
 use Rattle.horn_rules.specs.Home.{Home}
 use Rattle.horn_rules.specs.Fact.{Sets, Fact, Statement, IsAtomOf, AreSetsOf, IsStatementOf, statement_of}
@@ -54,10 +54,10 @@ pub given-atoms-hold : GivenAtomsHold
 given-atoms-hold program instance given statement z case is gives point =
     placed-atoms-hold program given statement z (λ atom. placed-is program instance given atom case) is gives point
 
-at-position : (sets : Sets) (given : Case) (home : Home) (k : ℕ) (atom : Row) → home ≡ given.target → EntailsAt given (sets given.target) k → numbered (sets home) k ≡ Some atom
+at-position : (sets : Sets) (given : Case) (home : Home) (k : ℕ) (atom : Row) → home ≡ given.target → EntailsAt given (sets given.target) k → at_number (sets home) k ≡ Some atom
     → Entails given.system (given.place atom)
 at-position sets given home k atom same (found, at, entails) here =
-    let both : Some found ≡ Some atom = sym at ∙ sym (ap (λ h. numbered (sets h) k) same) ∙ here in
+    let both : Some found ≡ Some atom = sym at ∙ sym (ap (λ h. at_number (sets h) k) same) ∙ here in
     let one : found ≡ atom = cc in
     subst (λ row. Entails given.system (given.place row)) one entails
 

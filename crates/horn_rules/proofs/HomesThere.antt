@@ -6,7 +6,7 @@ use Rattle.std.specs.List.{slice_get, Contains, range_with_len}
 use Rattle.std.proofs.lemmas.Option.{slice_get_within, slice_get-map, get_or_from_slice_get}
 use Rattle.std.proofs.lemmas.List.{length-map}
 use Rattle.std.proofs.lemmas.List.FromFn.{length-map-range_with_len}
-use Rattle.transition_formula.specs.Program.{Program, Thread, Edge, IsThreadOf, IsEdgeOf, numbered}
+use Rattle.transition_formula.specs.Program.{Program, Thread, Edge, IsThreadOf, IsEdgeOf, at_number}
 use Rattle.transition_formula.specs.Stored.{edge_of}
 use Rattle.transition_formula.specs.declared.graph.Edge.{Edge as StoredEdge}
 use Rattle.horn_rules.specs.Home.{Home, State, Env, by_number, state_homes, env_homes, homes, IsHomeOf, IsLocationOf}
@@ -96,13 +96,13 @@ place-location program k l place = record {
 }
 
 -- what a thread has, where the thread is known
-pub location-there : (program : Program) (i l n : ℕ) (thread : Option Thread) → numbered program.threads i ≡ thread → option_map (λ thread. thread.locations) thread ≡ Some n → l < n → IsHomeOf program (State i l)
+pub location-there : (program : Program) (i l n : ℕ) (thread : Option Thread) → at_number program.threads i ≡ thread → option_map (λ thread. thread.locations) thread ≡ Some n → l < n → IsHomeOf program (State i l)
 location-there program i l n None at e h = cc
 location-there program i l n (Some thread) at e h =
     let same : thread.locations ≡ n = cc in
     state-from_place program i l thread at (omega (arith, length-map-range_with_len (State i) 0 thread.locations))
 
-pub location-within : (program : Program) (i l n : ℕ) → option_map (λ thread. thread.locations) (numbered program.threads i) ≡ Some n → IsHomeOf program (State i l) → l < n
+pub location-within : (program : Program) (i l n : ℕ) → option_map (λ thread. thread.locations) (at_number program.threads i) ≡ Some n → IsHomeOf program (State i l) → l < n
 location-within program i l n e is =
     let place = state_home-place program i l is in
     let same : Some place.thread.locations ≡ Some n = sym (ap (option_map (λ thread. thread.locations)) place.thread_is) ∙ e in
@@ -114,7 +114,7 @@ pub edges-count : (thread : Option Thread) (edges : List StoredEdge) → option_
 edges-count None edges e = cc
 edges-count (Some thread) edges e = let same : thread.edges ≡ map edge_of edges = cc in ap Some (ap length same ∙ length-map edges edge_of)
 
-pub edge-there : (program : Program) (i e n : ℕ) (thread : Option Thread) → numbered program.threads i ≡ thread → option_map (λ thread. length thread.edges) thread ≡ Some n → 1 ≤ e → e ≤ n
+pub edge-there : (program : Program) (i e n : ℕ) (thread : Option Thread) → at_number program.threads i ≡ thread → option_map (λ thread. length thread.edges) thread ≡ Some n → 1 ≤ e → e ≤ n
     → IsHomeOf program (Env i e)
 edge-there program i e n None at is h k = cc
 edge-there program i zero n (Some thread) at is h k = absurd (omega arith)
@@ -122,7 +122,7 @@ edge-there program i (suc e) n (Some thread) at is h k =
     let same : length thread.edges ≡ n = cc in
     env-from_place program i e thread at (omega (arith, length-map-range_with_len (Env i) 1 (length thread.edges)))
 
-pub edge-within : (program : Program) (i e n : ℕ) → option_map (λ thread. length thread.edges) (numbered program.threads i) ≡ Some n → IsHomeOf program (Env i e) → (1 ≤ e) × (e ≤ n)
+pub edge-within : (program : Program) (i e n : ℕ) → option_map (λ thread. length thread.edges) (at_number program.threads i) ≡ Some n → IsHomeOf program (Env i e) → (1 ≤ e) × (e ≤ n)
 edge-within program i e n is has =
     let there = env_home-place program i e has in
     let place = there.1 in
@@ -131,11 +131,11 @@ edge-within program i e n is has =
     (omega (arith, there.0), omega (arith, there.0, place.within, length-map-range_with_len (Env i) 1 (length place.thread.edges)))
 
 -- a home's thread is one of the program
-pub some-thread : (threads : List Thread) (i : ℕ) (thread : Thread) → numbered threads i ≡ Some thread → IsSome (numbered threads i)
+pub some-thread : (threads : List Thread) (i : ℕ) (thread : Thread) → at_number threads i ≡ Some thread → IsSome (at_number threads i)
 some-thread threads i thread e = subst IsSome (sym e) refl
 
-pub state-thread : (program : Program) (i l : ℕ) → IsHomeOf program (State i l) → IsSome (numbered program.threads i)
+pub state-thread : (program : Program) (i l : ℕ) → IsHomeOf program (State i l) → IsSome (at_number program.threads i)
 state-thread program i l is = let place = state_home-place program i l is in some-thread program.threads i place.thread place.thread_is
 
-pub env-thread : (program : Program) (i e : ℕ) → IsHomeOf program (Env i e) → IsSome (numbered program.threads i)
+pub env-thread : (program : Program) (i e : ℕ) → IsHomeOf program (Env i e) → IsSome (at_number program.threads i)
 env-thread program i e is = let place = (env_home-place program i e is).1 in some-thread program.threads i place.thread place.thread_is

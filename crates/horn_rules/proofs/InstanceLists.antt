@@ -6,7 +6,7 @@ use Rattle.std.proofs.lemmas.Bool.Decides.{eqb_tells}
 use Rattle.std.proofs.lemmas.List.FromFn.{length-map-range_with_len}
 use Rattle.thr_base.specs.declared.names.RuleName.{RuleName}
 use Rattle.thr_base.specs.declared.names.RuleName.TheVariants.{Rg, Og}
-use Rattle.transition_formula.specs.Program.{Program, Thread, Edge, IsThreadOf, IsEdgeOf, numbered}
+use Rattle.transition_formula.specs.Program.{Program, Thread, Edge, IsThreadOf, IsEdgeOf, at_number}
 use Rattle.transition_formula.proofs.Lookups.{AllByRecursion-numbered}
 use Rattle.horn_rules.specs.Home.{Home, State, Env, IsHomeOf, by_number}
 use Rattle.horn_rules.specs.Fact.{Statement}
@@ -69,9 +69,9 @@ is-eq a b e = elim (eqb_tells a b) [
 
 leads-there : (program : Program) (home : Home) (e : ℕ) → Contains (edges_from program home) e → LeadsFrom program home e
 leads-there program (Env i k) e there = absurd (contains-nothing e there)
-leads-there program (State i l) e there = of-thread (numbered program.threads i) refl there
+leads-there program (State i l) e there = of-thread (at_number program.threads i) refl there
   where
-    of-thread : (found : Option Thread) → numbered program.threads i ≡ found → Contains (by_number (number_from l) 1 (edges_of found)) e → LeadsFrom program (State i l) e
+    of-thread : (found : Option Thread) → at_number program.threads i ≡ found → Contains (by_number (number_from l) 1 (edges_of found)) e → LeadsFrom program (State i l) e
     of-thread None at c = absurd (contains-nothing e c)
     of-thread (Some thread) at c =
         let found = numbered-from (number_from l) thread.edges e c in
@@ -80,7 +80,7 @@ leads-there program (State i l) e there = of-thread (numbered program.threads i)
           i = i;
           thread = thread;
           edge = found.x;
-          edge_is = record { thread_is = at; edge_is = ap (numbered thread.edges) (sym same) ∙ found.x_is };
+          edge_is = record { thread_is = at; edge_is = ap (at_number thread.edges) (sym same) ∙ found.x_is };
           home_is = ap (State i) (sym (eq-is found.x.from l leads));
         }
 
@@ -96,7 +96,7 @@ there-leads program home e is =
 pub edges-once : (program : Program) (home : Home) → IsOnce (edges_from program home)
 edges-once program (Env i k) = tt
 edges-once program (State i l) =
-    once-by_number (number_from l) (λ e. e) 1 (edges_of (numbered program.threads i)) (λ e edge y there. sym (perhaps-is (edge.from == l) e y there).1) (λ e edge. perhaps-once (edge.from == l) e)
+    once-by_number (number_from l) (λ e. e) 1 (edges_of (at_number program.threads i)) (λ e edge y there. sym (perhaps-is (edge.from == l) e y there).1) (λ e edge. perhaps-once (edge.from == l) e)
 
 -- ---- two threads
 
@@ -163,7 +163,7 @@ edge-there program i (suc p) is =
 abbrev pub HaveHomes : Program → List Statement → Type 0
 HaveHomes program facts = AllByRecursion (λ fact. IsHomeOf program fact.home) facts
 
-has-home : (program : Program) (facts : List Statement) (n : ℕ) (f : Statement) (home : Home) → HaveHomes program facts → numbered facts n ≡ Some f → f.home ≡ home → IsHomeOf program home
+has-home : (program : Program) (facts : List Statement) (n : ℕ) (f : Statement) (home : Home) → HaveHomes program facts → at_number facts n ≡ Some f → f.home ≡ home → IsHomeOf program home
 has-home program facts n f home all at is = subst (IsHomeOf program) is (AllByRecursion-numbered (λ (fact : Statement). IsHomeOf program fact.home) facts n f all at)
 
 -- ---- each kind of instances, from the list
@@ -239,25 +239,25 @@ from-inter program facts y homes there =
 
 -- ---- and to the list: what the numbers are
 
-pub own-numbers : (facts : List Statement) (numbers : Instance ℕ) (f : Statement) (e : ℕ) → map_instance (numbered facts) numbers ≡ Own (Some f) e → (n : ℕ) × (numbers ≡ Own n e) × (numbered facts n ≡ Some f)
+pub own-numbers : (facts : List Statement) (numbers : Instance ℕ) (f : Statement) (e : ℕ) → map_instance (at_number facts) numbers ≡ Own (Some f) e → (n : ℕ) × (numbers ≡ Own n e) × (at_number facts n ≡ Some f)
 own-numbers facts (Own n m) f e is = let same : m ≡ e = cc in (n, ap (Own n) same, cc)
 own-numbers facts numbers f e is = cc
 
-pub guar-numbers : (facts : List Statement) (numbers : Instance ℕ) (f : Statement) (e : ℕ) → map_instance (numbered facts) numbers ≡ Guar (Some f) e → (n : ℕ) × (numbers ≡ Guar n e) × (numbered facts n ≡ Some f)
+pub guar-numbers : (facts : List Statement) (numbers : Instance ℕ) (f : Statement) (e : ℕ) → map_instance (at_number facts) numbers ≡ Guar (Some f) e → (n : ℕ) × (numbers ≡ Guar n e) × (at_number facts n ≡ Some f)
 guar-numbers facts (Guar n m) f e is = let same : m ≡ e = cc in (n, ap (Guar n) same, cc)
 guar-numbers facts numbers f e is = cc
 
-pub init-numbers : (facts : List Statement) (numbers : Instance ℕ) (i : ℕ) → map_instance (numbered facts) numbers ≡ Init i → numbers ≡ Init i
+pub init-numbers : (facts : List Statement) (numbers : Instance ℕ) (i : ℕ) → map_instance (at_number facts) numbers ≡ Init i → numbers ≡ Init i
 init-numbers facts (Init j) i is = let same : j ≡ i = cc in ap Init same
 init-numbers facts numbers i is = cc
 
-pub env-numbers : (facts : List Statement) (numbers : Instance ℕ) (f t : Statement) → map_instance (numbered facts) numbers ≡ Environment (Some f) (Some t)
-    → (n : ℕ) × (m : ℕ) × (numbers ≡ Environment n m) × (numbered facts n ≡ Some f) × (numbered facts m ≡ Some t)
+pub env-numbers : (facts : List Statement) (numbers : Instance ℕ) (f t : Statement) → map_instance (at_number facts) numbers ≡ Environment (Some f) (Some t)
+    → (n : ℕ) × (m : ℕ) × (numbers ≡ Environment n m) × (at_number facts n ≡ Some f) × (at_number facts m ≡ Some t)
 env-numbers facts (Environment n m) f t is = (n, m, refl, cc, cc)
 env-numbers facts numbers f t is = cc
 
-pub inter-numbers : (facts : List Statement) (numbers : Instance ℕ) (f g : Statement) (e : ℕ) → map_instance (numbered facts) numbers ≡ Inter (Some f) (Some g) e
-    → (n : ℕ) × (m : ℕ) × (numbers ≡ Inter n m e) × (numbered facts n ≡ Some f) × (numbered facts m ≡ Some g)
+pub inter-numbers : (facts : List Statement) (numbers : Instance ℕ) (f g : Statement) (e : ℕ) → map_instance (at_number facts) numbers ≡ Inter (Some f) (Some g) e
+    → (n : ℕ) × (m : ℕ) × (numbers ≡ Inter n m e) × (at_number facts n ≡ Some f) × (at_number facts m ≡ Some g)
 inter-numbers facts (Inter n m j) f g e is = let same : j ≡ e = cc in (n, m, ap (Inter n m) same, cc, cc)
 inter-numbers facts numbers f g e is = cc
 
@@ -266,20 +266,20 @@ inter-numbers facts numbers f g e is = cc
 pub to-init : (program : Program) (i : ℕ) (thread : Thread) → IsThreadOf program i thread → Contains (init_instances program) (Init i)
 to-init program i thread at = numbered-there (λ k (t : Thread). Init k ∷ []) program.threads i thread (Init i) at (Contains-first (Init i) [])
 
-pub to-own : (program : Program) (facts : List Statement) (n e : ℕ) (f : Statement) → numbered facts n ≡ Some f → LeadsFrom program f.home e → Contains (own_instances program facts) (Own n e)
+pub to-own : (program : Program) (facts : List Statement) (n e : ℕ) (f : Statement) → at_number facts n ≡ Some f → LeadsFrom program f.home e → Contains (own_instances program facts) (Own n e)
 to-own program facts n e f at leads =
     numbered-there (λ m (g : Statement). map (Own m) (edges_from program g.home)) facts n f (Own n e) at (Contains-map (Own n) (edges_from program f.home) e (there-leads program f.home e leads))
 
-pub to-guar : (program : Program) (facts : List Statement) (n e : ℕ) (f : Statement) → numbered facts n ≡ Some f → LeadsFrom program f.home e → Contains (guar_instances program facts) (Guar n e)
+pub to-guar : (program : Program) (facts : List Statement) (n e : ℕ) (f : Statement) → at_number facts n ≡ Some f → LeadsFrom program f.home e → Contains (guar_instances program facts) (Guar n e)
 to-guar program facts n e f at leads =
     numbered-there (λ m (g : Statement). map (Guar m) (edges_from program g.home)) facts n f (Guar n e) at (Contains-map (Guar n) (edges_from program f.home) e (there-leads program f.home e leads))
 
-pub to-env : (facts : List Statement) (n m : ℕ) (f t : Statement) → numbered facts n ≡ Some f → numbered facts m ≡ Some t → tells_another f.home t.home ≡ true → Contains (env_instances facts) (Environment n m)
+pub to-env : (facts : List Statement) (n m : ℕ) (f t : Statement) → at_number facts n ≡ Some f → at_number facts m ≡ Some t → tells_another f.home t.home ≡ true → Contains (env_instances facts) (Environment n m)
 to-env facts n m f t at there tells =
     numbered-there (λ k g. by_number (env_instance k g) 1 facts) facts n f (Environment n m) at
     (numbered-there (env_instance n f) facts m t (Environment n m) there (perhaps-there (tells_another f.home t.home) (Environment n m) tells))
 
-pub to-inter : (program : Program) (facts : List Statement) (n m e : ℕ) (f g : Statement) → numbered facts n ≡ Some f → numbered facts m ≡ Some g → of_another f.home g.home ≡ true → LeadsFrom program g.home e
+pub to-inter : (program : Program) (facts : List Statement) (n m e : ℕ) (f g : Statement) → at_number facts n ≡ Some f → at_number facts m ≡ Some g → of_another f.home g.home ≡ true → LeadsFrom program g.home e
     → Contains (all_inter_instances program facts) (Inter n m e)
 to-inter program facts n m e f g at there differ leads =
     numbered-there (λ k h. by_number (inter_instances program k h) 1 facts) facts n f (Inter n m e) at

@@ -5,7 +5,7 @@ use Rattle.std.specs.List.{AllByRecursion}
 use Rattle.thr_base.specs.declared.names.Instance.{Instance as StoredInstance}
 use Rattle.thr_base.specs.declared.names.Instance.TheVariants as stored
 use Rattle.lin_rows.specs.System.{System}
-use Rattle.transition_formula.specs.Program.{Program, IsEdgeOf, numbered}
+use Rattle.transition_formula.specs.Program.{Program, IsEdgeOf, at_number}
 use Rattle.horn_rules.specs.declared.job.Premise.{Premise}
 use Rattle.horn_rules.specs.declared.job.Job.{Job}
 use Rattle.horn_rules.specs.Home.{Home, State, Env, homes}
@@ -24,7 +24,7 @@ home-there (Some found) home there is = ap Some is
 
 premise-at : (program : Program) (premise : Premise) (home : Home) → IsPremise program premise → (premise_says program premise).home ≡ home → IsPremiseAt program premise home
 premise-at program premise home is at = record {
-  home_is = home-there (numbered (homes program) premise.fact.home.0) home is.has_home at;
+  home_is = home-there (at_number (homes program) premise.fact.home.0) home is.has_home at;
   set_is = subst (λ h. IsSetOf program h premise.set.value) at is.set_is;
 }
 
@@ -87,7 +87,7 @@ its-premises program job (given, comes) =
 
 -- ---- rows
 
-home-of : (program : Program) (premise : Premise) (home : Home) → IsPremise program premise → (premise_says program premise).home ≡ home → numbered (homes program) premise.fact.home.0 ≡ Some home
+home-of : (program : Program) (premise : Premise) (home : Home) → IsPremise program premise → (premise_says program premise).home ≡ home → at_number (homes program) premise.fact.home.0 ≡ Some home
 home-of program premise home is at = (premise-at program premise home is at).home_is
 
 both-rows : (program : Program) (instance : StoredInstance) (first second one two : Option Premise) (rows : System) → first ≡ one → second ≡ two → AreRowsOfKind program instance first second rows → AreRowsOfKind program instance one two rows

@@ -2,7 +2,7 @@
 use Rattle.std.proofs.Common.{◌≡◌, ◌⊎◌, ℕ, zero, suc, List, [], ◌∷◌, map, Option, Some, None, refl, ap, subst, inl, inr, arith, filter_map}
 use Rattle.std.specs.List.{AllByRecursion, Contains, slice_get, cons_option}
 use Rattle.lin_rows.proofs.Lists.{AllByRecursion-at}
-use Rattle.transition_formula.specs.Program.{numbered}
+use Rattle.transition_formula.specs.Program.{at_number}
 
 -- a list has its first element
 pub Contains-first : {A : Type 0} (x : A) (xs : List A) → Contains (x ∷ xs) x
@@ -58,8 +58,8 @@ all-cons_option P None xs first rest = rest
 all-cons_option P (Some x) xs first rest = (first x refl, rest)
 
 -- what holds of each element at a position of a list holds of all that are picked by it
-pub all-picked : {A : Type 0} (P : A → Type 0) (xs : List A) (ks : List ℕ) → ((k : ℕ) → Contains ks k → (x : A) → numbered xs k ≡ Some x → P x)
-    → AllByRecursion P (filter_map (numbered xs) ks)
+pub all-picked : {A : Type 0} (P : A → Type 0) (xs : List A) (ks : List ℕ) → ((k : ℕ) → Contains ks k → (x : A) → at_number xs k ≡ Some x → P x)
+    → AllByRecursion P (filter_map (at_number xs) ks)
 all-picked P xs [] each = tt
 all-picked P xs (k ∷ ks) each =
-    all-cons_option P (numbered xs k) (filter_map (numbered xs) ks) (each k (Contains-first k ks)) (all-picked P xs ks (λ j there. each j (Contains-later k j ks there)))
+    all-cons_option P (at_number xs k) (filter_map (at_number xs) ks) (each k (Contains-first k ks)) (all-picked P xs ks (λ j there. each j (Contains-later k j ks there)))

@@ -6,7 +6,7 @@ use Rattle.std.proofs.lemmas.Bool.Decides.{leb_tells}
 use Rattle.std.proofs.lemmas.Option.{slice_get-map, slice_get-get_or, slice_get_within, get_or_from_slice_get}
 use Rattle.std.proofs.lemmas.List.{length-map}
 use Rattle.std.proofs.lemmas.List.FromFn.{length-map-range_with_len}
-use Rattle.transition_formula.specs.Program.{Program, Thread, IsThreadOf, IsProgram, numbered}
+use Rattle.transition_formula.specs.Program.{Program, Thread, IsThreadOf, IsProgram, at_number}
 use Rattle.transition_formula.specs.Stored.{edge_of}
 use Rattle.transition_formula.specs.declared.graph.Edge.{Edge as StoredEdge}
 use Rattle.horn_rules.specs.declared.homes.Kind.{Kind}
@@ -17,26 +17,26 @@ use Rattle.horn_rules.proofs.Places.{slice_get-append_left, slice_get-append_rig
 
 -- ---- the homes of one thread
 
-pub count-locations : (program : Program) (i r : ℕ) (found : Thread) → option_map (λ thread. thread.locations) (numbered program.threads i) ≡ Some r → IsThreadOf program i found
+pub count-locations : (program : Program) (i r : ℕ) (found : Thread) → option_map (λ thread. thread.locations) (at_number program.threads i) ≡ Some r → IsThreadOf program i found
     → r ≡ length (homes_in Location i found)
 count-locations program i r found e at =
     let here : Some found.locations ≡ Some r = sym (ap (option_map (λ thread. thread.locations)) at) ∙ e in
     let same : r ≡ found.locations = cc in
     same ∙ sym (length-map-range_with_len (State i) 0 found.locations)
 
-pub edges-counted : (program : Program) (i : ℕ) (edges : List StoredEdge) (found : Thread) → option_map (λ thread. thread.edges) (numbered program.threads i) ≡ Some (map edge_of edges)
+pub edges-counted : (program : Program) (i : ℕ) (edges : List StoredEdge) (found : Thread) → option_map (λ thread. thread.edges) (at_number program.threads i) ≡ Some (map edge_of edges)
     → IsThreadOf program i found → length edges ≡ length (homes_in Edge i found)
 edges-counted program i edges found e at =
     let here : Some found.edges ≡ Some (map edge_of edges) = sym (ap (option_map (λ thread. thread.edges)) at) ∙ e in
     let same : found.edges ≡ map edge_of edges = cc in
     sym (length-map edges edge_of) ∙ sym (ap length same) ∙ sym (length-map-range_with_len (Env i) 1 (length found.edges))
 
-few-here : (program : Program) (i r : ℕ) (found : Option Thread) → numbered program.threads i ≡ found → IsProgram program → option_map (λ thread. thread.locations) found ≡ Some r → r ≤ 65536
+few-here : (program : Program) (i r : ℕ) (found : Option Thread) → at_number program.threads i ≡ found → IsProgram program → option_map (λ thread. thread.locations) found ≡ Some r → r ≤ 65536
 few-here program i r None at is e = cc
 few-here program i r (Some found) at is e = let same : found.locations ≡ r = cc in omega (arith, (is.threads_are i found at).few_locations)
 
-pub few-locations : (program : Program) (i r : ℕ) → IsProgram program → option_map (λ thread. thread.locations) (numbered program.threads i) ≡ Some r → r ≤ 65536
-few-locations program i r is e = few-here program i r (numbered program.threads i) refl is e
+pub few-locations : (program : Program) (i r : ℕ) → IsProgram program → option_map (λ thread. thread.locations) (at_number program.threads i) ≡ Some r → r ≤ 65536
+few-locations program i r is e = few-here program i r (at_number program.threads i) refl is e
 
 pub few-homes_in : (program : Program) (kind : Kind) (i : ℕ) (thread : Thread) → IsProgram program → IsThreadOf program i thread → length (homes_in kind i thread) ≤ 65536
 few-homes_in program Location i thread is at = omega (arith, length-map-range_with_len (State i) 0 thread.locations, (is.threads_are i thread at).few_locations)
@@ -53,13 +53,13 @@ home-at Edge i thread place h =
 -- ---- all homes: those at locations, and behind them those at edges
 
 pub numbered-homes_left : (program : Program) (n place : ℕ) → n ≡ suc place → place < length (by_number state_homes 1 program.threads)
-    → numbered (homes program) n ≡ slice_get (by_number state_homes 1 program.threads) place
+    → at_number (homes program) n ≡ slice_get (by_number state_homes 1 program.threads) place
 numbered-homes_left program n place e h =
     numbered-next (homes program) place n e
     ∙ slice_get-append_left (by_number state_homes 1 program.threads) (by_number env_homes 1 program.threads) place h
 
 pub numbered-homes_right : (program : Program) (n place : ℕ) → n ≡ suc (length (by_number state_homes 1 program.threads) + place)
-    → numbered (homes program) n ≡ slice_get (by_number env_homes 1 program.threads) place
+    → at_number (homes program) n ≡ slice_get (by_number env_homes 1 program.threads) place
 numbered-homes_right program n place e =
     let before = length (by_number state_homes 1 program.threads) in
     numbered-next (homes program) (before + place) n e
@@ -141,15 +141,15 @@ env_home-place program i e is = elim (found program (Env i e) is) [
 
 -- ---- any number up to the length names something
 
-there : {A : Type 0} (xs : List A) (k : ℕ) → k < length xs → IsSome (numbered xs (suc k))
+there : {A : Type 0} (xs : List A) (k : ℕ) → k < length xs → IsSome (at_number xs (suc k))
 there [] k h = absurd (omega arith)
 there (x ∷ xs) zero h = refl
 there (x ∷ xs) (suc k) h = there xs k (omega arith)
 
-pub numbered-there : {A : Type 0} (xs : List A) (n : ℕ) → 0 < n → n ≤ length xs → IsSome (numbered xs n)
+pub numbered-there : {A : Type 0} (xs : List A) (n : ℕ) → 0 < n → n ≤ length xs → IsSome (at_number xs n)
 numbered-there xs zero h k = absurd (omega arith)
 numbered-there xs (suc n) h k = there xs n (omega arith)
 
-pub home-numbered : (program : Program) (n : ℕ) (home : Home) → numbered (homes program) n ≡ Some home → IsHomeOf program home
+pub home-numbered : (program : Program) (n : ℕ) (home : Home) → at_number (homes program) n ≡ Some home → IsHomeOf program home
 home-numbered program zero home e = cc
 home-numbered program (suc k) home e = (k, slice_get_within (homes program) k home e, get_or_from_slice_get (homes program) k home home e)

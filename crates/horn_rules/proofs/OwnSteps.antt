@@ -8,7 +8,7 @@ use Rattle.transition_formula.proofs.Programs.{counter-within}
 use Rattle.horn_rules.specs.Home.{Home, home_width}
 use Rattle.horn_rules.specs.Fact.{IsAtomOf}
 use Rattle.horn_rules.specs.Instance.{Init, Own, Guar}
-use Rattle.horn_rules.specs.Case.{widened, init_case, own_case, guar_case, init, own, guar}
+use Rattle.horn_rules.specs.Case.{wider_row, init_case, own_case, guar_case, init, own, guar}
 use Rattle.horn_rules.specs.Steps.{StartsAreDescribed, OwnStepsAreDescribed, OwnStepsAreTold}
 use Rattle.horn_rules.proofs.GivenAtoms.{given-atoms-hold}
 use Rattle.horn_rules.proofs.Described.{meets-back, product-widened, moved-meet, arrives, stands-at}
@@ -69,7 +69,7 @@ own-steps-described program i e thread edge f given before inputs after is at ar
 
 -- atoms that hold where more columns stand behind
 narrowed-meet : (program : Program) (home : Home) (k : ℕ) (atoms : List Row) (state rest : List ℤ) → length state ≡ home_width (length program.columns) home
-    → AllByRecursion (IsAtomOf program home) atoms → AllByRecursion (λ atom. Meets (widened k atom) (state ++ rest)) atoms → AllByRecursion (λ atom. Meets atom state) atoms
+    → AllByRecursion (IsAtomOf program home) atoms → AllByRecursion (λ atom. Meets (wider_row k atom) (state ++ rest)) atoms → AllByRecursion (λ atom. Meets atom state) atoms
 narrowed-meet program home k [] state rest e are hold = tt
 narrowed-meet program home k (atom ∷ atoms) state rest e are hold = (
   meets-back atom _ state (state ++ rest) (product-widened k atom.coefficients state rest (are.0.one_each ∙ sym e)) hold.0,
@@ -85,7 +85,7 @@ own-steps-told program i e thread edge f given before inputs after is at are_f a
     let far : length (before ++ after) ≡ home_width n given.home = pair ∙ sym (ap (home_width n) gives.at_target) in
     let point = own-point program i e thread edge f before inputs after is are_f at stands one steps told in
     let held = given-atoms-hold program (Guar f e) (guar_case program i e thread edge f) given (before ++ (after ++ inputs)) (guar i e thread edge f at stands) are gives point in
-    let regrouped = subst (λ z. AllByRecursion (λ atom. Meets (widened edge.inputs atom) z) given.atoms) (sym (append_assoc before after inputs)) held in
+    let regrouped = subst (λ z. AllByRecursion (λ atom. Meets (wider_row edge.inputs atom) z) given.atoms) (sym (append_assoc before after inputs)) held in
     record {
       thread = thread;
       edge = edge;

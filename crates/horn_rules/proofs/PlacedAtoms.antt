@@ -5,7 +5,7 @@ use Rattle.std.specs.Int.{int_div_euclid}
 use Rattle.lin_rows.specs.Row.{Row}
 use Rattle.lin_rows.specs.Gcd.{gcd}
 use Rattle.lin_rows.specs.Atom.{IsAtom, inequality}
-use Rattle.lin_rows.specs.Normal.{reduced, IsConstant, IsNormalForm}
+use Rattle.lin_rows.specs.Normal.{reduced_row, IsConstant, IsNormalForm}
 use Rattle.lin_rows.specs.declared.normal_form.NormalForm.{NormalForm}
 use Rattle.lin_rows.specs.declared.normal_form.NormalForm.TheVariants.{Always, Never, Atom}
 use Rattle.lin_rows.specs.declared.normal_form.NormalStop.{NormalStop}
@@ -14,7 +14,7 @@ use Rattle.horn_rules.proofs.WiderAtoms.{IsAtom-moved}
 use Rattle.horn_rules.specs.Case.{placed_at}
 use Rattle.lin_rows.proofs.Integers.{map-over_one, over_one}
 
-pub reduced-atom : (row : Row) → IsAtom row → reduced row ≡ row
+pub reduced-atom : (row : Row) → IsAtom row → reduced_row row ≡ row
 reduced-atom row is =
     ap (λ g. inequality (map (λ a. int_div_euclid a (pos g)) row.coefficients) (int_div_euclid row.bound (pos g))) is.reduced
     ∙ ap₂ (λ (xs : List ℤ) (b : ℤ). inequality xs b) (map-over_one row.coefficients) (over_one row.bound)

@@ -2,7 +2,7 @@
 use Rattle.std.proofs.Common.{◌≡◌, ℕ, zero, suc, ◌+◌, ◌-◌, ◌<◌, List, [], ◌∷◌, ◌++◌, length, take, drop, Some, refl, sym, ap, ◌∙◌, arith, inl, inr, length-append}
 use Rattle.std.specs.List.{slice_get, range_with_len}
 use Rattle.std.proofs.lemmas.Bool.Decides.{leb_tells}
-use Rattle.transition_formula.specs.Program.{numbered}
+use Rattle.transition_formula.specs.Program.{at_number}
 use Rattle.transition_formula.proofs.Lookups.{drop-slice_get}
 use Rattle.horn_rules.specs.Home.{by_number}
 
@@ -20,8 +20,8 @@ slice_get-append_right (x ∷ xs) ys (suc p) q e = slice_get-append_right xs ys 
 
 -- ---- elements by place, and by number
 
-pub numbered-next : {A : Type 0} (xs : List A) (k n : ℕ) → n ≡ suc k → numbered xs n ≡ slice_get xs k
-numbered-next xs k n e = ap (numbered xs) e
+pub numbered-next : {A : Type 0} (xs : List A) (k n : ℕ) → n ≡ suc k → at_number xs n ≡ slice_get xs k
+numbered-next xs k n e = ap (at_number xs) e
 
 pub range-at : (a n p b : ℕ) → p < n → b ≡ a + p → slice_get (range_with_len a n) p ≡ Some b
 range-at a zero p b h e = absurd (omega arith)

@@ -7,7 +7,7 @@ use Rattle.std.specs.List.{range_with_len, cons_option}
 use Rattle.lin_rows.specs.Row.{Row}
 use Rattle.lin_rows.specs.System.{System, with_row, with_rows}
 use Rattle.std.specs.Prelude.{option_map}
-use Rattle.transition_formula.specs.Program.{Program, Thread, Edge, IsProgram, IsThreadOf, IsEdgeOf, numbered}
+use Rattle.transition_formula.specs.Program.{Program, Thread, Edge, IsProgram, IsThreadOf, IsEdgeOf, at_number}
 use Rattle.transition_formula.specs.Rows.{column_is, edge_rows, edge_system, seen_system, kept_columns, kept_row, is_kept, test_row, set_row}
 use Rattle.transition_formula.proofs.Programs.{edge-is, sets-within, few_sets}
 use Rattle.std.proofs.lemmas.List.FromFn.{length-range_with_len}
@@ -18,7 +18,7 @@ use Rattle.horn_rules.specs.declared.job.Premise.{Premise}
 use Rattle.horn_rules.specs.Home.{Home, State, Env, home_width}
 use Rattle.thr_base.specs.Held.{holds, positions}
 use Rattle.horn_rules.specs.Fact.{Statement, IsSetOf, IsAtomOf, atoms_at}
-use Rattle.horn_rules.specs.Case.{widened, state_rows, env_rows, with_edge, behind}
+use Rattle.horn_rules.specs.Case.{wider_row, state_rows, env_rows, with_edge, behind}
 use Rattle.horn_rules.specs.Job.{premise_says}
 use Rattle.horn_rules.specs.inside.JobRows.{said_rows}
 
@@ -30,19 +30,19 @@ slice_get-past [] (suc k) past = refl
 slice_get-past (x ∷ xs) zero past = absurd (omega arith)
 slice_get-past (x ∷ xs) (suc k) past = slice_get-past xs k (omega arith)
 
-numbered-past : {A : Type 0} (xs : List A) (k : ℕ) → length xs ≤ k - 1 → numbered xs k ≡ None
+numbered-past : {A : Type 0} (xs : List A) (k : ℕ) → length xs ≤ k - 1 → at_number xs k ≡ None
 numbered-past xs zero past = refl
 numbered-past xs (suc k) past = slice_get-past xs k (omega arith)
 
 -- where a list ends before a position, nothing is there
 pub none_there : (w : Row → Row) (atoms : List Row) (held : Bool) (position : ℕ) (system : System) → held ≡ true → length atoms ≤ position - 1
-    → system ≡ with_rows system (map w (filter_map (numbered atoms) (cond held (position ∷ []) [])))
+    → system ≡ with_rows system (map w (filter_map (at_number atoms) (cond held (position ∷ []) [])))
 none_there w atoms held position system is past =
     rw (is, numbered-past atoms position past) (ap (λ rows. record system { rows = rows }) (sym (append-nil system.rows)))
 
 -- before the first position, all are left
 pub held-start : (w : Row → Row) (atoms done : List Row) (held : ℕ)
-    → done ++ map w (filter_map (numbered atoms) (filter (holds held) (range_with_len 1 128))) ≡ done ++ map w (atoms_at atoms (positions held))
+    → done ++ map w (filter_map (at_number atoms) (filter (holds held) (range_with_len 1 128))) ≡ done ++ map w (atoms_at atoms (positions held))
 unfolding positions
 held-start w atoms done held = refl
 
@@ -75,7 +75,7 @@ held-room w g p done more k n is room = omega (arith, ap length is, length-appen
 
 -- ---- counters
 
-pub counter-is : (program : Program) (i : ℕ) (thread : Thread) (column : ℕ) → option_map (λ (found : Thread). found.counter) (numbered program.threads i) ≡ Some column → IsThreadOf program i thread
+pub counter-is : (program : Program) (i : ℕ) (thread : Thread) (column : ℕ) → option_map (λ (found : Thread). found.counter) (at_number program.threads i) ≡ Some column → IsThreadOf program i thread
     → column ≡ thread.counter
 counter-is program i thread column e at =
     let here : Some thread.counter ≡ Some column = sym (ap (option_map (λ (found : Thread). found.counter)) at) ∙ e in
@@ -89,12 +89,12 @@ atoms-over program home atoms given n is same width =
     rw (same, width) (AllByRecursion-weaken (IsAtomOf program home) (λ atom. length atom.coefficients ≡ home_width (length program.columns) home) (λ atom h. h.one_each) atoms is.are_atoms)
 
 pub said-next : (program : Program) (first more last : System) (n width : ℕ) (thread : Thread) (a b i l : ℕ) (premise : Premise) (set : List Row) → Some (State a b) ≡ Some (State i l)
-    → more ≡ with_row first (column_is first.columns thread.counter (pos b)) → last ≡ with_rows more (map (widened (more.columns - width)) (atoms_at set (positions premise.fact.held)))
+    → more ≡ with_row first (column_is first.columns thread.counter (pos b)) → last ≡ with_rows more (map (wider_row (more.columns - width)) (atoms_at set (positions premise.fact.held)))
     → width ≡ n → set ≡ premise.set.value → last ≡ with_rows first (said_rows n first.columns thread l (premise_says program premise).atoms)
 said-next program first more last n width thread a b i l premise set home more_is last_is count same =
     let place : b ≡ l = cc in
     let row = column_is first.columns thread.counter (pos l) in
-    let atoms = map (widened (first.columns - n)) (atoms_at premise.set.value (positions premise.fact.held)) in
+    let atoms = map (wider_row (first.columns - n)) (atoms_at premise.set.value (positions premise.fact.held)) in
     rw (last_is, same, count, more_is, place) (ap (λ rows. record { columns = first.columns; rows = rows }) (append_assoc first.rows (row ∷ []) atoms))
 
 pub same_thread : (program : Program) (a b i l : ℕ) (thread : Thread) → Some (State a b) ≡ Some (State i l) → IsThreadOf program i thread → IsThreadOf program a thread
@@ -105,7 +105,7 @@ pub said_is : (program : Program) (f : Statement) (thread : Thread) (l k width :
     → said_rows (length program.columns) width thread l f.atoms ≡ state_rows program thread l f k
 said_is program f thread l k width is =
     let n = length program.columns in
-    ap (λ w. said_rows n w thread l f.atoms) is ∙ ap (λ (j : ℕ). column_is (n + k) thread.counter (pos l) ∷ map (widened j) f.atoms) (omega arith)
+    ap (λ w. said_rows n w thread l f.atoms) is ∙ ap (λ (j : ℕ). column_is (n + k) thread.counter (pos l) ∷ map (wider_row j) f.atoms) (omega arith)
 
 -- two lists of rows behind none
 with_rows-two : (columns : ℕ) (first first' second second' : List Row) (empty said last rows : System) → empty ≡ record { columns = rows.columns; rows = [] } → said ≡ with_rows empty first
@@ -172,23 +172,23 @@ inter_is program f g l other thread edge empty one two last rows rows_is empty_i
     (said_is program g thread edge.from (behind program edge) one.columns (ap (λ system. system.columns) one_is ∙ whole)))
     (ap (λ system. system.rows) rows_is) width
 
-widened-none : (rows : List Row) → map (widened 0) rows ≡ rows
+widened-none : (rows : List Row) → map (wider_row 0) rows ≡ rows
 widened-none [] = refl
 widened-none (row ∷ rows) = ap₂ (λ (a : Row) (b : List Row). a ∷ b) (ap (λ l. record row { coefficients = l }) (append-nil row.coefficients)) (widened-none rows)
 
-widened-same : (k : ℕ) (rows : List Row) → k ≡ 0 → map (widened k) rows ≡ rows
+widened-same : (k : ℕ) (rows : List Row) → k ≡ 0 → map (wider_row k) rows ≡ rows
 widened-same k rows none = rw none (widened-none rows)
 
 pub env_is : (program : Program) (f t : Statement) (l w : ℕ) (other thread : Thread) (edge : Edge) (atoms : List Row) (empty one two last rows : System)
     → rows ≡ seen_system program thread edge → empty ≡ record { columns = rows.columns; rows = [] } → w ≡ rows.columns
     → one ≡ with_rows empty (said_rows (length program.columns) empty.columns other l f.atoms) → two ≡ with_rows one rows.rows → atoms ≡ t.atoms
-    → last ≡ with_rows two (map (widened (two.columns - w)) atoms)
+    → last ≡ with_rows two (map (wider_row (two.columns - w)) atoms)
     → last ≡ record { columns = length program.columns + length program.columns; rows = state_rows program other l f (length program.columns) ++ env_rows program thread edge t }
 env_is program f t l w other thread edge atoms empty one two last rows rows_is empty_is wide one_is two_is same last_is =
     let n = length program.columns in
     let width = ap (λ system. system.columns) rows_is in
     let whole = ap (λ system. system.columns) empty_is ∙ width in
-    let placed = map (widened (two.columns - w)) atoms in
+    let placed = map (wider_row (two.columns - w)) atoms in
     let all : two.columns ≡ w = ap (λ system. system.columns) two_is ∙ ap (λ system. system.columns) one_is ∙ ap (λ system. system.columns) empty_is ∙ sym wide in
     let both : last ≡ with_rows one (rows.rows ++ placed) = last_is ∙ ap (λ system. with_rows system placed) two_is ∙ ap (λ (l : List Row). record { columns = one.columns; rows = l }) (append_assoc one.rows rows.rows placed) in
     let held : placed ≡ t.atoms = widened-same (two.columns - w) atoms (omega (arith, all)) ∙ same in

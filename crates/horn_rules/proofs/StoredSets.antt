@@ -6,7 +6,7 @@ use Rattle.std.proofs.lemmas.Bool.Decides.{leb_tells, eqb_tells}
 use Rattle.std.proofs.lemmas.Option.{slice_get-map}
 use Rattle.lin_rows.specs.Row.{Row}
 use Rattle.predicate_sets.specs.Sets.{set_at}
-use Rattle.transition_formula.specs.Program.{Program, Thread, numbered}
+use Rattle.transition_formula.specs.Program.{Program, Thread, at_number}
 use Rattle.horn_rules.specs.Home.{Home, State, Env, by_number, state_homes, env_homes, homes}
 use Rattle.thr_base.specs.Held.{PositionsTellWords}
 use Rattle.horn_rules.specs.Fact.{Fact, IsSetOf, AreSetsOf}
@@ -173,7 +173,7 @@ list_at-place (other ∷ others) (list ∷ lists) (suc p) home e at once = elim 
   | inr (miss, apart) ↦ rw miss (list_at-place others lists p home (omega arith) at (λ q here. let next : suc q ≡ suc p = once (suc q) here in omega arith))
 ]
 
-pub sets_of-numbered : (program : Program) (lists : List (List Row)) (n : ℕ) (home : Home) → length lists ≡ length (homes program) → numbered (homes program) n ≡ Some home
+pub sets_of-numbered : (program : Program) (lists : List (List Row)) (n : ℕ) (home : Home) → length lists ≡ length (homes program) → at_number (homes program) n ≡ Some home
     → sets_of program lists home ≡ set_at lists n
 sets_of-numbered program lists zero home e at = cc
 sets_of-numbered program lists (suc p) home e at =
@@ -226,8 +226,8 @@ known-home (Some home) there = refl
 
 pub facts-tell : PositionsTellWords → StoredFactsTellFacts
 facts-tell words program one other small_one small_other has_one has_other same =
-    let at_one = known-home (numbered (homes program) one.home.0) has_one in
-    let at_other = known-home (numbered (homes program) other.home.0) has_other in
+    let at_one = known-home (at_number (homes program) one.home.0) has_one in
+    let at_other = known-home (at_number (homes program) other.home.0) has_other in
     let home : home_numbered program one.home.0 ≡ home_numbered program other.home.0 = ap (λ (f : Fact). f.home) same in
     let number : one.home.0 ≡ other.home.0 = homes-distinct program one.home.0 other.home.0 (home_numbered program other.home.0) (at_one ∙ ap (λ h. Some h) home) at_other in
     let held : one.held ≡ other.held = words one.held other.held small_one small_other (ap (λ (f : Fact). f.held) same) in

@@ -1,7 +1,7 @@
 -- An instance comes to a case exactly where the homes of its premises give it a target.
 use Rattle.std.proofs.Common.{◌≡◌, ℕ, zero, suc, Bool, true, false, [], Option, Some, None, refl, sym, ap, ap₂, subst, ◌∙◌}
 use Rattle.std.specs.Prelude.{◌==◌, if◌then◌else◌, option_map}
-use Rattle.transition_formula.specs.Program.{Program, Thread, Edge, IsThreadOf, IsEdgeOf, numbered}
+use Rattle.transition_formula.specs.Program.{Program, Thread, Edge, IsThreadOf, IsEdgeOf, at_number}
 use Rattle.horn_rules.specs.Home.{Home, State, Env, IsHomeOf}
 use Rattle.horn_rules.specs.Instance.{Init, Own, Guar, Env as Environment, Inter}
 use Rattle.horn_rules.specs.Instances.{edges_of, tells_another, of_another}
@@ -18,7 +18,7 @@ use Rattle.horn_rules.proofs.InstanceLists.{eq-is, is-eq, is-told, is-apart, tol
 edge-from_source : (program : Program) (home : Home) (i e : ℕ) (thread : Thread) (edge : Edge) → IsEdgeOf program i e thread edge → home ≡ State i edge.from → edge_from program home e ≡ Some edge
 edge-from_source program home i e thread edge at is =
     ap (λ h. edge_from program h e) is
-    ∙ ap (λ found. if_from edge.from (numbered (edges_of found) e)) at.thread_is
+    ∙ ap (λ found. if_from edge.from (at_number (edges_of found) e)) at.thread_is
     ∙ ap (if_from edge.from) at.edge_is
     ∙ ap (λ b. if b then Some edge else None) (is-eq edge.from edge.from refl)
 
@@ -55,7 +55,7 @@ record LeadsBy (program : Program) (home : Home) (e : ℕ) (edge : Edge) : Type 
   edge_is : IsEdgeOf program i e thread edge
   home_is : home ≡ State i edge.from
 
-no-edge : (l e : ℕ) (edge : Edge) → if_from l (numbered [] e) ≡ Some edge → ⊥
+no-edge : (l e : ℕ) (edge : Edge) → if_from l (at_number [] e) ≡ Some edge → ⊥
 no-edge l zero edge is = cc
 no-edge l (suc e) edge is = cc
 
@@ -67,17 +67,17 @@ from-edge l (Some x) edge is =
 
 leads-by : (program : Program) (home : Home) (e : ℕ) (edge : Edge) → edge_from program home e ≡ Some edge → LeadsBy program home e edge
 leads-by program (Env i k) e edge is = cc
-leads-by program (State i l) e edge is = of-thread (numbered program.threads i) refl is
+leads-by program (State i l) e edge is = of-thread (at_number program.threads i) refl is
   where
-    of-thread : (found : Option Thread) → numbered program.threads i ≡ found → if_from l (numbered (edges_of found) e) ≡ Some edge → LeadsBy program (State i l) e edge
+    of-thread : (found : Option Thread) → at_number program.threads i ≡ found → if_from l (at_number (edges_of found) e) ≡ Some edge → LeadsBy program (State i l) e edge
     of-thread None at is = absurd (no-edge l e edge is)
     of-thread (Some thread) at is =
-        let (there, from) = from-edge l (numbered thread.edges e) edge is in
+        let (there, from) = from-edge l (at_number thread.edges e) edge is in
         record { i = i; thread = thread; edge_is = record { thread_is = at; edge_is = there }; home_is = ap (State i) (sym from) }
 
 pub targets-have-cases : TargetsHaveCases
 targets-have-cases program (Init i) target homes is =
-    let (thread, at, same) = map-some (λ thread. State i 1) (numbered program.threads i) target is in
+    let (thread, at, same) = map-some (λ thread. State i 1) (at_number program.threads i) target is in
     (init_case program i, init i thread at, same)
 targets-have-cases program (Own f e) target homes is =
     let (edge, at, same) = map-some (λ (edge : Edge). location_beside f.home edge.to) (edge_from program f.home e) target is in
@@ -118,32 +118,32 @@ targets-have-cases program (Inter f g e) target homes is =
 
 -- where the edge is no home, none leads on
 pub no-edge-on : (program : Program) (i l e : ℕ) → (¬ IsHomeOf program (Env i e)) → None ≡ option_map (λ edge. edge.to) (edge_from program (State i l) e)
-no-edge-on program i l e none = of-thread (numbered program.threads i) refl
+no-edge-on program i l e none = of-thread (at_number program.threads i) refl
   where
-    of-edge : (thread : Thread) (found : Option Edge) → IsThreadOf program i thread → numbered thread.edges e ≡ found → None ≡ option_map (λ edge. edge.to) (if_from l found)
+    of-edge : (thread : Thread) (found : Option Edge) → IsThreadOf program i thread → at_number thread.edges e ≡ found → None ≡ option_map (λ edge. edge.to) (if_from l found)
     of-edge thread None at is = refl
     of-edge thread (Some edge) at is = absurd (none (edge-home program i e thread edge (record { thread_is = at; edge_is = is })))
 
-    no-edges : (m : ℕ) → None ≡ option_map (λ edge. edge.to) (if_from l (numbered [] m))
+    no-edges : (m : ℕ) → None ≡ option_map (λ edge. edge.to) (if_from l (at_number [] m))
     no-edges zero = refl
     no-edges (suc m) = refl
 
-    of-thread : (found : Option Thread) → numbered program.threads i ≡ found → None ≡ option_map (λ edge. edge.to) (if_from l (numbered (edges_of found) e))
+    of-thread : (found : Option Thread) → at_number program.threads i ≡ found → None ≡ option_map (λ edge. edge.to) (if_from l (at_number (edges_of found) e))
     of-thread None at = no-edges e
-    of-thread (Some thread) at = of-edge thread (numbered thread.edges e) at refl
+    of-thread (Some thread) at = of-edge thread (at_number thread.edges e) at refl
 
-pub edge-thread : (program : Program) (i e : ℕ) → IsHomeOf program (Env i e) → IsSome (numbered program.threads i)
+pub edge-thread : (program : Program) (i e : ℕ) → IsHomeOf program (Env i e) → IsSome (at_number program.threads i)
 edge-thread program i e is = let (thread, edge, at) = edge-there program i e is in some-thread program.threads i thread at.thread_is
 
-pub edge-some : (program : Program) (i e : ℕ) → IsHomeOf program (Env i e) → (thread : Thread) → IsThreadOf program i thread → IsSome (numbered thread.edges e)
+pub edge-some : (program : Program) (i e : ℕ) → IsHomeOf program (Env i e) → (thread : Thread) → IsThreadOf program i thread → IsSome (at_number thread.edges e)
 edge-some program i e is thread at =
     let (other, edge, there) = edge-there program i e is in
     let both : Some other ≡ Some thread = sym there.thread_is ∙ at in
     let same : other ≡ thread = cc in
-    subst IsSome (sym (ap (λ (t : Thread). numbered t.edges e) (sym same) ∙ there.edge_is)) refl
+    subst IsSome (sym (ap (λ (t : Thread). at_number t.edges e) (sym same) ∙ there.edge_is)) refl
 
 -- where it is one, and leads from the location, it is found
-pub edge-on : (program : Program) (i l e : ℕ) (edge : Edge) → IsHomeOf program (Env i e) → ((thread : Thread) → IsThreadOf program i thread → numbered thread.edges e ≡ Some edge) → edge.from ≡ l
+pub edge-on : (program : Program) (i l e : ℕ) (edge : Edge) → IsHomeOf program (Env i e) → ((thread : Thread) → IsThreadOf program i thread → at_number thread.edges e ≡ Some edge) → edge.from ≡ l
     → Some edge.to ≡ option_map (λ edge. edge.to) (edge_from program (State i l) e)
 edge-on program i l e edge is at from =
     let (thread, other, there) = edge-there program i e is in

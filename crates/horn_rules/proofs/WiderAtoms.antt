@@ -9,7 +9,7 @@ use Rattle.lin_rows.specs.Atom.{IsAtom}
 use Rattle.lin_rows.proofs.Divisors.{gcd-step}
 use Rattle.lin_rows.proofs.Lists.{AllByRecursion-append}
 use Rattle.transition_formula.specs.Rows.{zeros}
-use Rattle.horn_rules.specs.Case.{widened, moved}
+use Rattle.horn_rules.specs.Case.{wider_row, moved_row}
 use Rattle.transition_formula.proofs.Numbers.{zeros_fit}
 
 -- ---- zeros change no greatest common divisor
@@ -31,7 +31,7 @@ gcd_of-moved n xs =
 
 -- ---- zeros fit
 
-pub IsAtom-widened : (k : ℕ) (atom : Row) → IsAtom atom → IsAtom (widened k atom)
+pub IsAtom-widened : (k : ℕ) (atom : Row) → IsAtom atom → IsAtom (wider_row k atom)
 IsAtom-widened k atom is = record {
   no_equality = is.no_equality;
   reduced = gcd_of-widened atom.coefficients k ∙ is.reduced;
@@ -39,7 +39,7 @@ IsAtom-widened k atom is = record {
   has_room = is.has_room;
 }
 
-pub IsAtom-moved : (n m : ℕ) (atom : Row) → IsAtom atom → IsAtom (moved n m atom)
+pub IsAtom-moved : (n m : ℕ) (atom : Row) → IsAtom atom → IsAtom (moved_row n m atom)
 IsAtom-moved n m atom is =
     let wide = IsAtom-widened m atom is in
     record {

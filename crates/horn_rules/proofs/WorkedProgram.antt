@@ -7,7 +7,7 @@ use Rattle.std.specs.List.{IsDistinct}
 use Rattle.std.specs.Str.{bytes_eq}
 use Rattle.std.proofs.lemmas.Slice.Eq.{bytes_eq-Decides}
 use Rattle.std.proofs.lemmas.Map.Made.{AllPairs-from_IsDistinct}
-use Rattle.transition_formula.specs.Program.{Column, Thread, Program, IsThreadOf, IsCounter, IsThread, IsEdge, IsProgram, numbered}
+use Rattle.transition_formula.specs.Program.{Column, Thread, Program, IsThreadOf, IsCounter, IsThread, IsEdge, IsProgram, at_number}
 use Rattle.transition_formula.specs.ColumnText.{counter}
 use Rattle.transition_formula.proofs.OwnTexts.{first-own, second-own, first-counter, second-counter}
 use Rattle.horn_rules.specs.Home.{Home, State, Env, homes}
@@ -88,7 +88,7 @@ worked-is = record {
 }
 
 -- a premise without predicates, at a home
-at-home : (program : Program) (premise : Premise) (home : Home) (n : ℕ) → program ≡ worked_program → premise.fact.home.0 ≡ n → numbered (homes worked_program) n ≡ Some home
+at-home : (program : Program) (premise : Premise) (home : Home) (n : ℕ) → program ≡ worked_program → premise.fact.home.0 ≡ n → at_number (homes worked_program) n ≡ Some home
     → premise.set.value ≡ [] → IsPremiseAt program premise home
 at-home program premise home n worked at there empty =
     record { home_is = rw (worked, at) there; set_is = rw empty (record { are_atoms = tt; none_twice = tt }) }

@@ -11,18 +11,18 @@ use Rattle.horn_rules.specs.Instance.{Instance, Init, Own, Guar, Env as Environm
 -- ---- rows over further columns
 
 -- the row over k more columns, which stand behind
-abbrev pub widened : ℕ → Row → Row
-widened k row = record row { coefficients = row.coefficients ++ zeros k }
+abbrev pub wider_row : ℕ → Row → Row
+wider_row k row = record row { coefficients = row.coefficients ++ zeros k }
 
 -- the row of a state, over the state after a step: n columns stand before, and m inputs behind
-abbrev pub moved : ℕ → ℕ → Row → Row
-moved n m row = record row { coefficients = zeros n ++ (row.coefficients ++ zeros m) }
+abbrev pub moved_row : ℕ → ℕ → Row → Row
+moved_row n m row = record row { coefficients = zeros n ++ (row.coefficients ++ zeros m) }
 
 -- ---- rows of facts
 
 -- a fact at location l, over its state and k columns behind: the thread is there, and the atoms hold
 abbrev pub state_rows : Program → Thread → ℕ → Statement → ℕ → List Row
-state_rows program thread l f k = column_is (length program.columns + k) thread.counter (pos l) ∷ map (widened k) f.atoms
+state_rows program thread l f k = column_is (length program.columns + k) thread.counter (pos l) ∷ map (wider_row k) f.atoms
 
 -- a fact at an edge, over the states before and after: the thread steps by it, so that other columns stay, and the atoms hold
 abbrev pub env_rows : Program → Thread → Edge → Statement → List Row
@@ -59,7 +59,7 @@ abbrev pub own_case : Program → ℕ → Thread → Edge → Statement → Case
 own_case program i thread edge f = record {
   target = State i edge.to;
   system = with_edge program thread edge (state_rows program thread edge.from f (behind program edge));
-  place = moved (length program.columns) edge.inputs;
+  place = moved_row (length program.columns) edge.inputs;
 }
 
 -- a step of thread i by its edge e, from fact f, as the other threads see it
@@ -67,7 +67,7 @@ abbrev pub guar_case : Program → ℕ → ℕ → Thread → Edge → Statement
 guar_case program i e thread edge f = record {
   target = Env i e;
   system = with_edge program thread edge (state_rows program thread edge.from f (behind program edge));
-  place = widened edge.inputs;
+  place = wider_row edge.inputs;
 }
 
 -- thread k, at location l, stays there in a step of the thread by the edge, of which t tells
@@ -77,7 +77,7 @@ env_case program k l other thread edge f t =
     record {
       target = State k l;
       system = record { columns = n + n; rows = state_rows program other l f n ++ env_rows program thread edge t };
-      place = moved n 0;
+      place = moved_row n 0;
     }
 
 -- thread k, at location l, stays there in a step of the thread by the edge, from a state of which g tells
@@ -88,7 +88,7 @@ inter_case program k l other thread edge f g =
     record {
       target = State k l;
       system = with_edge program thread edge (k_rows ++ i_rows);
-      place = moved (length program.columns) edge.inputs;
+      place = moved_row (length program.columns) edge.inputs;
     }
 
 -- The case of an instance over what its premises say. A thread's own step leads on from a fact at the edge's source; a step of another
@@ -108,7 +108,7 @@ pub data IsCaseOf (program : Program) : Instance Statement → Case → Type 0 w
 
 -- the atom over so many columns, of which `before` stand in front of its own
 abbrev pub placed_at : ℕ → ℕ → Row → Row
-placed_at before columns atom = moved before (columns - (before + length atom.coefficients)) atom
+placed_at before columns atom = moved_row before (columns - (before + length atom.coefficients)) atom
 
 -- how many columns of an instance's system stand in front of those of its fact's atoms, where a state has n
 abbrev pub in_front : {F : Type 0} → ℕ → Instance F → ℕ

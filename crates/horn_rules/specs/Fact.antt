@@ -4,7 +4,7 @@ use Rattle.std.specs.List.{AllByRecursion}
 use Rattle.lin_rows.specs.Row.{Row}
 use Rattle.lin_rows.specs.Atom.{IsAtom}
 use Rattle.predicate_sets.specs.HomeSet.{AreDistinct}
-use Rattle.transition_formula.specs.Program.{Program, numbered}
+use Rattle.transition_formula.specs.Program.{Program, at_number}
 use Rattle.horn_rules.specs.Home.{Home, home_width}
 
 -- the predicates of each home, as a list of atoms
@@ -37,7 +37,7 @@ pub record Statement : Type 0 where
 
 -- the atoms of a list at these positions, in the order of the positions
 abbrev pub atoms_at : List Row → List ℕ → List Row
-atoms_at atoms held = filter_map (numbered atoms) held
+atoms_at atoms held = filter_map (at_number atoms) held
 
 -- what a fact says, where homes have these predicates
 abbrev pub statement_of : Sets → Fact → Statement

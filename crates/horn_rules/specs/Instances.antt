@@ -4,7 +4,7 @@
 use Rattle.std.specs.Prelude.{◌≡◌, ℕ, ◌==◌, not, Bool, false, if◌then◌else◌, List, [], ◌∷◌, ◌++◌, map, Option, Some, None}
 use Rattle.thr_base.specs.declared.names.RuleName.{RuleName}
 use Rattle.thr_base.specs.declared.names.RuleName.TheVariants.{Rg, Og}
-use Rattle.transition_formula.specs.Program.{Program, Thread, Edge, numbered}
+use Rattle.transition_formula.specs.Program.{Program, Thread, Edge, at_number}
 use Rattle.horn_rules.specs.Home.{Home, State, Env, by_number}
 use Rattle.horn_rules.specs.Fact.{Statement}
 use Rattle.horn_rules.specs.Instance.{Instance, Init, Own, Guar, Env as Environment, Inter, map_instance}
@@ -20,7 +20,7 @@ number_from l e edge = if edge.from == l then e ∷ [] else []
 
 -- the numbers of the edges that lead on from a home
 abbrev pub edges_from : Program → Home → List ℕ
-edges_from program (State i l) = by_number (number_from l) 1 (edges_of (numbered program.threads i))
+edges_from program (State i l) = by_number (number_from l) 1 (edges_of (at_number program.threads i))
 edges_from program (Env i e) = []
 
 -- The homes are a location of a thread, and an edge of another; or locations of two threads.
@@ -65,4 +65,4 @@ IsResolvedBy find numbers instance = map_instance find numbers ≡ map_instance 
 
 -- The numbers stand for the facts of a list.
 abbrev pub IsResolved : {F : Type 0} → List F → Instance ℕ → Instance F → Type 0
-IsResolved facts numbers instance = IsResolvedBy (numbered facts) numbers instance
+IsResolved facts numbers instance = IsResolvedBy (at_number facts) numbers instance

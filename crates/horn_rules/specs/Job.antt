@@ -2,7 +2,7 @@
 use Rattle.std.specs.Prelude.{◌≡◌, ℕ, ◌^◌, ◌<◌, length, Option, Some, option_map}
 use Rattle.std.specs.List.{AllByRecursion}
 use Rattle.thr_base.specs.Held.{positions}
-use Rattle.transition_formula.specs.Program.{Program, numbered}
+use Rattle.transition_formula.specs.Program.{Program, at_number}
 use Rattle.horn_rules.specs.declared.job.Premise.{Premise}
 use Rattle.horn_rules.specs.declared.job.Job.{Job}
 use Rattle.horn_rules.specs.Home.{homes}
@@ -35,7 +35,7 @@ pub record ComesTo (program : Program) (job : Job) (given : Case) : Type 0 where
   pub instance_is : IsInstanceOf job instance
   pub is_case : IsCaseOf program (map_instance (premise_says program) instance) given
   pub premises_are : AllByRecursion (IsPremise program) (premises_of instance)
-  pub home_is : numbered (homes program) job.home.0 ≡ Some given.target
+  pub home_is : at_number (homes program) job.home.0 ≡ Some given.target
   pub target_is : IsSetOf program given.target job.target.value
 
 -- The job fits the program.

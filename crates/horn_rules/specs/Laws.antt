@@ -7,7 +7,7 @@ use Rattle.lin_rows.specs.Row.{Row, Meets}
 use Rattle.lin_rows.specs.System.{IsPoint}
 use Rattle.farkas_cert.specs.Cert.{IsRefuted}
 use Rattle.predicate_sets.specs.Sets.{set_at}
-use Rattle.transition_formula.specs.Program.{Program, Thread, Edge, IsProgram, IsEdgeOf, numbered}
+use Rattle.transition_formula.specs.Program.{Program, Thread, Edge, IsProgram, IsEdgeOf, at_number}
 use Rattle.horn_rules.specs.declared.job.Job.{Job}
 use Rattle.horn_rules.specs.Home.{Home, homes, IsHomeOf, home_width}
 use Rattle.horn_rules.specs.Fact.{Sets, Fact, Statement, AreSetsOf, IsStatementOf, statement_of}
@@ -146,7 +146,7 @@ InstancesAreExact = (program : Program) (rule : RuleName) (facts : List Statemen
 
 -- A home has one number.
 abbrev pub HomesAreDistinct : Type 0
-HomesAreDistinct = (program : Program) (n m : ℕ) (home : Home) → numbered (homes program) n ≡ Some home → numbered (homes program) m ≡ Some home → n ≡ m
+HomesAreDistinct = (program : Program) (n m : ℕ) (home : Home) → at_number (homes program) n ≡ Some home → at_number (homes program) m ≡ Some home → n ≡ m
 
 -- A word holds 128 positions.
 abbrev pub IsWord : StoredFact → Type 0
@@ -160,7 +160,7 @@ StoredFactsTellFacts = (program : Program) (one other : StoredFact) → IsWord o
 -- Lists that are kept by the numbers of homes are predicates of the homes, each that of its home.
 pub record AreSetsByNumber (program : Program) (lists : List (List Row)) : Type 0 where
   pub sets_are : AreSetsOf program (sets_of program lists)
-  pub each : (n : ℕ) (home : Home) → numbered (homes program) n ≡ Some home → sets_of program lists home ≡ set_at lists n
+  pub each : (n : ℕ) (home : Home) → at_number (homes program) n ≡ Some home → sets_of program lists home ≡ set_at lists n
 
 abbrev pub StoredSetsAreByNumber : Type 0
 StoredSetsAreByNumber = (program : Program) (lists : List (List Row)) → AreStoredSetsOf program lists → AreSetsByNumber program lists

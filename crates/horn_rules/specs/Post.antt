@@ -5,13 +5,13 @@ use Rattle.thr_base.specs.Held.{Rise}
 use Rattle.lin_rows.specs.Row.{Row}
 use Rattle.farkas_cert.specs.Cert.{IsRefuted}
 use Rattle.farkas_cert.specs.Proof.{Entails}
-use Rattle.transition_formula.specs.Program.{numbered}
+use Rattle.transition_formula.specs.Program.{at_number}
 use Rattle.horn_rules.specs.Fact.{Sets, Fact, Statement}
 use Rattle.horn_rules.specs.Case.{Case}
 
 -- The system entails the atom at position k of the list, as it is placed.
 abbrev pub EntailsAt : Case → List Row → ℕ → Type 0
-EntailsAt given atoms k = (atom : Row) × (numbered atoms k ≡ Some atom) × Entails given.system (given.place atom)
+EntailsAt given atoms k = (atom : Row) × (at_number atoms k ≡ Some atom) × Entails given.system (given.place atom)
 
 -- These are the positions of exactly the atoms that the system entails; it is not refuted.
 pub record AreEntailed (given : Case) (atoms : List Row) (held : List ℕ) : Type 0 where

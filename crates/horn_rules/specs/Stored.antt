@@ -8,7 +8,7 @@ use Rattle.thr_base.specs.declared.names.Instance.{Instance as StoredInstance}
 use Rattle.thr_base.specs.declared.names.Instance.TheVariants as stored
 use Rattle.lin_rows.specs.Row.{Row}
 use Rattle.predicate_sets.specs.Sets.{set_at}
-use Rattle.transition_formula.specs.Program.{Program, numbered}
+use Rattle.transition_formula.specs.Program.{Program, at_number}
 use Rattle.horn_rules.specs.Home.{Home, State, Env, homes}
 use Rattle.horn_rules.specs.Fact.{Sets, Fact, IsSetOf}
 use Rattle.horn_rules.specs.Instance.{Instance, Init, Own, Guar, Env as Environment, Inter}
@@ -20,7 +20,7 @@ home_of (StoredEnv thread edge) = Env thread.0 edge.0
 
 -- the home of a number; where there is none, a location of thread 0, which no program has
 abbrev pub home_numbered : Program → ℕ → Home
-home_numbered program n = unwrap_or (numbered (homes program) n) (State 0 0)
+home_numbered program n = unwrap_or (at_number (homes program) n) (State 0 0)
 
 -- the fact that a stored one stands for: at the home of its number, the positions that its word holds
 abbrev pub fact_of : Program → StoredFact → Fact
@@ -31,7 +31,7 @@ facts_of program facts = map (fact_of program) facts
 
 -- The home of the stored fact exists.
 abbrev pub HasItsHome : Program → StoredFact → Type 0
-HasItsHome program stored = IsSome (numbered (homes program) stored.home.0)
+HasItsHome program stored = IsSome (at_number (homes program) stored.home.0)
 
 -- the instance that the code's value stands for, over the ids of facts
 abbrev pub instance_of : StoredInstance → Instance ℕ
@@ -61,4 +61,4 @@ sets_of program lists = list_at (homes program) lists
 -- Each home has its list of predicates.
 pub record AreStoredSetsOf (program : Program) (lists : List (List Row)) : Type 0 where
   pub one_each : length lists ≡ length (homes program)
-  pub sets_are : (n : ℕ) (home : Home) → numbered (homes program) n ≡ Some home → IsSetOf program home (set_at lists n)
+  pub sets_are : (n : ℕ) (home : Home) → at_number (homes program) n ≡ Some home → IsSetOf program home (set_at lists n)

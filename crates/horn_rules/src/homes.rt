@@ -1,5 +1,5 @@
 ghost use Rattle.std.specs.Prelude.{◌≡◌, ◌↔◌, IsTrue, ◌+◌, ◌*◌, ◌^◌, ◌≤◌, ◌<◌, Some, length, take, slice_get, IsSome};
-ghost use Rattle.transition_formula.specs.Program.{Thread, IsProgram, IsThreadOf, numbered};
+ghost use Rattle.transition_formula.specs.Program.{Thread, IsProgram, IsThreadOf, at_number};
 ghost use Rattle.horn_rules.specs.Home.{State, Env, by_number, homes, IsHomeOf};
 ghost use Rattle.horn_rules.specs.Stored.{home_of};
 ghost use Rattle.horn_rules.specs.inside.Kinds.{home_in, homes_in, HasPlace};
@@ -17,7 +17,7 @@ enum Kind {
 /// How many homes of a kind a thread has.
 fn count_in(program: &Program, kind: Kind, thread: ThreadNo) -> u32
     requires program { IsProgram program.now }
-    requires there { IsSome (numbered program.now.threads thread.0) }
+    requires there { IsSome (at_number program.now.threads thread.0) }
     ensures count { (found : Thread) → IsThreadOf program.now thread.0 found → result ≡ length (homes_in kind thread.0 found) }
     ensures few { result ≤ 2 ^ 16 }
 {
@@ -88,7 +88,7 @@ pub fn home_count(program: &Program) -> u32
 }
 
 pub(crate) fn has_thread(program: &Program, thread: ThreadNo) -> bool
-    ensures { IsTrue result ↔ IsSome (numbered program.now.threads thread.0) }
+    ensures { IsTrue result ↔ IsSome (at_number program.now.threads thread.0) }
 {
     1 <= thread.0 && thread.0 <= program.threads()
 }
@@ -124,7 +124,7 @@ pub fn has_home(program: &Program, home: Home) -> bool
 /// The number of a home, from 1: the homes at locations by thread and location, then those at edges by thread and edge.
 pub fn number(program: &Program, home: Home) -> HomeNo
     requires { IsHomeOf program.now (home_of home) }
-    ensures { numbered (homes program.now) result.0 ≡ Some (home_of home) }
+    ensures { at_number (homes program.now) result.0 ≡ Some (home_of home) }
 {
     let threads = program.threads();
     match home {
@@ -139,9 +139,9 @@ pub fn number(program: &Program, home: Home) -> HomeNo
 }
 
 /// The home of a number.
-pub fn named(program: &Program, n: HomeNo) -> Home
-    requires { IsSome (numbered (homes program.now) n.0) }
-    ensures { numbered (homes program.now) n.0 ≡ Some (home_of result) }
+pub fn home_by_number(program: &Program, n: HomeNo) -> Home
+    requires { IsSome (at_number (homes program.now) n.0) }
+    ensures { at_number (homes program.now) n.0 ≡ Some (home_of result) }
 {
     let states = count_before(program, Kind::Location, program.threads());
     let place = n.0 - 1;

@@ -1,12 +1,12 @@
 ghost use Rattle.std.specs.Prelude.{◌≡◌, ℕ, ◌+◌, ◌^◌, ◌<◌, ◌≤◌, Some, length, IfOk, OnOk};
-ghost use Rattle.transition_formula.specs.Program.{Thread, IsProgram, IsThreadOf, numbered};
+ghost use Rattle.transition_formula.specs.Program.{Thread, IsProgram, IsThreadOf, at_number};
 ghost use Rattle.lin_rows.specs.System.{with_rows};
 ghost use Rattle.horn_rules.specs.Home.{State, Env, homes};
 ghost use Rattle.horn_rules.specs.Job.{ComesTo, IsJob, premise_says};
 ghost use Rattle.horn_rules.specs.Case.{Case};
 ghost use Rattle.horn_rules.specs.inside.JobRows.{IsAtSource, IsAtLocation, IsAtEdge, AreItsPremises, AreStepRows, AreEnvRows, AreInterRows, AreRowsOfKind, said_rows};
 
-use crate::homes::named;
+use crate::homes::home_by_number;
 use crate::premise::{push_held, push_location};
 use lin_rows::Rows;
 use predicate_sets::HomeSet;
@@ -39,9 +39,9 @@ pub struct Job<'p> {
 
 fn location_of(program: &Program, premise: &Premise) -> (ThreadNo, Loc)
     requires { IsAtLocation program.now premise.now }
-    ensures { numbered (homes program.now) premise.now.fact.home.0 ≡ Some (State result.0.0 result.1.0) }
+    ensures { at_number (homes program.now) premise.now.fact.home.0 ≡ Some (State result.0.0 result.1.0) }
 {
-    match named(program, premise.fact.home) {
+    match home_by_number(program, premise.fact.home) {
         Home::State(i, l) => (i, l),
         Home::Env(..) => unreachable!(),
     }
@@ -49,9 +49,9 @@ fn location_of(program: &Program, premise: &Premise) -> (ThreadNo, Loc)
 
 fn edge_of(program: &Program, premise: &Premise) -> (ThreadNo, EdgeNo)
     requires { IsAtEdge program.now premise.now }
-    ensures { numbered (homes program.now) premise.now.fact.home.0 ≡ Some (Env result.0.0 result.1.0) }
+    ensures { at_number (homes program.now) premise.now.fact.home.0 ≡ Some (Env result.0.0 result.1.0) }
 {
-    match named(program, premise.fact.home) {
+    match home_by_number(program, premise.fact.home) {
         Home::Env(i, e) => (i, e),
         Home::State(..) => unreachable!(),
     }
@@ -70,7 +70,7 @@ fn push_state(
     ensures program { OnOk result (IsProgram program.now) }
     ensures columns { OnOk result (rows.new.columns ≡ rows.old.columns) }
     ensures few { OnOk result (length rows.new.rows ≤ length rows.old.rows + 129) }
-    ensures rows { OnOk result ((i l : ℕ) (thread : Thread) → numbered (homes program.now) premise.now.fact.home.0 ≡ Some (State i l) → IsThreadOf program.now i thread → rows.new ≡ with_rows rows.old (said_rows (length program.now.columns) rows.old.columns thread l (premise_says program.now premise.now).atoms)) }
+    ensures rows { OnOk result ((i l : ℕ) (thread : Thread) → at_number (homes program.now) premise.now.fact.home.0 ≡ Some (State i l) → IsThreadOf program.now i thread → rows.new ≡ with_rows rows.old (said_rows (length program.now.columns) rows.old.columns thread l (premise_says program.now premise.now).atoms)) }
 {
     let (i, l) = location_of(program, premise);
     push_location(rows, row, program, i, l)?;

@@ -1,5 +1,5 @@
 ghost use Rattle.std.specs.Prelude.{◌≡◌, Some, None, if◌then◌else◌, option_map};
-ghost use Rattle.transition_formula.specs.Program.{numbered};
+ghost use Rattle.transition_formula.specs.Program.{at_number};
 ghost use Rattle.horn_rules.specs.Home.{State};
 ghost use Rattle.horn_rules.specs.Instance.{Guar, Inter, Own};
 ghost use Rattle.horn_rules.specs.Instances.{of_another, tells_another};
@@ -26,7 +26,7 @@ fn leads_to(program: &Program, i: ThreadNo, l: Loc, e: EdgeNo) -> Option<Loc>
 
 /// The start of a thread, if it is there.
 fn start_of(program: &Program, i: ThreadNo) -> Option<Home>
-    ensures { option_map home_of result ≡ option_map (λ thread. State i.0 1) (numbered program.now.threads i.0) }
+    ensures { option_map home_of result ≡ option_map (λ thread. State i.0 1) (at_number program.now.threads i.0) }
 {
     if !has_thread(program, i) {
         return None;

@@ -16,7 +16,7 @@ mod scope;
 mod worked;
 
 pub use home_text::push_home;
-pub use homes::{has_home, home_count, named, number};
+pub use homes::{has_home, home_by_number, home_count, number};
 pub use job::{Job, Premise, instance_rows};
 pub use laws::{
     atoms_are_placed, cases_are_unique, closed_sets_cover, facts_are_given, given_atoms_hold,
@@ -28,7 +28,7 @@ pub use laws::{
 };
 pub use leading::{of_another, target, tells_another};
 pub use lines::{push_fact, table};
-pub use placing::{in_front, placed};
+pub use placing::{in_front, place_atom};
 pub use posted::{PostAnswer, Posted};
 pub use scope::is_in_scope;
 pub use worked::two_bare_threads;

@@ -55,7 +55,7 @@ fn atom_of(alloc: Global, coefficients: &[i128], bound: i128) -> Result<Atom, Al
 }
 
 /// The atom over more columns, of which some stand in front.
-pub fn placed(alloc: Global, atom: &Atom, before: u32, columns: u32) -> Result<Atom, AllocError>
+pub fn place_atom(alloc: Global, atom: &Atom, before: u32, columns: u32) -> Result<Atom, AllocError>
     requires { before + length atom.now.coefficients ≤ columns }
     ensures { IfOk result (λ made. made ≡ placed_at before columns atom.now) }
 {

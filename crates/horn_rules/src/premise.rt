@@ -2,9 +2,9 @@ ghost use Rattle.std.specs.Prelude.{◌≡◌, ◌+◌, ◌-◌, ◌^◌, ◌<�
 ghost use Rattle.std.specs.List.{AllByRecursion};
 ghost use Rattle.thr_base.specs.Held.{holds, positions};
 ghost use Rattle.lin_rows.specs.System.{with_row, with_rows};
-ghost use Rattle.transition_formula.specs.Program.{Thread, IsThreadOf, numbered};
+ghost use Rattle.transition_formula.specs.Program.{Thread, IsThreadOf, at_number};
 ghost use Rattle.transition_formula.specs.Rows.{column_is};
-ghost use Rattle.horn_rules.specs.Case.{widened};
+ghost use Rattle.horn_rules.specs.Case.{wider_row};
 ghost use Rattle.horn_rules.specs.Fact.{atoms_at};
 
 use lin_rows::{Atom, Rows};
@@ -16,7 +16,7 @@ use transition_formula::{Program, push_column_is};
 fn push_atom(rows: &mut Rows, row: &mut Vec<i128>, atom: &Atom) -> Result<(), AllocError>
     requires within { length atom.now.coefficients ≤ rows.old.columns }
     requires room { length rows.old.rows < 2 ^ 32 - 2 }
-    ensures { OnOk result (rows.new ≡ with_row rows.old (widened (rows.old.columns - length atom.now.coefficients) atom.now)) }
+    ensures { OnOk result (rows.new ≡ with_row rows.old (wider_row (rows.old.columns - length atom.now.coefficients) atom.now)) }
 {
     let width = rows.view().columns();
     row.clear();
@@ -39,7 +39,7 @@ fn push_if_held(
     requires from_1 { 0 < position }
     requires to_128 { position ≤ 128 }
     requires room { length rows.old.rows < 2 ^ 32 - 2 }
-    ensures { OnOk result (rows.new ≡ with_rows rows.old (map (widened (rows.old.columns - columns)) (filter_map (numbered atoms.now) (filter (holds held) (position ∷ []))))) }
+    ensures { OnOk result (rows.new ≡ with_rows rows.old (map (wider_row (rows.old.columns - columns)) (filter_map (at_number atoms.now) (filter (holds held) (position ∷ []))))) }
 {
     if !holds(held, position) {
         return Ok(());
@@ -62,7 +62,7 @@ pub(crate) fn push_held(
     requires one_each { AllByRecursion (λ atom. length atom.coefficients ≡ columns) atoms.now }
     requires room { length rows.old.rows < 2 ^ 31 }
     ensures few { OnOk result (length rows.new.rows ≤ length rows.old.rows + 128) }
-    ensures rows { OnOk result (rows.new ≡ with_rows rows.old (map (widened (rows.old.columns - columns)) (atoms_at atoms.now (positions held)))) }
+    ensures rows { OnOk result (rows.new ≡ with_rows rows.old (map (wider_row (rows.old.columns - columns)) (atoms_at atoms.now (positions held)))) }
 {
     'positions: for position in 1..129 {
         push_if_held(rows, row, columns, atoms, held, position)?;
@@ -78,7 +78,7 @@ pub(crate) fn push_location(
     i: ThreadNo,
     l: Loc,
 ) -> Result<(), AllocError>
-    requires thread { IsSome (numbered program.now.threads i.0) }
+    requires thread { IsSome (at_number program.now.threads i.0) }
     requires within { length program.now.columns ≤ rows.old.columns }
     requires room { length rows.old.rows < 2 ^ 31 }
     ensures columns { OnOk result (rows.new.columns ≡ rows.old.columns) }

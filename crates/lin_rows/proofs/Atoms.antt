@@ -3,10 +3,10 @@ use Rattle.std.proofs.Common.{◌≡◌, ◌≢◌, ◌↔◌, ℕ, ◌+◌, ◌
 use Rattle.std.specs.Int.{int_div_euclid, int_rem_euclid}
 use Rattle.std.proofs.lemmas.Int.{ints, by_lt_z}
 use Rattle.thr_base.specs.Number.{Fits}
-use Rattle.lin_rows.specs.Row.{Row, RowFits, Meets, product_of, scaled}
+use Rattle.lin_rows.specs.Row.{Row, RowFits, Meets, product_of, multiple_of}
 use Rattle.lin_rows.specs.Gcd.{gcd_of}
 use Rattle.lin_rows.specs.Atom.{IsAtom, greatest, inequality, negation}
-use Rattle.lin_rows.specs.Normal.{reduced, IsConstant, HoldsAlike, IsConstantForm, IsNormalForm}
+use Rattle.lin_rows.specs.Normal.{reduced_row, IsConstant, HoldsAlike, IsConstantForm, IsNormalForm}
 use Rattle.lin_rows.specs.declared.normal_form.NormalForm.{NormalForm}
 use Rattle.lin_rows.specs.declared.normal_form.NormalForm.TheVariants.{Always, Never, Atom}
 use borrow.Author.Differences.{up, down}
@@ -43,26 +43,26 @@ le-floor g p b h =
     )
 
 -- ---- the normal form
-scaled-quotients : (g : ℕ) (xs : List ℤ) → 0 < g → DividesAll g xs → scaled (pos g) (quotients g xs) ≡ xs
+scaled-quotients : (g : ℕ) (xs : List ℤ) → 0 < g → DividesAll g xs → multiple_of (pos g) (quotients g xs) ≡ xs
 scaled-quotients g [] p all = refl
 scaled-quotients g (x ∷ xs) p all = ap₂ ◌∷◌ (sym (exact_quotient x g p all.0)) (scaled-quotients g xs p all.1)
 
 -- the product is that of the reduced row, times the divisor
-product_of-reduced : (row : Row) (z : List ℤ) → 0 < gcd_of row.coefficients → product_of row.coefficients z ≡ pos (gcd_of row.coefficients) *ℤ product_of (reduced row).coefficients z
+product_of-reduced : (row : Row) (z : List ℤ) → 0 < gcd_of row.coefficients → product_of row.coefficients z ≡ pos (gcd_of row.coefficients) *ℤ product_of (reduced_row row).coefficients z
 product_of-reduced row z p =
     let g = gcd_of row.coefficients in
     ap (λ xs. product_of xs z) (sym (scaled-quotients g row.coefficients p (gcd_of-divides row.coefficients))) ∙ product_of-scaled (pos g) (quotients g row.coefficients) z
 
-pub Meets-reduced : (row : Row) (z : List ℤ) → row.equal ≡ false → 0 < gcd_of row.coefficients → Meets row z ↔ Meets (reduced row) z
+pub Meets-reduced : (row : Row) (z : List ℤ) → row.equal ≡ false → 0 < gcd_of row.coefficients → Meets row z ↔ Meets (reduced_row row) z
 Meets-reduced row z e p =
     let g = gcd_of row.coefficients in
     let open_row = Meets-inequality row z e in
-    let floor = le-floor g (product_of (reduced row).coefficients z) row.bound p in
+    let floor = le-floor g (product_of (reduced_row row).coefficients z) row.bound p in
     let P : ℤ → Type 0 = λ v. v ≤ℤ row.bound in
     let same = product_of-reduced row z p in
     (λ meets. floor.0 (subst P same (open_row.0 meets)), λ meets. open_row.1 (subst P (sym same) (floor.1 meets)))
 
-pub IsAtom-reduced : (row : Row) → RowFits row → 0 < gcd_of row.coefficients → (reduced row).bound ≢ greatest → IsAtom (reduced row)
+pub IsAtom-reduced : (row : Row) → RowFits row → 0 < gcd_of row.coefficients → (reduced_row row).bound ≢ greatest → IsAtom (reduced_row row)
 IsAtom-reduced row fits p room =
     let g = gcd_of row.coefficients in
     record {
@@ -132,5 +132,5 @@ Meets-negation row z e =
 pub negation-parts : (row : Row) (xs : List ℤ) (b : ℤ) → xs ≡ map neg_ℤ row.coefficients → b ≡ neg_ℤ row.bound -ℤ pos 1 → inequality xs b ≡ negation row
 negation-parts row xs b p q = ap₂ inequality p q
 
-pub reduced-parts : (row : Row) (xs : List ℤ) (b : ℤ) → xs ≡ quotients (gcd_of row.coefficients) row.coefficients → b ≡ int_div_euclid row.bound (pos (gcd_of row.coefficients)) → inequality xs b ≡ reduced row
+pub reduced-parts : (row : Row) (xs : List ℤ) (b : ℤ) → xs ≡ quotients (gcd_of row.coefficients) row.coefficients → b ≡ int_div_euclid row.bound (pos (gcd_of row.coefficients)) → inequality xs b ≡ reduced_row row
 reduced-parts row xs b p q = ap₂ inequality p q

@@ -1,7 +1,7 @@
 -- Products of lists with points.
 use Rattle.std.proofs.Common.{◌≡◌, List, [], ◌∷◌, map, ℤ, pos, ◌+ℤ◌, ◌*ℤ◌, neg_ℤ, refl, sym, ◌∙◌, ap, ap₂, subst, ◌≤ℤ◌, MatchBool, arith}
 use Rattle.std.proofs.lemmas.Int.{ints}
-use Rattle.lin_rows.specs.Row.{Row, Meets, MeetsOver, product_of, scaled, sum_of}
+use Rattle.lin_rows.specs.Row.{Row, Meets, MeetsOver, product_of, multiple_of, sum_of}
 use Rattle.lin_rows.proofs.Integers.{mul_assoc_ℤ, mul-add_ℤ, add-mul_ℤ, neg-mul_ℤ, zero-mul_ℤ, mul-zero_ℤ}
 use Rattle.lin_rows.proofs.Divisors.{AllZero}
 
@@ -9,7 +9,7 @@ pub product_of-nil : (xs : List ℤ) → product_of xs [] ≡ pos 0
 product_of-nil [] = refl
 product_of-nil (x ∷ xs) = refl
 
-pub product_of-scaled : (k : ℤ) (xs z : List ℤ) → product_of (scaled k xs) z ≡ k *ℤ product_of xs z
+pub product_of-scaled : (k : ℤ) (xs z : List ℤ) → product_of (multiple_of k xs) z ≡ k *ℤ product_of xs z
 product_of-scaled k [] z = sym (mul-zero_ℤ k)
 product_of-scaled k (x ∷ xs) [] = sym (mul-zero_ℤ k)
 product_of-scaled k (x ∷ xs) (y ∷ z) =

@@ -4,13 +4,13 @@ use Rattle.std.proofs.lemmas.Int.{ints}
 use Rattle.std.specs.Option.{option_map_or, is_none}
 use Rattle.thr_base.specs.Number.{Fits, fits}
 use Rattle.lin_rows.specs.Row.{product_of}
-use Rattle.lin_rows.specs.Sum.{summed, overflow_from, sum_overflow, sum_in_order}
+use Rattle.lin_rows.specs.Sum.{sum_with_product, overflow_from, sum_overflow, sum_in_order}
 use Rattle.std.proofs.lemmas.List.{drop_all}
 use Rattle.lin_rows.proofs.Integers.{add-zero_ℤ}
 use Rattle.lin_rows.proofs.Numbers.{fits-true}
 
 -- a sum that is given is the sum, and fits
-pub summed-some : (sum t more : ℤ) → Some more ≡ summed sum t → (more ≡ sum +ℤ t) × Fits more
+pub summed-some : (sum t more : ℤ) → Some more ≡ sum_with_product sum t → (more ≡ sum +ℤ t) × Fits more
 summed-some sum t more e = only (fits t) (fits (sum +ℤ t)) refl e
   where
     only : (a b : Bool) → fits (sum +ℤ t) ≡ b → Some more ≡ cond (a && b) (Some (sum +ℤ t)) None → (more ≡ sum +ℤ t) × Fits more
@@ -31,13 +31,13 @@ from-cons f xs ys n h e =
     ∙ ap (λ i. f (get_or xs n (pos 0) ∷ drop i xs) (get_or ys n (pos 0) ∷ drop i ys)) (sym (add-one n))
 
 -- what is left from a place on, one place further
-overflow-step : (xs ys : List ℤ) (sum : ℤ) (n : ℕ) (more : Option ℤ) → n < length xs → length xs ≡ length ys → more ≡ summed sum (get_or xs n (pos 0) *ℤ get_or ys n (pos 0))
+overflow-step : (xs ys : List ℤ) (sum : ℤ) (n : ℕ) (more : Option ℤ) → n < length xs → length xs ≡ length ys → more ≡ sum_with_product sum (get_or xs n (pos 0) *ℤ get_or ys n (pos 0))
     → overflow_from sum (drop n xs) (drop n ys) ≡ option_map_or (λ m. option_map suc (overflow_from m (drop (n + 1) xs) (drop (n + 1) ys))) more (Some 0)
 overflow-step xs ys sum n more h e is =
     from-cons (overflow_from sum) xs ys n h e ∙ ap (λ v. option_map_or (λ m. option_map suc (overflow_from m (drop (n + 1) xs) (drop (n + 1) ys))) v (Some 0)) (sym is)
 
 -- a place is the first where nothing before it was too great
-pub overflow-here : (xs ys : List ℤ) (sum : ℤ) (n : ℕ) → n < length xs → length xs ≡ length ys → None ≡ summed sum (get_or xs n (pos 0) *ℤ get_or ys n (pos 0))
+pub overflow-here : (xs ys : List ℤ) (sum : ℤ) (n : ℕ) → n < length xs → length xs ≡ length ys → None ≡ sum_with_product sum (get_or xs n (pos 0) *ℤ get_or ys n (pos 0))
     → overflow_from (pos 0) xs ys ≡ option_map (λ i. n + i) (overflow_from sum (drop n xs) (drop n ys)) → overflow_from (pos 0) xs ys ≡ Some n
 overflow-here xs ys sum n h e is all =
     all ∙ ap (λ o. option_map (λ i. n + i) o) (overflow-step xs ys sum n None h e is) ∙ ap (λ (i : ℕ). Some i) (omega arith)
@@ -47,14 +47,14 @@ later n None = refl
 later n (Some i) = ap (λ (i : ℕ). Some i) (omega arith)
 
 -- one place further
-pub overflow-later : (xs ys : List ℤ) (sum more : ℤ) (n : ℕ) → n < length xs → length xs ≡ length ys → Some more ≡ summed sum (get_or xs n (pos 0) *ℤ get_or ys n (pos 0))
+pub overflow-later : (xs ys : List ℤ) (sum more : ℤ) (n : ℕ) → n < length xs → length xs ≡ length ys → Some more ≡ sum_with_product sum (get_or xs n (pos 0) *ℤ get_or ys n (pos 0))
     → overflow_from (pos 0) xs ys ≡ option_map (λ i. n + i) (overflow_from sum (drop n xs) (drop n ys))
     → overflow_from (pos 0) xs ys ≡ option_map (λ i. n + 1 + i) (overflow_from more (drop (n + 1) xs) (drop (n + 1) ys))
 overflow-later xs ys sum more n h e is all =
     all ∙ ap (λ o. option_map (λ i. n + i) o) (overflow-step xs ys sum n (Some more) h e is) ∙ later n (overflow_from more (drop (n + 1) xs) (drop (n + 1) ys))
 
 -- the products that are left, one place further
-pub product_of-later : (xs ys : List ℤ) (sum more : ℤ) (n : ℕ) → n < length xs → length xs ≡ length ys → Some more ≡ summed sum (get_or xs n (pos 0) *ℤ get_or ys n (pos 0))
+pub product_of-later : (xs ys : List ℤ) (sum more : ℤ) (n : ℕ) → n < length xs → length xs ≡ length ys → Some more ≡ sum_with_product sum (get_or xs n (pos 0) *ℤ get_or ys n (pos 0))
     → product_of xs ys ≡ sum +ℤ product_of (drop n xs) (drop n ys) → product_of xs ys ≡ more +ℤ product_of (drop (n + 1) xs) (drop (n + 1) ys)
 product_of-later xs ys sum more n h e is all =
     let more_is = (summed-some sum (get_or xs n (pos 0) *ℤ get_or ys n (pos 0)) more is).0 in

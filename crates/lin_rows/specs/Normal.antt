@@ -15,8 +15,8 @@ abbrev pub IsConstant : Row → Type 0
 IsConstant row = AllByRecursion (λ a. a ≡ pos 0) row.coefficients
 
 -- the coefficients over their greatest common divisor, and the floor of the bound over it
-abbrev pub reduced : Row → Row
-reduced row =
+abbrev pub reduced_row : Row → Row
+reduced_row row =
     let g = pos (gcd_of row.coefficients) in
     inequality (map (λ a. int_div_euclid a g) row.coefficients) (int_div_euclid row.bound g)
 
@@ -30,8 +30,8 @@ IsConstantForm bound (Atom atom) = ⊥
 abbrev pub IsNormalForm : Row → Result NormalForm NormalStop → Type 0
 IsNormalForm row (Ok Always) = IsConstant row × (pos 0 ≤ℤ row.bound)
 IsNormalForm row (Ok Never) = IsConstant row × (row.bound <ℤ pos 0)
-IsNormalForm row (Ok (Atom atom)) = (¬ IsConstant row) × (atom ≡ reduced row) × IsAtom atom
-IsNormalForm row (Err Overflow) = (¬ IsConstant row) × ((reduced row).bound ≡ greatest)
+IsNormalForm row (Ok (Atom atom)) = (¬ IsConstant row) × (atom ≡ reduced_row row) × IsAtom atom
+IsNormalForm row (Err Overflow) = (¬ IsConstant row) × ((reduced_row row).bound ≡ greatest)
 IsNormalForm row (Err Memory) = Unit {0}
 
 -- The normal form holds at exactly the whole points at which the row does.

@@ -16,8 +16,8 @@ product_of (x ∷ xs) [] = pos 0
 product_of (x ∷ xs) (y ∷ ys) = x *ℤ y +ℤ product_of xs ys
 
 -- each number of a list, times k
-abbrev pub scaled : ℤ → List ℤ → List ℤ
-scaled k xs = map (λ x. k *ℤ x) xs
+abbrev pub multiple_of : ℤ → List ℤ → List ℤ
+multiple_of k xs = map (λ x. k *ℤ x) xs
 
 -- the sums of two lists, place by place; the shorter is continued by zeros
 abbrev pub sum_of : List ℤ → List ℤ → List ℤ

@@ -5,14 +5,14 @@ use Rattle.thr_base.specs.Number.{fits}
 use Rattle.lin_rows.specs.Row.{product_of}
 
 -- the sum with one more product, where both fit
-abbrev pub summed : ℤ → ℤ → Option ℤ
-summed sum product = if fits product && fits (sum +ℤ product) then Some (sum +ℤ product) else None
+abbrev pub sum_with_product : ℤ → ℤ → Option ℤ
+sum_with_product sum product = if fits product && fits (sum +ℤ product) then Some (sum +ℤ product) else None
 
 -- the first place at which a product, or a sum of what is there already with the products up to it, does not fit
 abbrev pub overflow_from : ℤ → List ℤ → List ℤ → Option ℕ
 overflow_from sum [] ys = None
 overflow_from sum (x ∷ xs) [] = None
-overflow_from sum (x ∷ xs) (y ∷ ys) = option_map_or (λ more. option_map suc (overflow_from more xs ys)) (summed sum (x *ℤ y)) (Some 0)
+overflow_from sum (x ∷ xs) (y ∷ ys) = option_map_or (λ more. option_map suc (overflow_from more xs ys)) (sum_with_product sum (x *ℤ y)) (Some 0)
 
 -- the first place at which a product, or the sum of the products up to it, does not fit
 abbrev pub sum_overflow : List ℤ → List ℤ → Option ℕ

@@ -1,5 +1,5 @@
 ghost use Rattle.std.specs.Prelude.{◌≡◌, pos, ◌*ℤ◌, ◌<◌, ◌^◌, length, slice_index_or, Some, IfOk, IfErr};
-ghost use Rattle.lin_rows.specs.Sum.{summed, sum_overflow, sum_in_order};
+ghost use Rattle.lin_rows.specs.Sum.{sum_with_product, sum_overflow, sum_in_order};
 
 use crate::exact::{product_if_fits, sum_if_fits};
 
@@ -7,7 +7,7 @@ use crate::exact::{product_if_fits, sum_if_fits};
 fn add_product(coefficients: &[i128], x: &[i128], place: usize, sum: i128) -> Option<i128>
     requires lengths { length coefficients.now ≡ length x.now }
     requires within { place < length coefficients.now }
-    ensures { result ≡ summed sum (slice_index_or coefficients.now place (pos 0) *ℤ slice_index_or x.now place (pos 0)) }
+    ensures { result ≡ sum_with_product sum (slice_index_or coefficients.now place (pos 0) *ℤ slice_index_or x.now place (pos 0)) }
 {
     let product = product_if_fits(coefficients[place], x[place])?;
     sum_if_fits(sum, product)

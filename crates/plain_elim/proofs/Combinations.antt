@@ -7,11 +7,11 @@ use Rattle.std.proofs.lemmas.List.{take_more, take_more_set, drop_more, drop-set
 use Rattle.std.proofs.lemmas.Int.{ints}
 use Rattle.thr_base.specs.Number.{Fits, fits}
 use Rattle.lin_rows.specs.Exact.{fitting}
-use Rattle.lin_rows.specs.Row.{scaled}
+use Rattle.lin_rows.specs.Row.{multiple_of}
 use Rattle.lin_rows.proofs.Integers.{mul-zero_ℤ, map-over_one}
 use Rattle.lin_rows.proofs.Lists.{AllByRecursion-map}
 use Rattle.lin_rows.proofs.Numbers.{Fits-int_div_euclid, fits-true}
-use Rattle.farkas_cert.specs.Divided.{divided, over}
+use Rattle.farkas_cert.specs.Divided.{divided_numbers, over}
 use Rattle.std.specs.Int.{int_div_euclid}
 use Rattle.lin_rows.specs.Gcd.{gcd_of}
 use Rattle.farkas_cert.specs.Line.{all_fit, combination, combination_fits, made_line}
@@ -44,7 +44,7 @@ combined_numbers-ends a xs b ys p front whole h k =
     ap Some (sym (append-nil front)) ∙ ap (λ o. option_map (λ rest. front ++ rest) o) (sym (combined_numbers-end a xs b ys p h)) ∙ k
 
 pub made_some : (equal : Bool) (a : ℤ) (xs : List ℤ) (b : ℤ) (ys made : List ℤ) → Some made ≡ combined_numbers a xs b ys
-    → Some (record { equal = equal; numbers = divided made }) ≡ made_line equal a xs b ys
+    → Some (record { equal = equal; numbers = divided_numbers made }) ≡ made_line equal a xs b ys
 unfolding made_line
 made_some equal a xs b ys made e =
     let is = some_by (combination_fits a xs b ys) (combination a xs b ys) made (e ∙ combined_numbers-all a xs b ys) in

@@ -8,9 +8,9 @@ use Rattle.std.specs.Option.{option_map}
 use Rattle.std.specs.List.{AllByRecursion}
 use Rattle.std.proofs.lemmas.List.{length-set, length-map, length-replicate}
 use Rattle.lin_rows.specs.Gcd.{gcd, gcd_of}
-use Rattle.lin_rows.specs.Row.{Row, scaled, sum_of}
+use Rattle.lin_rows.specs.Row.{Row, multiple_of, sum_of}
 use Rattle.lin_rows.specs.System.{System}
-use Rattle.farkas_cert.specs.Divided.{divided, over}
+use Rattle.farkas_cert.specs.Divided.{divided_numbers, over}
 use Rattle.farkas_cert.specs.Line.{Line, given_line, given_lines, coefficient_at, has_variable, is_false, is_nonzero, lowest_column, lowest_of, combination, made_line}
 use Rattle.farkas_cert.specs.BackSubstitution.{Kept, Solved, Bounded}
 use Rattle.farkas_cert.specs.Elimination.{Leaves, Work, Ends, stage_number, every, constant_test, constant_test_by, follows, without_equality, substituted_line, equality_stage, paired_line, positives, negatives, with_column, without_column, pairs_at, are_too_many, pair_stage, take_column_out, take_column_out_by}
@@ -44,8 +44,8 @@ length-sum [] ys h = refl
 length-sum (x ∷ xs) [] h = absurd (omega arith)
 length-sum (x ∷ xs) (y ∷ ys) h = ap suc (length-sum xs ys (omega arith))
 
-length-divided : (xs : List ℤ) → length (divided xs) ≡ length xs
-unfolding divided
+length-divided : (xs : List ℤ) → length (divided_numbers xs) ≡ length xs
+unfolding divided_numbers
 length-divided xs = length-map xs (over (gcd_of xs))
 
 made_wide : (system : System) (equal : Bool) (a : ℤ) (left : Line) (b : ℤ) (right made : Line) → IsWide system left → IsWide system right
@@ -54,7 +54,7 @@ made_wide system equal a left b right made h k e =
     let is = made_is equal a left.numbers b right.numbers made e in
     let xs = length-map left.numbers (λ x. a *ℤ x) in
     let ys = length-map right.numbers (λ x. b *ℤ x) in
-    let sum = length-sum (scaled a left.numbers) (scaled b right.numbers) (xs ∙ h.width ∙ sym k.width ∙ sym ys) in
+    let sum = length-sum (multiple_of a left.numbers) (multiple_of b right.numbers) (xs ∙ h.width ∙ sym k.width ∙ sym ys) in
     let long = length-divided (combination a left.numbers b right.numbers) ∙ sum ∙ ys ∙ k.width in
     record { width = ap (λ (line : Line). length line.numbers) (sym is) ∙ long }
 

@@ -2,7 +2,7 @@ ghost use Rattle.std.specs.Prelude.{◌≡◌, IfOk, pos, get_or};
 ghost use Rattle.std.specs.List.{AllByRecursion};
 ghost use Rattle.thr_base.specs.Number.{Fits};
 ghost use Rattle.farkas_cert.specs.Combination.{combined_number, combined_numbers};
-ghost use Rattle.farkas_cert.specs.Divided.{divided};
+ghost use Rattle.farkas_cert.specs.Divided.{divided_numbers};
 ghost use Rattle.farkas_cert.specs.Line as specs;
 ghost use Rattle.plain_elim.specs.inside.Combined.{numbers_in};
 
@@ -42,7 +42,7 @@ fn combined_numbers(
 /// The line of numbers without a common divisor.
 fn divided_line(equal: bool, mut numbers: Vec<i128>) -> Line
     requires { AllByRecursion Fits numbers.items }
-    ensures { result ≡ record { equal = equal; numbers = divided numbers.items } }
+    ensures { result ≡ record { equal = equal; numbers = divided_numbers numbers.items } }
 {
     divide(numbers.as_mut_slice());
     Line::of(equal, numbers)

@@ -78,7 +78,7 @@ impl Fraction {
     }
 
     /// `numerator / denominator`, reduced, where the denominator is positive.
-    fn reduced(numerator: i128, denominator: i128) -> Fraction
+    fn in_lowest_terms(numerator: i128, denominator: i128) -> Fraction
         requires numerator { Fits numerator }
         requires denominator { Fits denominator }
         requires positive { pos 0 <ℤ denominator }
@@ -99,9 +99,9 @@ impl Fraction {
         ensures { result ≡ specs.fraction numerator denominator }
     {
         if denominator < 0 {
-            Fraction::reduced(-numerator, -denominator)
+            Fraction::in_lowest_terms(-numerator, -denominator)
         } else {
-            Fraction::reduced(numerator, denominator)
+            Fraction::in_lowest_terms(numerator, denominator)
         }
     }
 }

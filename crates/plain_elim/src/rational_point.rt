@@ -2,7 +2,7 @@ ghost use Rattle.std.specs.Prelude.{◌≡◌, ◌<◌, pos, ◌<ℤ◌, length,
 ghost use Rattle.std.specs.Bool.{OnTrue};
 ghost use Rattle.std.specs.List.{AllByRecursion};
 ghost use Rattle.thr_base.specs.Number.{Fits};
-ghost use Rattle.lin_rows.specs.Row.{scaled};
+ghost use Rattle.lin_rows.specs.Row.{multiple_of};
 ghost use Rattle.farkas_cert.specs.Line.{all_fit};
 ghost use Rattle.farkas_cert.specs.BackSubstitution as specs;
 
@@ -32,8 +32,8 @@ impl Model for RationalPoint {
 
 /// Multiplies all numbers, until a product does not fit. Answers whether all fit.
 fn scale_all(numbers: &mut [i128], scale: i128) -> bool
-    ensures fit { result ≡ all_fit (scaled scale numbers.old) }
-    ensures products { OnTrue result (numbers.new ≡ scaled scale numbers.old) }
+    ensures fit { result ≡ all_fit (multiple_of scale numbers.old) }
+    ensures products { OnTrue result (numbers.new ≡ multiple_of scale numbers.old) }
 {
     'numbers: for number in numbers.iter_mut() {
         match product_if_fits(scale, *number) {
@@ -48,8 +48,8 @@ fn scale_all(numbers: &mut [i128], scale: i128) -> bool
 fn set_over(numbers: &mut [i128], column: u32, number: i128, scale: i128) -> bool
     requires within { column < length numbers.old }
     requires fits { Fits number }
-    ensures fit { result ≡ all_fit (slice_set (scaled scale numbers.old) column number) }
-    ensures numbers { OnTrue result (numbers.new ≡ slice_set (scaled scale numbers.old) column number) }
+    ensures fit { result ≡ all_fit (slice_set (multiple_of scale numbers.old) column number) }
+    ensures numbers { OnTrue result (numbers.new ≡ slice_set (multiple_of scale numbers.old) column number) }
 {
     numbers[column as usize] = 0;
     let fit = scale_all(numbers, scale);

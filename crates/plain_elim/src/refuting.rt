@@ -18,7 +18,7 @@ fn is_turned(line: &Line, columns: u32) -> bool
 /// The multipliers by which a false line refutes, as a certificate.
 fn certificate(alloc: Global, rows: &NamedRows<'_>, line: &Line) -> Result<Cert, AllocError>
     requires { IsWide rows.now line.now }
-    ensures { IfOk result (λ cert. cert ≡ specs.nonzero_pairs 1 (specs.refuting rows.now.columns line.now)) }
+    ensures { IfOk result (λ cert. cert ≡ specs.nonzero_pairs 1 (specs.refuting_multipliers rows.now.columns line.now)) }
 {
     let columns = rows.columns();
     let multipliers = line.multipliers(columns);

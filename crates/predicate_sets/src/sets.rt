@@ -76,7 +76,7 @@ impl Sets {
             return Err(AddStop::Full);
         }
         let alloc = *self.homes.allocator();
-        let Ok(longer) = grown(alloc, set, atom) else {
+        let Ok(longer) = grown_set(alloc, set, atom) else {
             return Err(AddStop::Memory);
         };
         self.homes[place] = longer;
@@ -102,7 +102,7 @@ impl Sets {
     }
 }
 
-fn grown(alloc: Global, set: &HomeSet, atom: Atom) -> Result<Arc<HomeSet>, AllocError>
+fn grown_set(alloc: Global, set: &HomeSet, atom: Atom) -> Result<Arc<HomeSet>, AllocError>
     requires room { length set.now < most_predicates }
     requires lacks { Lacks set.now atom }
     ensures { IfOk result (λ grown. grown.value ≡ set.now ++ atom ∷ []) }

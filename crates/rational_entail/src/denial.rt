@@ -1,6 +1,6 @@
 ghost use Rattle.std.specs.Prelude.{◌≡◌, length, IfOk};
 ghost use Rattle.lin_rows.specs.View.{system_of};
-ghost use Rattle.farkas_cert.specs.Proof.{denying};
+ghost use Rattle.farkas_cert.specs.Proof.{with_denial};
 ghost use Rattle.farkas_cert.specs.Decision.{IsEvidence};
 ghost use Rattle.rational_entail.specs.Entailment.{LeavesAlike, decided_in, Says};
 
@@ -33,9 +33,9 @@ fn entailed_by(decided: Decided) -> Entailed
 pub fn entails(alloc: Global, rows: &RowsView<'_>, atom: &Atom) -> Result<Entailed, AllocError>
     requires { length atom.now.coefficients ≡ (system_of rows.now).columns }
     ensures says { IfOk result (Says (system_of rows.now) atom.now) }
-    ensures evidence { IfOk result (λ entailed. IsEvidence (denying (system_of rows.now) atom.now) (decided_in entailed)) }
-    ensures leaves { IfOk result (λ entailed. LeavesAlike (denying (system_of rows.now) atom.now) (decided_in entailed)) }
+    ensures evidence { IfOk result (λ entailed. IsEvidence (with_denial (system_of rows.now) atom.now) (decided_in entailed)) }
+    ensures leaves { IfOk result (λ entailed. LeavesAlike (with_denial (system_of rows.now) atom.now) (decided_in entailed)) }
 {
-    let decided = decide_named(alloc, &NamedRows::denying(rows, atom))?;
+    let decided = decide_named(alloc, &NamedRows::with_denial(rows, atom))?;
     Ok(entailed_by(decided))
 }

@@ -1,7 +1,7 @@
 ghost use Rattle.std.specs.Prelude.{◌≡◌, IfSome};
 ghost use Rattle.std.specs.List.{AllByRecursion};
 ghost use Rattle.thr_base.specs.Number.{Fits};
-ghost use Rattle.lin_rows.specs.Normal.{reduced};
+ghost use Rattle.lin_rows.specs.Normal.{reduced_row};
 ghost use Rattle.lin_rows.specs.Atom.{inequality};
 
 use super::*;
@@ -13,7 +13,7 @@ use std::test::Fail;
 fn atom_of(alloc: Global, coefficients: &[i128], bound: i128) -> Option<Atom>
     requires coefficients { AllByRecursion Fits coefficients.now }
     requires bound { Fits bound }
-    ensures { IfSome result (λ atom. atom ≡ reduced (inequality coefficients.now bound)) }
+    ensures { IfSome result (λ atom. atom ≡ reduced_row (inequality coefficients.now bound)) }
 {
     let row = RowView {
         equal: false,

@@ -11,7 +11,7 @@ use Rattle.thr_base.specs.declared.names.Fact.{Fact as StoredFact}
 use Rattle.thr_base.specs.declared.limits.Limits.{Limits}
 use Rattle.lin_rows.specs.Row.{Row}
 use Rattle.predicate_sets.specs.Sets.{HasHome, set_at}
-use Rattle.transition_formula.specs.Program.{Program, Thread, Edge, numbered, IsProgram, IsEdge, IsEdgeOf}
+use Rattle.transition_formula.specs.Program.{Program, Thread, Edge, at_number, IsProgram, IsEdge, IsEdgeOf}
 use Rattle.transition_formula.specs.Stored.{edge_of}
 use Rattle.transition_formula.specs.declared.graph.Edge.{Edge as StoredEdge}
 use Rattle.transition_formula.proofs.Lookups.{numbered-mapped, AllByRecursion-numbered}
@@ -48,26 +48,26 @@ target-home program i e thread edge is at =
     let fits : IsEdge program thread edge = AllByRecursion-numbered (IsEdge program thread) thread.edges e edge (is.threads_are i thread at.thread_is).edges_are at.edge_is in
     location-home program i edge.to thread (record { thread_is = at.thread_is; within = fits.to_location })
 
-pub start-home : (program : Program) (i : ℕ) → IsProgram program → IsSome (numbered program.threads i) → IsHomeOf program (State i 1)
+pub start-home : (program : Program) (i : ℕ) → IsProgram program → IsSome (at_number program.threads i) → IsHomeOf program (State i 1)
 start-home program i is some =
-    let (thread, at) = some-is (numbered program.threads i) some in
+    let (thread, at) = some-is (at_number program.threads i) some in
     location-home program i 1 thread (record { thread_is = at; within = (is.threads_are i thread at).has_start })
 
 -- ---- edges in the code
 
-edges-are : (program : Program) (i e : ℕ) (edges : List StoredEdge) (thread : Thread) (edge : Edge) → option_map (λ (t : Thread). t.edges) (numbered program.threads i) ≡ Some (map edge_of edges)
-    → IsEdgeOf program i e thread edge → numbered (map edge_of edges) e ≡ Some edge
+edges-are : (program : Program) (i e : ℕ) (edges : List StoredEdge) (thread : Thread) (edge : Edge) → option_map (λ (t : Thread). t.edges) (at_number program.threads i) ≡ Some (map edge_of edges)
+    → IsEdgeOf program i e thread edge → at_number (map edge_of edges) e ≡ Some edge
 edges-are program i e edges thread edge got is =
     let here : Some thread.edges ≡ Some (map edge_of edges) = sym (ap (option_map (λ (t : Thread). t.edges)) is.thread_is) ∙ got in
     let same : thread.edges ≡ map edge_of edges = cc in
-    ap (λ l. numbered l e) (sym same) ∙ is.edge_is
+    ap (λ l. at_number l e) (sym same) ∙ is.edge_is
 
-pub edge-within : (program : Program) (i e : ℕ) (edges : List StoredEdge) → HasEdge program i e → option_map (λ (t : Thread). t.edges) (numbered program.threads i) ≡ Some (map edge_of edges) → e - 1 < length edges
+pub edge-within : (program : Program) (i e : ℕ) (edges : List StoredEdge) → HasEdge program i e → option_map (λ (t : Thread). t.edges) (at_number program.threads i) ≡ Some (map edge_of edges) → e - 1 < length edges
 edge-within program i e edges (thread, edge, is) got =
     let within = lookups.numbered-within (map edge_of edges) e edge (edges-are program i e edges thread edge got is) in
     omega (arith, within.0, within.1, length-map edges edge_of)
 
-pub edge-is : (program : Program) (i e : ℕ) (edges : List StoredEdge) (x : StoredEdge) → option_map (λ (t : Thread). t.edges) (numbered program.threads i) ≡ Some (map edge_of edges)
+pub edge-is : (program : Program) (i e : ℕ) (edges : List StoredEdge) (x : StoredEdge) → option_map (λ (t : Thread). t.edges) (at_number program.threads i) ≡ Some (map edge_of edges)
     → x ≡ get_or edges (e - 1) x → (thread : Thread) (edge : Edge) → IsEdgeOf program i e thread edge → edge_of x ≡ edge
 edge-is program i e edges x got at thread edge is =
     let one = edges-are program i e edges thread edge got is in
@@ -77,8 +77,8 @@ edge-is program i e edges x got at thread edge is =
 
 -- ---- a fact that was found, as a premise
 
-known-home : (program : Program) (stored : StoredFact) → HasItsHome program stored → numbered (homes program) stored.home.0 ≡ Some (fact_of program stored).home
-known-home program stored has = of-option (numbered (homes program) stored.home.0) has
+known-home : (program : Program) (stored : StoredFact) → HasItsHome program stored → at_number (homes program) stored.home.0 ≡ Some (fact_of program stored).home
+known-home program stored has = of-option (at_number (homes program) stored.home.0) has
   where
     of-option : (o : Option Home) → IsSome o → o ≡ Some (unwrap_or o (State 0 0))
     of-option None h = cc
@@ -88,7 +88,7 @@ pub found-stored : (program : Program) (lists : List (List Row)) (found : FoundF
 found-stored program lists found stored run there = all-contained (IsStored program lists) found.facts stored run.facts_are there
 
 pub found-number : (program : Program) (lists : List (List Row)) (found : FoundFacts) (stored : StoredFact) → IsRun program lists found → Contains found.facts stored
-    → numbered (homes program) stored.home.0 ≡ Some (fact_of program stored).home
+    → at_number (homes program) stored.home.0 ≡ Some (fact_of program stored).home
 found-number program lists found stored run there = known-home program stored (found-stored program lists found stored run there).has_home
 
 pub found-home : (program : Program) (lists : List (List Row)) (found : FoundFacts) (stored : StoredFact) → IsRun program lists found → Contains found.facts stored → HasHome lists stored.home.0
@@ -108,7 +108,7 @@ says program lists found stored id premise run there is =
     let at = found-number program lists found stored run there in
     record {
       id_is = is.id_is;
-      home_is = ap (λ (f : StoredFact). numbered (homes program) f.home.0) is.fact_is ∙ at;
+      home_is = ap (λ (f : StoredFact). at_number (homes program) f.home.0) is.fact_is ∙ at;
       set_is = target-set program lists stored.home.0 (fact_of program stored).home run.lists_are at ∙ sym is.set_is;
       held_is = ap (λ (f : StoredFact). positions f.held) (sym is.fact_is);
     }
@@ -127,22 +127,22 @@ is-premise program lists found stored id premise run there is =
     }
 
 -- it is the fact of its number
-premise-at : {lists : List (List Row)} (facts : List StoredFact) (stored : StoredFact) (id : FactId) (premise : Premise) → numbered facts id.0 ≡ Some stored → IsPremiseOf lists stored id premise
-    → numbered facts premise.id.0 ≡ Some premise.fact
-premise-at facts stored id premise number is = ap (λ (n : FactId). numbered facts n.0) is.id_is ∙ number ∙ ap Some (sym is.fact_is)
+premise-at : {lists : List (List Row)} (facts : List StoredFact) (stored : StoredFact) (id : FactId) (premise : Premise) → at_number facts id.0 ≡ Some stored → IsPremiseOf lists stored id premise
+    → at_number facts premise.id.0 ≡ Some premise.fact
+premise-at facts stored id premise number is = ap (λ (n : FactId). at_number facts n.0) is.id_is ∙ number ∙ ap Some (sym is.fact_is)
 
 -- ---- the instances
 
-pub start-instance : (program : Program) (lists : List (List Row)) (found : List StoredFact) (i : ThreadNo) (home : ℕ) → IsSome (numbered program.threads i.0)
-    → numbered (homes program) home ≡ Some (State i.0 1) → IsInstance program lists found (Init i) None None home
+pub start-instance : (program : Program) (lists : List (List Row)) (found : List StoredFact) (i : ThreadNo) (home : ℕ) → IsSome (at_number program.threads i.0)
+    → at_number (homes program) home ≡ Some (State i.0 1) → IsInstance program lists found (Init i) None None home
 start-instance program lists found i home some at =
-    let (thread, is) = some-is (numbered program.threads i.0) some in
+    let (thread, is) = some-is (at_number program.threads i.0) some in
     record { premises = []; given = init_case program i.0; is_case = init i thread is; home_is = at; stand = tt; first_is = tt; second_is = tt; first_at = tt; second_at = tt }
 
 pub own-instance : (program : Program) (lists : List (List Row)) (found : FoundFacts) (stored : StoredFact) (id : FactId) (i : ℕ) (e : EdgeNo) (premise : Premise) (home to : ℕ)
-    → IsRun program lists found → Contains found.facts stored → numbered found.facts id.0 ≡ Some stored → IsPremiseOf lists stored id premise → IsFrom program i e.0 (fact_of program stored)
+    → IsRun program lists found → Contains found.facts stored → at_number found.facts id.0 ≡ Some stored → IsPremiseOf lists stored id premise → IsFrom program i e.0 (fact_of program stored)
     → ((thread : Thread) (edge : Edge) → IsEdgeOf program i e.0 thread edge → to ≡ edge.to)
-    → numbered (homes program) home ≡ Some (State i to) → IsInstance program lists found.facts (Own id e) (Some premise) None home
+    → at_number (homes program) home ≡ Some (State i to) → IsInstance program lists found.facts (Own id e) (Some premise) None home
 own-instance program lists found stored id i e premise home to run there number is from ends at = record {
   premises = fact_of program stored ∷ [];
   given = own_case program (sets_of program lists) i from.thread from.edge (fact_of program stored);
@@ -156,8 +156,8 @@ own-instance program lists found stored id i e premise home to run there number 
 }
 
 pub guar-instance : (program : Program) (lists : List (List Row)) (found : FoundFacts) (stored : StoredFact) (id : FactId) (i : ℕ) (e : EdgeNo) (premise : Premise) (home : ℕ)
-    → IsRun program lists found → Contains found.facts stored → numbered found.facts id.0 ≡ Some stored → IsPremiseOf lists stored id premise → IsFrom program i e.0 (fact_of program stored)
-    → numbered (homes program) home ≡ Some (Env i e.0) → IsInstance program lists found.facts (Guar id e) (Some premise) None home
+    → IsRun program lists found → Contains found.facts stored → at_number found.facts id.0 ≡ Some stored → IsPremiseOf lists stored id premise → IsFrom program i e.0 (fact_of program stored)
+    → at_number (homes program) home ≡ Some (Env i e.0) → IsInstance program lists found.facts (Guar id e) (Some premise) None home
 guar-instance program lists found stored id i e premise home run there number is from at = record {
   premises = fact_of program stored ∷ [];
   given = guar_case program (sets_of program lists) i e.0 from.thread from.edge (fact_of program stored);
@@ -178,16 +178,16 @@ if-step program lists limits old new upto P Q (Ok Done) is then = (is.0, is.1, t
 if-step program lists limits old new upto P Q (Ok (Stopped ending)) is then = is
 if-step program lists limits old new upto P Q (Err e) is then = tt
 
-pub start-settled : (program : Program) (lists : List (List Row)) (found : List StoredFact) (i : ThreadNo) (home : ℕ) → IsSome (numbered program.threads i.0)
-    → numbered (homes program) home ≡ Some (State i.0 1) → InstanceIsSettled program lists (Init i) None None home found → StartIsSettled program lists i.0 found
+pub start-settled : (program : Program) (lists : List (List Row)) (found : List StoredFact) (i : ThreadNo) (home : ℕ) → IsSome (at_number program.threads i.0)
+    → at_number (homes program) home ≡ Some (State i.0 1) → InstanceIsSettled program lists (Init i) None None home found → StartIsSettled program lists i.0 found
 start-settled program lists found i home some at settled =
-    let (thread, is) = some-is (numbered program.threads i.0) some in
+    let (thread, is) = some-is (at_number program.threads i.0) some in
     settled [] (init_case program i.0) (init i thread is) at
 
 pub own-settled : (program : Program) (lists : List (List Row)) (old new : FoundFacts) (stored : StoredFact) (id : FactId) (i : ℕ) (e : EdgeNo) (premise : Premise) (home to : ℕ)
     → IsRun program lists old → Contains old.facts stored → IsPremiseOf lists stored id premise
     → ((thread : Thread) (edge : Edge) → IsEdgeOf program i e.0 thread edge → to ≡ edge.to)
-    → numbered (homes program) home ≡ Some (State i to) → InstanceIsSettled program lists (Own id e) (Some premise) None home new.facts → OwnIsSettled program lists i e.0 (fact_of program stored) new.facts
+    → at_number (homes program) home ≡ Some (State i to) → InstanceIsSettled program lists (Own id e) (Some premise) None home new.facts → OwnIsSettled program lists i e.0 (fact_of program stored) new.facts
 own-settled program lists old new stored id i e premise home to run there is ends at settled thread edge edge_is from =
     settled (fact_of program stored ∷ []) (own_case program (sets_of program lists) i thread edge (fact_of program stored))
     (own id e premise i thread edge (fact_of program stored) (says program lists old stored id premise run there is) edge_is from)
@@ -195,7 +195,7 @@ own-settled program lists old new stored id i e premise home to run there is end
 
 pub guar-settled : (program : Program) (lists : List (List Row)) (old new : FoundFacts) (stored : StoredFact) (id : FactId) (i : ℕ) (e : EdgeNo) (premise : Premise) (home : ℕ)
     → IsRun program lists old → Contains old.facts stored → IsPremiseOf lists stored id premise
-    → numbered (homes program) home ≡ Some (Env i e.0) → InstanceIsSettled program lists (Guar id e) (Some premise) None home new.facts → GuarIsSettled program lists i e.0 (fact_of program stored) new.facts
+    → at_number (homes program) home ≡ Some (Env i e.0) → InstanceIsSettled program lists (Guar id e) (Some premise) None home new.facts → GuarIsSettled program lists i e.0 (fact_of program stored) new.facts
 guar-settled program lists old new stored id i e premise home run there is at settled thread edge edge_is from =
     settled (fact_of program stored ∷ []) (guar_case program (sets_of program lists) i e.0 thread edge (fact_of program stored))
     (guar id e premise i thread edge (fact_of program stored) (says program lists old stored id premise run there is) edge_is from) at
@@ -224,7 +224,7 @@ pair-vacuous program lists found f t test k l i e other thread edge differ there
     ]
 
 env-of : (program : Program) (lists : List (List Row)) (found : FoundFacts) (one told : StoredFact) (id other_id : FactId) (first second : Premise) (home_f home_t : Home)
-    → IsRun program lists found → Contains found.facts one → Contains found.facts told → numbered found.facts id.0 ≡ Some one → numbered found.facts other_id.0 ≡ Some told
+    → IsRun program lists found → Contains found.facts one → Contains found.facts told → at_number found.facts id.0 ≡ Some one → at_number found.facts other_id.0 ≡ Some told
     → IsPremiseOf lists one id first → IsPremiseOf lists told other_id second → (fact_of program one).home ≡ home_f → (fact_of program told).home ≡ home_t → IsHomeOf program home_f → IsHomeOf program home_t → AreApart home_f home_t
     → IsInstance program lists found.facts (Environment id other_id) (Some first) (Some second) one.home.0
 env-of program lists found one told id other_id first second home_f home_t run there_f there_t number_f number_t is_f is_t at_f at_t has_f has_t (apart k l i e differ) =
@@ -233,7 +233,7 @@ env-of program lists found one told id other_id first second home_f home_t run t
     let inside : e - 1 < length edge_place.thread.edges = omega (arith, edge_place.within, length-map-range_with_len (Env i) 1 (length edge_place.thread.edges)) in
     let (edge, here) = slice_get-there edge_place.thread.edges (e - 1) inside in
     let number : e ≡ suc (e - 1) = omega arith in
-    let edge_is : IsEdgeOf program i e edge_place.thread edge = record { thread_is = edge_place.thread_is; edge_is = ap (numbered edge_place.thread.edges) number ∙ here } in
+    let edge_is : IsEdgeOf program i e edge_place.thread edge = record { thread_is = edge_place.thread_is; edge_is = ap (at_number edge_place.thread.edges) number ∙ here } in
     record {
       premises = fact_of program one ∷ fact_of program told ∷ [];
       given = env_case program (sets_of program lists) k l place.thread edge_place.thread edge (fact_of program one) (fact_of program told);
@@ -248,7 +248,7 @@ env-of program lists found one told id other_id first second home_f home_t run t
     }
 
 pub env-instance : (program : Program) (lists : List (List Row)) (found : FoundFacts) (one told : StoredFact) (id other_id : FactId) (first second : Premise)
-    → IsRun program lists found → Contains found.facts one → Contains found.facts told → numbered found.facts id.0 ≡ Some one → numbered found.facts other_id.0 ≡ Some told
+    → IsRun program lists found → Contains found.facts one → Contains found.facts told → at_number found.facts id.0 ≡ Some one → at_number found.facts other_id.0 ≡ Some told
     → IsPremiseOf lists one id first → IsPremiseOf lists told other_id second → tells_another (fact_of program one).home (fact_of program told).home ≡ true
     → IsInstance program lists found.facts (Environment id other_id) (Some first) (Some second) one.home.0
 env-instance program lists found one told id other_id first second run there_f there_t number_f number_t is_f is_t test =
@@ -269,7 +269,7 @@ pair-settled program lists old new one told id other_id first second run there_f
 -- the homes that the code names are those of the facts
 pub same-test : (program : Program) (lists : List (List Row)) (found : FoundFacts) (one told : StoredFact) (home_one home_told : Home) (r : Bool)
     → IsRun program lists found → Contains found.facts one → Contains found.facts told
-    → numbered (homes program) one.home.0 ≡ Some home_one → numbered (homes program) told.home.0 ≡ Some home_told
+    → at_number (homes program) one.home.0 ≡ Some home_one → at_number (homes program) told.home.0 ≡ Some home_told
     → r ≡ tells_another home_one home_told → r ≡ tells_another (fact_of program one).home (fact_of program told).home
 same-test program lists found one told home_one home_told r run there_one there_told at_one at_told is =
     let first : Some home_one ≡ Some (fact_of program one).home = sym at_one ∙ found-number program lists found one run there_one in

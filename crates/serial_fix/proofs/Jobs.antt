@@ -5,7 +5,7 @@ use Rattle.thr_base.specs.declared.names.FactId.{FactId}
 use Rattle.thr_base.specs.declared.names.Instance.{Instance as StoredInstance}
 use Rattle.lin_rows.specs.Row.{Row}
 use Rattle.predicate_sets.specs.Sets.{set_at}
-use Rattle.transition_formula.specs.Program.{Program, numbered}
+use Rattle.transition_formula.specs.Program.{Program, at_number}
 use Rattle.horn_rules.specs.declared.job.Premise.{Premise}
 use Rattle.horn_rules.specs.declared.job.Job.{Job}
 use Rattle.horn_rules.specs.Home.{Home, State, homes}
@@ -25,7 +25,7 @@ use Rattle.serial_fix.specs.inside.Cases.{IsCase}
 use Rattle.serial_fix.specs.inside.Jobs.{Says, IsJobCase, ArePremises, init, own, guar, env}
 
 -- the predicates of a home are the list of its number
-pub target-set : (program : Program) (lists : List (List Row)) (n : ℕ) (home : Home) → AreStoredSetsOf program lists → numbered (homes program) n ≡ Some home
+pub target-set : (program : Program) (lists : List (List Row)) (n : ℕ) (home : Home) → AreStoredSetsOf program lists → at_number (homes program) n ≡ Some home
     → sets_of program lists home ≡ set_at lists n
 target-set program lists n home are at = sets_of-numbered program lists n home are.one_each at
 
@@ -41,7 +41,7 @@ job-case program sets instance first second premises given (env id told one two 
 -- a premise says what its fact does
 says-same : (program : Program) (sets : Sets) (id : FactId) (premise : Premise) (fact : Fact) → Says program sets id premise fact → premise_says program premise ≡ statement_of sets fact
 says-same program sets id premise fact is =
-    let home : unwrap_or (numbered (homes program) premise.fact.home.0) (State 0 0) ≡ fact.home = ap (λ o. unwrap_or o (State 0 0)) is.home_is in
+    let home : unwrap_or (at_number (homes program) premise.fact.home.0) (State 0 0) ≡ fact.home = ap (λ o. unwrap_or o (State 0 0)) is.home_is in
     let atoms : atoms_at premise.set.value (positions premise.fact.held) ≡ atoms_at (sets fact.home) fact.held = sym (ap₂ atoms_at is.set_is is.held_is) in
     ap₂ (λ (h : Home) (list : List Row). record { home = h; atoms = list }) home atoms
 
@@ -50,7 +50,7 @@ says-same program sets id premise fact is =
 module _ (program : Program) (sets : Sets) (job : Job) where
   pub comes : (instance : StoredInstance) (first second : Option Premise) (premises : List Fact) (given : Case) → job.instance ≡ instance → job.first ≡ first → job.second ≡ second
       → IsJobCase program sets instance first second premises given → ArePremises program first → ArePremises program second
-      → numbered (homes program) job.home.0 ≡ Some given.target → IsSetOf program given.target job.target.value → ComesTo program job given
+      → at_number (homes program) job.home.0 ≡ Some given.target → IsSetOf program given.target job.target.value → ComesTo program job given
   comes instance first second premises given i_is f_is s_is (init i thread at) fits fits_too home target = record {
     instance = Init i.0;
     instance_is = record { ids_are = sym (ap instance_of i_is); first_is = f_is; second_is = s_is };
@@ -93,7 +93,7 @@ module _ (program : Program) (sets : Sets) (job : Job) where
 -- the job comes to the case of its facts, whose home it names
 pub job-comes : (program : Program) (lists : List (List Row)) (job : Job) (premises : List Fact) (given : Case) → AreStoredSetsOf program lists
     → job.target.value ≡ set_at lists job.home.0 → ArePremises program job.first → ArePremises program job.second
-    → IsJobCase program (sets_of program lists) job.instance job.first job.second premises given → numbered (homes program) job.home.0 ≡ Some given.target → ComesTo program job given
+    → IsJobCase program (sets_of program lists) job.instance job.first job.second premises given → at_number (homes program) job.home.0 ≡ Some given.target → ComesTo program job given
 job-comes program lists job premises given are target fits fits_too is at =
     comes program (sets_of program lists) job job.instance job.first job.second premises given refl refl refl is fits fits_too at
     (subst (IsSetOf program given.target) (sym target) (are.sets_are job.home.0 given.target at))
@@ -102,7 +102,7 @@ job-comes program lists job premises given are target fits fits_too is at =
 abbrev pub Outcome : Program → List (List Row) → StoredInstance → Option Premise → Option Premise → ℕ → Option ℕ → Type 0
 Outcome program lists instance first second home held =
     (premises : List Fact) (given : Case) → IsJobCase program (sets_of program lists) instance first second premises given
-    → numbered (homes program) home ≡ Some given.target → IsPost given (sets_of program lists given.target) (option_map positions held)
+    → at_number (homes program) home ≡ Some given.target → IsPost given (sets_of program lists given.target) (option_map positions held)
 
 -- the outcome of a job is the post of the case of its facts
 pub outcome-is : (program : Program) (lists : List (List Row)) (job : Job) (held : Option ℕ) → AreStoredSetsOf program lists

@@ -13,7 +13,7 @@ use Rattle.thr_base.specs.declared.names.Fact.{Fact as StoredFact}
 use Rattle.thr_base.specs.declared.limits.Limits.{Limits}
 use Rattle.lin_rows.specs.Row.{Row}
 use Rattle.lin_rows.proofs.Lists.{AllByRecursion-at, AllByRecursion-weaken}
-use Rattle.transition_formula.specs.Program.{Program, numbered}
+use Rattle.transition_formula.specs.Program.{Program, at_number}
 use Rattle.horn_rules.specs.declared.job.Premise.{Premise}
 use Rattle.horn_rules.specs.Home.{Home, State, homes}
 use Rattle.horn_rules.specs.Fact.{Sets, Fact, statement_of}
@@ -39,7 +39,7 @@ use Rattle.serial_fix.proofs.Instances.{some-is}
 
 -- ---- numbers of facts
 
-numbered-there : {A : Type 0} (xs : List A) (n : ℕ) (x : A) → numbered xs n ≡ Some x → Contains xs x
+numbered-there : {A : Type 0} (xs : List A) (n : ℕ) (x : A) → at_number xs n ≡ Some x → Contains xs x
 numbered-there xs zero x e = cc
 numbered-there xs (suc k) x e = Contains-slice_get xs k x e
 
@@ -47,37 +47,37 @@ numbered-there xs (suc k) x e = Contains-slice_get xs k x e
 pub known-there : {program : Program} {facts : List StoredFact} {known : Known} → IsKnown program facts known → Contains facts known.fact
 known-there {facts = facts} {known = known} is = numbered-there facts known.id.0 known.fact is.at
 
-numbered-lasts : {A : Type 0} (xs more : List A) (n : ℕ) (x : A) → numbered xs n ≡ Some x → numbered (xs ++ more) n ≡ Some x
+numbered-lasts : {A : Type 0} (xs more : List A) (n : ℕ) (x : A) → at_number xs n ≡ Some x → at_number (xs ++ more) n ≡ Some x
 numbered-lasts xs more zero x e = cc
 numbered-lasts xs more (suc k) x e = slice_get-append_left xs more k (slice_get_within xs k x e) ∙ e
 
 -- and stands there in a longer list
 pub known-lasts : {program : Program} {earlier later : List StoredFact} {known : Known} → Extends earlier later → IsKnown program earlier known → IsKnown program later known
 known-lasts {earlier = earlier} {known = known} on is =
-    record { at = ap (λ l. numbered l known.id.0) on.is ∙ numbered-lasts earlier on.more known.id.0 known.fact is.at; home_is = is.home_is }
+    record { at = ap (λ l. at_number l known.id.0) on.is ∙ numbered-lasts earlier on.more known.id.0 known.fact is.at; home_is = is.home_is }
 
 -- the n-th fact, from 0, has number n + 1
 pub known-at : (program : Program) (facts : List StoredFact) (n : ℕ) (known : Known) → slice_get facts n ≡ Some known.fact → known.id.0 ≡ n + 1
-    → numbered (homes program) known.fact.home.0 ≡ Some (home_of known.home) → IsKnown program facts known
+    → at_number (homes program) known.fact.home.0 ≡ Some (home_of known.home) → IsKnown program facts known
 known-at program facts n known at id home =
     let number : known.id.0 ≡ suc n = omega (arith, id) in
-    record { at = ap (numbered facts) number ∙ at; home_is = home }
+    record { at = ap (at_number facts) number ∙ at; home_is = home }
 
 -- a known home is that of its number
 pub at-home : {program : Program} {facts : List StoredFact} {known : Known} {home : StoredHome} → IsKnown program facts known → known.home ≡ home
-    → numbered (homes program) known.fact.home.0 ≡ Some (home_of home)
+    → at_number (homes program) known.fact.home.0 ≡ Some (home_of home)
 at-home is same = is.home_is ∙ ap (λ h. Some (home_of h)) same
 
 -- each fact of a run has its home
 pub run-homes : (program : Program) (lists : List (List Row)) (found : FoundFacts) → IsRun program lists found → AllByRecursion (HasItsHome program) found.facts
 run-homes program lists found run = AllByRecursion-weaken (IsStored program lists) (HasItsHome program) (λ stored is. is.has_home) found.facts run.facts_are
 
-some-lasts : {A : Type 0} (xs more : List A) (n : ℕ) → IsSome (numbered xs n) → numbered (xs ++ more) n ≡ numbered xs n
+some-lasts : {A : Type 0} (xs more : List A) (n : ℕ) → IsSome (at_number xs n) → at_number (xs ++ more) n ≡ at_number xs n
 some-lasts xs more n some =
-    let (x, at) = some-is (numbered xs n) some in
+    let (x, at) = some-is (at_number xs n) some in
     numbered-lasts xs more n x at ∙ sym at
 
-numbered-map : {A B : Type 0} (f : A → B) (xs : List A) (n : ℕ) (x : A) → numbered xs n ≡ Some x → numbered (map f xs) n ≡ Some (f x)
+numbered-map : {A B : Type 0} (f : A → B) (xs : List A) (n : ℕ) (x : A) → at_number xs n ≡ Some x → at_number (map f xs) n ≡ Some (f x)
 numbered-map f xs zero x e = cc
 numbered-map f xs (suc k) x e = slice_get-map f xs k ∙ ap (option_map f) e
 
@@ -95,7 +95,7 @@ places-apart xs apart i j x at there = elim (cases_lt i j) [
   ]
 ]
 
-numbers-apart : {A : Type 0} (xs : List A) → AllPairs (λ a b. a ≢ b) xs → (n m : ℕ) → IsSome (numbered xs n) → numbered xs n ≡ numbered xs m → n ≡ m
+numbers-apart : {A : Type 0} (xs : List A) → AllPairs (λ a b. a ≢ b) xs → (n m : ℕ) → IsSome (at_number xs n) → at_number xs n ≡ at_number xs m → n ≡ m
 numbers-apart xs apart zero m some same = cc
 numbers-apart xs apart (suc i) zero some same = cc
 numbers-apart xs apart (suc i) (suc j) some same =
@@ -155,12 +155,12 @@ all-some (Environment f t) = (refl, (refl, tt))
 all-some (Inter f g e) = (refl, (refl, tt))
 
 some-named : (facts : List Fact) (numbers : Instance ℕ) (instance : Instance Fact) → IsResolved facts numbers instance
-    → AllByRecursion (λ o. IsSome o) (premises_of (map_instance (numbered facts) numbers))
+    → AllByRecursion (λ o. IsSome o) (premises_of (map_instance (at_number facts) numbers))
 some-named facts numbers instance is = subst (λ (x : Instance (Option Fact)). AllByRecursion (λ o. IsSome o) (premises_of x)) (sym is) (all-some instance)
 
 -- and stay there
-lasts-map : (facts more : List Fact) (numbers : Instance ℕ) → AllByRecursion (λ o. IsSome o) (premises_of (map_instance (numbered facts) numbers))
-    → map_instance (numbered (facts ++ more)) numbers ≡ map_instance (numbered facts) numbers
+lasts-map : (facts more : List Fact) (numbers : Instance ℕ) → AllByRecursion (λ o. IsSome o) (premises_of (map_instance (at_number facts) numbers))
+    → map_instance (at_number (facts ++ more)) numbers ≡ map_instance (at_number facts) numbers
 lasts-map facts more (Init i) some = refl
 lasts-map facts more (Own n e) some = ap (λ o. Own o e) (some-lasts facts more n some.0)
 lasts-map facts more (Guar n e) some = ap (λ o. Guar o e) (some-lasts facts more n some.0)
@@ -176,7 +176,7 @@ over-lasts program lists earlier later on numbers over =
       given = over.given;
       has_kind = over.has_kind;
       is_case = over.is_case;
-      resolved = ap (λ facts. map_instance (numbered facts) numbers) whole
+      resolved = ap (λ facts. map_instance (at_number facts) numbers) whole
           ∙ lasts-map (facts_of program earlier) (facts_of program on.more) numbers (some-named (facts_of program earlier) numbers over.instance over.resolved) ∙ over.resolved;
     }
 
@@ -188,21 +188,21 @@ premises-stand facts (Init i) (Guar f g) is = cc
 premises-stand facts (Init i) (Environment f t) is = cc
 premises-stand facts (Init i) (Inter f h g) is = cc
 premises-stand facts (Own n e) (Init j) is = cc
-premises-stand facts (Own n e) (Own f g) is = let at : numbered facts n ≡ Some f = cc in (numbered-there facts n f at, tt)
+premises-stand facts (Own n e) (Own f g) is = let at : at_number facts n ≡ Some f = cc in (numbered-there facts n f at, tt)
 premises-stand facts (Own n e) (Guar f g) is = cc
 premises-stand facts (Own n e) (Environment f t) is = cc
 premises-stand facts (Own n e) (Inter f h g) is = cc
 premises-stand facts (Guar n e) (Init j) is = cc
 premises-stand facts (Guar n e) (Own f g) is = cc
-premises-stand facts (Guar n e) (Guar f g) is = let at : numbered facts n ≡ Some f = cc in (numbered-there facts n f at, tt)
+premises-stand facts (Guar n e) (Guar f g) is = let at : at_number facts n ≡ Some f = cc in (numbered-there facts n f at, tt)
 premises-stand facts (Guar n e) (Environment f t) is = cc
 premises-stand facts (Guar n e) (Inter f h g) is = cc
 premises-stand facts (Environment n m) (Init j) is = cc
 premises-stand facts (Environment n m) (Own f g) is = cc
 premises-stand facts (Environment n m) (Guar f g) is = cc
 premises-stand facts (Environment n m) (Environment f t) is =
-    let at : numbered facts n ≡ Some f = cc in
-    let told : numbered facts m ≡ Some t = cc in
+    let at : at_number facts n ≡ Some f = cc in
+    let told : at_number facts m ≡ Some t = cc in
     (numbered-there facts n f at, (numbered-there facts m t told, tt))
 premises-stand facts (Environment n m) (Inter f h g) is = cc
 premises-stand facts (Inter n m e) (Init j) is = cc
@@ -210,19 +210,19 @@ premises-stand facts (Inter n m e) (Own f g) is = cc
 premises-stand facts (Inter n m e) (Guar f g) is = cc
 premises-stand facts (Inter n m e) (Environment f t) is = cc
 premises-stand facts (Inter n m e) (Inter f h g) is =
-    let at : numbered facts n ≡ Some f = cc in
-    let stepped : numbered facts m ≡ Some h = cc in
+    let at : at_number facts n ≡ Some f = cc in
+    let stepped : at_number facts m ≡ Some h = cc in
     (numbered-there facts n f at, (numbered-there facts m h stepped, tt))
 
 -- ---- the instance of a job
 
 says-number : (program : Program) (sets : Sets) (facts : List StoredFact) (id : FactId) (premise : Premise) (fact : Fact) → Says program sets id premise fact
-    → numbered facts premise.id.0 ≡ Some premise.fact → numbered (facts_of program facts) id.0 ≡ Some fact
+    → at_number facts premise.id.0 ≡ Some premise.fact → at_number (facts_of program facts) id.0 ≡ Some fact
 says-number program sets facts id premise fact is at =
-    let home : unwrap_or (numbered (homes program) premise.fact.home.0) (State 0 0) ≡ fact.home = ap (λ o. unwrap_or o (State 0 0)) is.home_is in
+    let home : unwrap_or (at_number (homes program) premise.fact.home.0) (State 0 0) ≡ fact.home = ap (λ o. unwrap_or o (State 0 0)) is.home_is in
     let same : fact_of program premise.fact ≡ fact = ap₂ (λ (h : Home) (held : List ℕ). record { home = h; held = held }) home (sym is.held_is) in
     let number : premise.id.0 ≡ id.0 = ap (λ (i : FactId). i.0) is.id_is in
-    ap (numbered (facts_of program facts)) (sym number) ∙ numbered-map (fact_of program) facts premise.id.0 premise.fact at ∙ ap Some same
+    ap (at_number (facts_of program facts)) (sym number) ∙ numbered-map (fact_of program) facts premise.id.0 premise.fact at ∙ ap Some same
 
 job-over : (program : Program) (lists : List (List Row)) (facts : List StoredFact) (stored : StoredInstance) (first second : Option Premise) (premises : List Fact) (given : Case)
     → IsNumbered facts first → IsNumbered facts second → IsJobCase program (sets_of program lists) stored first second premises given → IsOver program lists facts (instance_of stored)
@@ -364,7 +364,7 @@ over-apart program lists facts (n ∷ ns) over facts_differ apart i j d below wi
     let inside : j < length (n ∷ ns) = omega (arith, over-length program lists facts (n ∷ ns) over) in
     let one = over-at program lists facts (n ∷ ns) over i d n (omega arith) in
     let other = over-at program lists facts (n ∷ ns) over j d n inside in
-    apart i j n below inside (tell (numbered (facts_of program facts)) (numbers-apart (facts_of program facts) facts_differ) (get_or (n ∷ ns) i n) (get_or (n ∷ ns) j n)
+    apart i j n below inside (tell (at_number (facts_of program facts)) (numbers-apart (facts_of program facts) facts_differ) (get_or (n ∷ ns) i n) (get_or (n ∷ ns) j n)
     (some-named (facts_of program facts) (get_or (n ∷ ns) i n) (get_or (over-facts program lists facts (n ∷ ns) over) i d) one)
     (one ∙ ap (map_instance Some) same ∙ sym other))
 

@@ -9,7 +9,7 @@ use Rattle.horn_rules.proofs.Places.{slice_get-append_left}
 use Rattle.thr_base.specs.declared.names.Fact.{Fact as StoredFact}
 use Rattle.thr_base.specs.declared.limits.Limits.{Limits}
 use Rattle.lin_rows.specs.Row.{Row}
-use Rattle.transition_formula.specs.Program.{Program, Thread, Edge, numbered, IsProgram, IsThreadOf, IsEdgeOf}
+use Rattle.transition_formula.specs.Program.{Program, Thread, Edge, at_number, IsProgram, IsThreadOf, IsEdgeOf}
 use Rattle.transition_formula.specs.Stored.{edge_of}
 use Rattle.transition_formula.specs.declared.graph.Edge.{Edge as StoredEdge}
 use Rattle.transition_formula.proofs.Lookups.{numbered-within}
@@ -96,26 +96,26 @@ from-here program i l e f x r (thread, edge, edge_is) at ends fails is =
     equal true at passes = eqb-true x.from.0 l at
     equal false at passes = cc
 
-edges-same : (program : Program) (i : ℕ) (edges : List StoredEdge) (thread : Thread) → option_map (λ (t : Thread). t.edges) (numbered program.threads i) ≡ Some (map edge_of edges)
+edges-same : (program : Program) (i : ℕ) (edges : List StoredEdge) (thread : Thread) → option_map (λ (t : Thread). t.edges) (at_number program.threads i) ≡ Some (map edge_of edges)
     → IsThreadOf program i thread → thread.edges ≡ map edge_of edges
 edges-same program i edges thread got at =
     let here : Some thread.edges ≡ Some (map edge_of edges) = sym (ap (option_map (λ (t : Thread). t.edges)) at) ∙ got in
     cc
 
-pub edges-few : (program : Program) (i : ℕ) (edges : List StoredEdge) → IsProgram program → IsSome (numbered program.threads i) → option_map (λ (t : Thread). t.edges) (numbered program.threads i) ≡ Some (map edge_of edges)
+pub edges-few : (program : Program) (i : ℕ) (edges : List StoredEdge) → IsProgram program → IsSome (at_number program.threads i) → option_map (λ (t : Thread). t.edges) (at_number program.threads i) ≡ Some (map edge_of edges)
     → length edges ≤ 2 ^ 16
 edges-few program i edges is some got =
-    let (thread, at) = some-is (numbered program.threads i) some in
+    let (thread, at) = some-is (at_number program.threads i) some in
     omega (arith, (is.threads_are i thread at).few_edges, ap length (edges-same program i edges thread got at), length-map edges edge_of)
 
-pub edge-there : (program : Program) (i p n : ℕ) (edges : List StoredEdge) → IsSome (numbered program.threads i) → option_map (λ (t : Thread). t.edges) (numbered program.threads i) ≡ Some (map edge_of edges)
+pub edge-there : (program : Program) (i p n : ℕ) (edges : List StoredEdge) → IsSome (at_number program.threads i) → option_map (λ (t : Thread). t.edges) (at_number program.threads i) ≡ Some (map edge_of edges)
     → n ≡ length edges → p < n → HasEdge program i (p + 1)
 edge-there program i p n edges some got count below =
-    let (thread, at) = some-is (numbered program.threads i) some in
+    let (thread, at) = some-is (at_number program.threads i) some in
     let same = edges-same program i edges thread got at in
     let (edge, here) = slice_get-there thread.edges p (omega (arith, ap length same, length-map edges edge_of)) in
     let number : p + 1 ≡ suc p = omega arith in
-    (thread, edge, record { thread_is = at; edge_is = ap (numbered thread.edges) number ∙ here })
+    (thread, edge, record { thread_is = at; edge_is = ap (at_number thread.edges) number ∙ here })
 
 -- the edges up to n are done
 abbrev pub DoneTo : Program → List (List Row) → ℕ → Fact → ℕ → List StoredFact → Type 0
@@ -127,7 +127,7 @@ done-none program lists i f found zero h = (
   λ thread edge is from. absurd (no-edge thread.edges edge is.edge_is),
 )
   where
-    no-edge : (edges : List Edge) (edge : Edge) → numbered edges 0 ≡ Some edge → ⊥
+    no-edge : (edges : List Edge) (edge : Edge) → at_number edges 0 ≡ Some edge → ⊥
     no-edge edges edge e = cc
 done-none program lists i f found (suc e) h = absurd (omega arith)
 
@@ -139,7 +139,7 @@ done-more program lists i f n earlier later on done one e upto = elim (cases_lt 
 ]
 
 pub done-all : (program : Program) (lists : List (List Row)) (i l n m : ℕ) (f : Fact) (edges : List StoredEdge) (found : List StoredFact) → f.home ≡ State i l
-    → option_map (λ (t : Thread). t.edges) (numbered program.threads i) ≡ Some (map edge_of edges) → m ≡ length edges → m ≤ n → DoneTo program lists i f n found → OwnAreSettled program lists f found
+    → option_map (λ (t : Thread). t.edges) (at_number program.threads i) ≡ Some (map edge_of edges) → m ≡ length edges → m ≤ n → DoneTo program lists i f n found → OwnAreSettled program lists f found
 done-all program lists i l n m f edges found at got count upto done j e = (
   λ thread edge is from. (settled thread edge is from).0,
   λ thread edge is from. (settled thread edge is from).1,
@@ -150,7 +150,7 @@ done-all program lists i l n m f edges found at got count upto done j e = (
     settled thread edge is from =
         let both : State i l ≡ State j edge.from = sym at ∙ from in
         let same : i ≡ j = cc in
-        let got_j : option_map (λ (t : Thread). t.edges) (numbered program.threads j) ≡ Some (map edge_of edges) = subst (λ k. option_map (λ (t : Thread). t.edges) (numbered program.threads k) ≡ Some (map edge_of edges)) same got in
+        let got_j : option_map (λ (t : Thread). t.edges) (at_number program.threads j) ≡ Some (map edge_of edges) = subst (λ k. option_map (λ (t : Thread). t.edges) (at_number program.threads k) ≡ Some (map edge_of edges)) same got in
         let within = numbered-within thread.edges e edge is.edge_is in
         let inside : e ≤ n = omega (arith, within.1, ap length (edges-same program j edges thread got_j is.thread_is), length-map edges edge_of) in
         let here : EdgeIsSettled program lists j e f found = subst (λ k. EdgeIsSettled program lists k e f found) same (done e inside) in
@@ -164,13 +164,13 @@ own-vacuous program lists found f i e at j g = (
 )
 
 pub thread-there : (program : Program) (lists : List (List Row)) (found : FoundFacts) (stored : StoredFact) (i l : ℕ) → IsRun program lists found → Contains found.facts stored
-    → numbered (homes program) stored.home.0 ≡ Some (State i l) → IsSome (numbered program.threads i)
+    → at_number (homes program) stored.home.0 ≡ Some (State i l) → IsSome (at_number program.threads i)
 thread-there program lists found stored i l run there at =
     let place = state_home-place program i l (home-numbered program stored.home.0 (State i l) at) in
     subst (λ o. IsSome o) (sym place.thread_is) refl
 
 pub home-is : (program : Program) (lists : List (List Row)) (found : FoundFacts) (stored : StoredFact) (home : Home) → IsRun program lists found → Contains found.facts stored
-    → numbered (homes program) stored.home.0 ≡ Some home → (fact_of program stored).home ≡ home
+    → at_number (homes program) stored.home.0 ≡ Some home → (fact_of program stored).home ≡ home
 home-is program lists found stored home run there at =
     let both : Some (fact_of program stored).home ≡ Some home = sym (found-number program lists found stored run there) ∙ at in
     cc
@@ -349,10 +349,10 @@ starts-more program lists n earlier later on done one i thread at upto = elim (c
 pub starts-all : (program : Program) (lists : List (List Row)) (n threads : ℕ) (found : List StoredFact) → threads ≡ length program.threads → threads ≤ n → StartsTo program lists n found → StartsAreSettled program lists found
 starts-all program lists n threads found count upto done i thread at = done i thread at (omega (arith, (numbered-within program.threads i thread at).1))
 
-pub thread-here : (program : Program) (i threads : ℕ) → threads ≡ length program.threads → i < threads → IsSome (numbered program.threads (i + 1))
+pub thread-here : (program : Program) (i threads : ℕ) → threads ≡ length program.threads → i < threads → IsSome (at_number program.threads (i + 1))
 thread-here program i threads count below =
     let (thread, at) = slice_get-there program.threads i (omega arith) in
-    subst (λ o. IsSome o) (sym (ap (numbered program.threads) (let number : i + 1 ≡ suc i = omega arith in number) ∙ at)) refl
+    subst (λ o. IsSome o) (sym (ap (at_number program.threads) (let number : i + 1 ≡ suc i = omega arith in number) ∙ at)) refl
 
 pub all-done : (program : Program) (lists : List (List Row)) (n : ℕ) (found : List StoredFact) → n ≤ length found → length found ≤ n → AllAreSettled program lists n found → AllAreSettled program lists (length found) found
 all-done program lists n found one other done = let same : n ≡ length found = omega arith in subst (λ k. AllAreSettled program lists k found) same done

@@ -19,7 +19,7 @@ use Rattle.lin_rows.specs.Row.{Row}
 use Rattle.farkas_cert.specs.declared.answers.LeaveKind.{LeaveKind}
 use Rattle.farkas_cert.specs.Cert.{IsRefuted}
 use Rattle.predicate_sets.specs.Sets.{set_at}
-use Rattle.transition_formula.specs.Program.{Program, numbered}
+use Rattle.transition_formula.specs.Program.{Program, at_number}
 use Rattle.horn_rules.specs.declared.job.Premise.{Premise}
 use Rattle.horn_rules.specs.Home.{Home, State, homes}
 use Rattle.horn_rules.specs.Fact.{Sets, Fact}
@@ -83,13 +83,13 @@ map-apart P f (x ∷ xs) all apart tells i j d below within same =
 
 -- ---- stored facts
 
-pub fact-is : (program : Program) (home : HomeNo) (held : ℕ) (target : Home) → numbered (homes program) home.0 ≡ Some target
+pub fact-is : (program : Program) (home : HomeNo) (held : ℕ) (target : Home) → at_number (homes program) home.0 ≡ Some target
     → fact_of program (record { home = home; held = held }) ≡ record { home = target; held = positions held }
 fact-is program home held target at =
     let made : Option Home → Fact = λ o. record { home = unwrap_or o (State 0 0); held = positions held } in
     ap made at
 
-pub numbered-within : {A : Type 0} (xs : List A) (n : ℕ) (x : A) → numbered xs n ≡ Some x → n ≤ length xs
+pub numbered-within : {A : Type 0} (xs : List A) (n : ℕ) (x : A) → at_number xs n ≡ Some x → n ≤ length xs
 numbered-within xs zero x e = cc
 numbered-within xs (suc k) x e = slice_get_within xs k x e
 
@@ -118,7 +118,7 @@ no-positions = empty (positions 0) (λ k there.
 nothing-held : (sets : Sets) (given : Case) (fact : Fact) → IsFactOf sets given fact → sets given.target ≡ [] → fact.held ≡ []
 nothing-held sets given fact is none = empty fact.held (λ k there.
     let (atom, at, entails) = (is.entailed.exact k).0 there in
-    no-number k atom (ap (λ l. numbered l k) (sym none) ∙ at))
+    no-number k atom (ap (λ l. at_number l k) (sym none) ∙ at))
 
 -- a word whose positions are within a list is below 2 ^ its length
 held-within : (held n : ℕ) → held < 2 ^ 128 → ((k : ℕ) → Contains (positions held) k → k ≤ n) → held < 2 ^ n
@@ -127,18 +127,18 @@ held-within held n small each = elim (cases_lt 128 n) [
   | inr within ↦ (words-below held n small (omega arith)).1 each
 ]
 
-stood-alone : (program : Program) (lists : List (List Row)) (home : HomeNo) (target : Home) (stored : StoredFact) → numbered (homes program) home.0 ≡ Some target
+stood-alone : (program : Program) (lists : List (List Row)) (home : HomeNo) (target : Home) (stored : StoredFact) → at_number (homes program) home.0 ≡ Some target
     → set_at lists home.0 ≡ [] → stored.home.0 ≡ home.0 → stored.held < 2 ^ length (set_at lists stored.home.0) → fact_of program stored ≡ record { home = target; held = [] }
 stood-alone program lists home target stored at none same within =
     let bare : length (set_at lists stored.home.0) ≡ 0 = ap (λ n. length (set_at lists n)) same ∙ ap length none in
     let below : stored.held < 2 ^ 0 = subst (λ n. stored.held < 2 ^ n) bare within in
     let zero_held : stored.held ≡ 0 = omega arith in
-    fact-is program stored.home stored.held target (ap (numbered (homes program)) same ∙ at)
+    fact-is program stored.home stored.held target (ap (at_number (homes program)) same ∙ at)
     ∙ ap (λ held. record { home = target; held = positions held }) zero_held
     ∙ ap (λ (held : List ℕ). record { home = target; held = held }) no-positions
 
 pub skipped : (program : Program) (lists : List (List Row)) (found : FoundFacts) (home : HomeNo) (given : Case) → IsRun program lists found
-    → numbered (homes program) home.0 ≡ Some given.target → set_at lists home.0 ≡ [] → Any (λ (f : StoredFact). f.home.0 ≡ home.0) found.facts → IsSettled program lists found.facts given
+    → at_number (homes program) home.0 ≡ Some given.target → set_at lists home.0 ≡ [] → Any (λ (f : StoredFact). f.home.0 ≡ home.0) found.facts → IsSettled program lists found.facts given
 skipped program lists found home given run at none (k, stored, within, is, same) =
     let bare : sets_of program lists given.target ≡ [] = target-set program lists home.0 given.target run.lists_are at ∙ none in
     let stands : Contains found.facts stored = (k, within, is) in
@@ -203,7 +203,7 @@ module _ (program : Program) (lists : List (List Row)) (old : FoundFacts) (insta
     is_word = small;
     within = held-within held (length (set_at lists home.0)) small (λ k there.
         let (atom, at, entails) = (of-case.entailed.exact k).0 there in
-        let here = ap (λ l. numbered l k) (sym (target-set program lists home.0 is.given.target run.lists_are is.home_is)) ∙ at in
+        let here = ap (λ l. at_number l k) (sym (target-set program lists home.0 is.given.target run.lists_are is.home_is)) ∙ at in
         numbered-within (set_at lists home.0) k atom here);
   }
 

@@ -2,7 +2,7 @@ ghost use Rattle.std.specs.Prelude.{◌≡◌, ◌+◌, ◌<◌, Some, length, s
 ghost use Rattle.std.specs.List.{AllByRecursion};
 ghost use Rattle.horn_rules.specs.Instance.{Init, Own, Guar, Env as Environment};
 ghost use Rattle.predicate_sets.specs.Sets.{HasHome, set_at};
-ghost use Rattle.transition_formula.specs.Program.{Thread, IsEdgeOf, numbered};
+ghost use Rattle.transition_formula.specs.Program.{Thread, IsEdgeOf, at_number};
 ghost use Rattle.transition_formula.specs.Program as specs;
 ghost use Rattle.transition_formula.specs.Stored.{edge_of};
 ghost use Rattle.horn_rules.specs.Instances.{tells_another};
@@ -13,7 +13,7 @@ ghost use Rattle.serial_fix.specs.inside.Run.{EdgeIsSettled, GuarIsSettled, HasE
 
 use crate::found::Found;
 use crate::step::{Step, add};
-use horn_rules::{Premise, named, number};
+use horn_rules::{Premise, home_by_number, number};
 use predicate_sets::Sets;
 use std::alloc::AllocError;
 use thr_base::{EdgeNo, Fact, FactId, Home, Instance, Limits, Loc, ThreadNo};
@@ -33,13 +33,13 @@ pub(crate) fn nth(program: &Program, found: &Found, n: u32) -> Known
     requires homes { AllByRecursion (HasItsHome program.now) found.now.facts }
     ensures at { slice_get found.now.facts n ≡ Some result.fact }
     ensures id { result.id.0 ≡ n + 1 }
-    ensures home { numbered (homes program.now) result.fact.home.0 ≡ Some (home_of result.home) }
+    ensures home { at_number (homes program.now) result.fact.home.0 ≡ Some (home_of result.home) }
 {
     let fact = found.facts()[n as usize];
     Known {
         id: FactId(n + 1),
         fact,
-        home: named(program, fact.home),
+        home: home_by_number(program, fact.home),
     }
 }
 
@@ -74,7 +74,7 @@ pub(crate) fn start(
     i: ThreadNo,
 ) -> Result<Step, AllocError>
     requires run { IsRun program.now sets.now found.old }
-    requires thread { IsSome (numbered program.now.threads i.0) }
+    requires thread { IsSome (at_number program.now.threads i.0) }
     requires looked { AreLookedAt program.now sets.now found.old (place_in_run (Init i.0)) }
     ensures { IfOk result (IsStep program.now sets.now limits found.old found.new (place_in_run (Init i.0) + 1) (StartIsSettled program.now sets.now i.0)) }
 {
@@ -191,7 +191,7 @@ fn steps_from(
     requires run { IsRun program.now sets.now found.old }
     requires known { IsKnown program.now found.old.facts known }
     requires at { (fact_of program.now known.fact).home ≡ State at.0.0 at.1.0 }
-    requires thread { IsSome (numbered program.now.threads at.0.0) }
+    requires thread { IsSome (at_number program.now.threads at.0.0) }
     requires looked { AreLookedAt program.now sets.now found.old (turn known.id.0 0) }
     ensures { IfOk result (IsStep program.now sets.now limits found.old found.new (turn known.id.0 first_pair) (OwnAreSettled program.now sets.now (fact_of program.now known.fact))) }
 {

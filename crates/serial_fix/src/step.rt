@@ -1,6 +1,6 @@
 ghost use Rattle.std.specs.Prelude.{◌≡◌, ◌+◌, ◌<◌, ◌≤◌, Some, length, slice_get, IfOk, OnOk};
 ghost use Rattle.predicate_sets.specs.Sets.{HasHome, set_at};
-ghost use Rattle.transition_formula.specs.Program.{numbered, IsProgram};
+ghost use Rattle.transition_formula.specs.Program.{at_number, IsProgram};
 ghost use Rattle.horn_rules.specs.Home.{homes};
 ghost use Rattle.horn_rules.specs.Job.{IsJob};
 ghost use Rattle.horn_rules.specs.Stored.{instance_of};

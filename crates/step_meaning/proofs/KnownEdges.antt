@@ -2,7 +2,7 @@
 use Rattle.std.proofs.Common.{◌≡◌, ℕ, ◌+◌, ◌<◌, length, Option, Some, None, option_map, refl, sym, subst}
 use Rattle.std.specs.List.{AllByRecursion}
 use Rattle.lin_rows.specs.System.{IsRowOver}
-use Rattle.transition_formula.specs.Program.{Thread, Edge, Program, IsThreadOf, IsEdgeOf, IsProgram, IsFormOver, numbered}
+use Rattle.transition_formula.specs.Program.{Thread, Edge, Program, IsThreadOf, IsEdgeOf, IsProgram, IsFormOver, at_number}
 use Rattle.transition_formula.proofs.Programs.{edge-is, sets-within}
 
 -- The thread of a number has this counter and this edge.
@@ -11,11 +11,11 @@ pub record IsKnown (program : Program) (i e counter : ℕ) (edge : Edge) : Type 
   pub counts : thread.counter ≡ counter
   pub is_edge : IsEdgeOf program i e thread edge
 
-pub known : (program : Program) (i e counter : ℕ) (edge : Edge) → option_map (λ thread. thread.counter) (numbered program.threads i) ≡ Some counter
-    → ((thread : Thread) → IsThreadOf program i thread → numbered thread.edges e ≡ Some edge) → IsKnown program i e counter edge
-known program i e counter edge counts found = by (numbered program.threads i) refl counts
+pub known : (program : Program) (i e counter : ℕ) (edge : Edge) → option_map (λ thread. thread.counter) (at_number program.threads i) ≡ Some counter
+    → ((thread : Thread) → IsThreadOf program i thread → at_number thread.edges e ≡ Some edge) → IsKnown program i e counter edge
+known program i e counter edge counts found = by (at_number program.threads i) refl counts
   where
-    by : (o : Option Thread) → numbered program.threads i ≡ o → option_map (λ thread. thread.counter) o ≡ Some counter → IsKnown program i e counter edge
+    by : (o : Option Thread) → at_number program.threads i ≡ o → option_map (λ thread. thread.counter) o ≡ Some counter → IsKnown program i e counter edge
     by None is c = absurd cc
     by (Some thread) is c = record { thread = thread; counts = cc; is_edge = record { thread_is = is; edge_is = found thread is } }
 

@@ -3,7 +3,7 @@ use Rattle.std.proofs.Common.{◌≡◌, ℕ, suc, ◌+◌, ◌<◌, ◌≤◌, 
 use Rattle.std.proofs.lemmas.List.{drop_all}
 use Rattle.std.proofs.lemmas.Option.{slice_get-map, slice_get_read}
 use Rattle.transition_formula.specs.Program.{Form, Edge}
-use Rattle.transition_formula.specs.Step.{value_of, assigned}
+use Rattle.transition_formula.specs.Step.{value_of, after_sets}
 use Rattle.transition_formula.proofs.Lookups.{drop-slice_get}
 use Rattle.step_meaning.specs.Outcome.{source_holds, test_holds, set_holds, looked_at, first_stop}
 
@@ -32,14 +32,14 @@ mapped-at f xs n x h e = slice_get-map f xs n ∙ ap (option_map f) (slice_get_r
 
 -- one set more is assigned
 pub assigned-next : (sets : List (ℕ × Form)) (z state next : List ℤ) (n m c : ℕ) (form : Form) → m ≡ suc n → slice_get sets n ≡ Some (c, form)
-    → next ≡ assigned (drop m sets) z state → slice_set next c (value_of form z) ≡ assigned (drop n sets) z state
+    → next ≡ after_sets (drop m sets) z state → slice_set next c (value_of form z) ≡ after_sets (drop n sets) z state
 assigned-next sets z state next n m c form more at e =
-    ap (λ xs. slice_set xs c (value_of form z)) (e ∙ ap (λ (k : ℕ). assigned (drop k sets) z state) more)
-    ∙ sym (ap (λ l. assigned l z state) (drop-slice_get sets n (c, form) at))
+    ap (λ xs. slice_set xs c (value_of form z)) (e ∙ ap (λ (k : ℕ). after_sets (drop k sets) z state) more)
+    ∙ sym (ap (λ l. after_sets l z state) (drop-slice_get sets n (c, form) at))
 
 -- before the first set is assigned
-pub assigned-none : (sets : List (ℕ × Form)) (z state : List ℤ) (n : ℕ) → length sets ≤ n → state ≡ assigned (drop n sets) z state
-assigned-none sets z state n h = sym (ap (λ l. assigned l z state) (drop_all n sets h))
+pub assigned-none : (sets : List (ℕ × Form)) (z state : List ℤ) (n : ℕ) → length sets ≤ n → state ≡ after_sets (drop n sets) z state
+assigned-none sets z state n h = sym (ap (λ l. after_sets l z state) (drop_all n sets h))
 
 -- at the source, the tests and sets are looked at
 pub past_source : (counter : ℕ) (edge : Edge) (before inputs : List ℤ) → source_holds counter edge before ≡ Some true

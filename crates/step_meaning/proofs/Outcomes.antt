@@ -5,7 +5,7 @@ use Rattle.lin_rows.proofs.Lists.{AllByRecursion-append, AllByRecursion-front, A
 use Rattle.thr_base.specs.Number.{Fits}
 use Rattle.lin_rows.specs.Row.{Row, Meets}
 use Rattle.transition_formula.specs.Program.{Form, Thread, Edge}
-use Rattle.transition_formula.specs.Step.{value_of, assigned, after_step}
+use Rattle.transition_formula.specs.Step.{value_of, after_sets, after_step}
 use Rattle.transition_formula.specs.Forms.{value_if_fits}
 use Rattle.transition_formula.proofs.FormValues.{values-exact}
 use Rattle.step_meaning.specs.Outcome.{Goes, outcome_of, outcome_by, looked_at, first_stop, source_holds, test_holds, set_holds}
@@ -113,17 +113,17 @@ set-value z set fits = by (value_if_fits set.1 z) refl fits
     by None is h = absurd cc
     by (Some v) is h = subst Fits (values-exact.values set.1 z v is) (values-exact.fit set.1 z v is)
 
-assigned-fits : (sets : List (ℕ × Form)) (z state : List ℤ) → AllByRecursion (SetFits z) sets → AllByRecursion Fits state → AllByRecursion Fits (assigned sets z state)
+assigned-fits : (sets : List (ℕ × Form)) (z state : List ℤ) → AllByRecursion (SetFits z) sets → AllByRecursion Fits state → AllByRecursion Fits (after_sets sets z state)
 assigned-fits [] z state all fit = fit
 assigned-fits ((c, form) ∷ sets) z state all fit =
-    slice_set-all Fits (assigned sets z state) c (value_of form z) (assigned-fits sets z state all.1 fit) (set-value z (c, form) all.0)
+    slice_set-all Fits (after_sets sets z state) c (value_of form z) (assigned-fits sets z state all.1 fit) (set-value z (c, form) all.0)
 
 pub given-fits : WhatIsGivenFits
 given-fits thread edge before inputs after fit target e =
     let parts = gone thread edge before inputs after e in
     let looked = looked-all thread.counter edge before inputs parts.0 in
     subst (AllByRecursion Fits) parts.1
-    (slice_set-all Fits (assigned edge.sets (before ++ inputs) before) thread.counter (pos edge.to)
+    (slice_set-all Fits (after_sets edge.sets (before ++ inputs) before) thread.counter (pos edge.to)
     (assigned-fits edge.sets (before ++ inputs) before looked.sets_fit fit) target)
 
 -- ---- first stops

@@ -1,5 +1,5 @@
 ghost use Rattle.std.specs.Prelude.{◌≡◌, length, IsSome};
-ghost use Rattle.transition_formula.specs.Program.{Thread, Edge, IsThreadOf, IsEdgeOf, numbered};
+ghost use Rattle.transition_formula.specs.Program.{Thread, Edge, IsThreadOf, IsEdgeOf, at_number};
 ghost use Rattle.step_meaning.specs.Outcome.{outcome_of};
 ghost use Rattle.step_meaning.specs.Answer.{answer_in, buffer_in};
 
@@ -19,8 +19,8 @@ pub fn step(
     inputs: &[i128],
     next: &mut [i128],
 ) -> StepAnswer
-    requires thread { IsSome (numbered program.now.threads thread.0) }
-    requires edge { (of_thread : Thread) → IsThreadOf program.now thread.0 of_thread → IsSome (numbered of_thread.edges edge.0) }
+    requires thread { IsSome (at_number program.now.threads thread.0) }
+    requires edge { (of_thread : Thread) → IsThreadOf program.now thread.0 of_thread → IsSome (at_number of_thread.edges edge.0) }
     requires state { length state.now ≡ length program.now.columns }
     requires inputs { (of_thread : Thread) (by_edge : Edge) → IsEdgeOf program.now thread.0 edge.0 of_thread by_edge → length inputs.now ≡ by_edge.inputs }
     requires next { length next.old ≡ length program.now.columns }

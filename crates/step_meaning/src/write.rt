@@ -1,7 +1,7 @@
 ghost use Rattle.std.specs.Prelude.{◌≡◌, ◌<◌, ◌+◌, ◌++◌, pos, length, map, slice_set, IsSome};
 ghost use Rattle.std.specs.List.{AllByRecursion};
 ghost use Rattle.transition_formula.specs.Program.{IsFormOver};
-ghost use Rattle.transition_formula.specs.Step.{value_of, assigned};
+ghost use Rattle.transition_formula.specs.Step.{value_of, after_sets};
 ghost use Rattle.transition_formula.specs.Forms.{value_if_fits};
 ghost use Rattle.transition_formula.specs.Stored.{edge_of, form_of, set_of};
 
@@ -31,7 +31,7 @@ fn write_sets(sets: &[(u32, Line)], state: &[i128], inputs: &[i128], next: &mut 
     requires within { AllByRecursion (λ set. set.0 < length next.old) (map set_of sets.now) }
     requires over { AllByRecursion (λ set. IsFormOver (length state.now + length inputs.now) set.1) (map set_of sets.now) }
     requires fit { AllByRecursion (λ set. IsSome (value_if_fits set.1 (state.now ++ inputs.now))) (map set_of sets.now) }
-    ensures { next.new ≡ assigned (map set_of sets.now) (state.now ++ inputs.now) next.old }
+    ensures { next.new ≡ after_sets (map set_of sets.now) (state.now ++ inputs.now) next.old }
 {
     let mut left = sets.len();
     'sets: while left > 0 {
@@ -53,7 +53,7 @@ pub(crate) fn write_after(
     requires within { AllByRecursion (λ set. set.0 < length state.now) (edge_of edge.now).sets }
     requires over { AllByRecursion (λ set. IsFormOver (length state.now + length inputs.now) set.1) (edge_of edge.now).sets }
     requires fit { AllByRecursion (λ set. IsSome (value_if_fits set.1 (state.now ++ inputs.now))) (edge_of edge.now).sets }
-    ensures { next.new ≡ slice_set (assigned (edge_of edge.now).sets (state.now ++ inputs.now) state.now) counter (pos (edge_of edge.now).to) }
+    ensures { next.new ≡ slice_set (after_sets (edge_of edge.now).sets (state.now ++ inputs.now) state.now) counter (pos (edge_of edge.now).to) }
 {
     next.copy_from_slice(state);
     write_sets(edge.sets.as_slice(), state, inputs, next);

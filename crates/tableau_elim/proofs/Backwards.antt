@@ -6,17 +6,17 @@ use Rattle.std.specs.List.{AllByRecursion}
 use Rattle.std.specs.Option.{option_map}
 use Rattle.std.proofs.lemmas.Bool.{eqb-true, eq-eqb, ne_eqb}
 use Rattle.std.proofs.lemmas.Int.{ints}
-use Rattle.lin_rows.specs.Row.{Row, product_of, scaled}
+use Rattle.lin_rows.specs.Row.{Row, product_of, multiple_of}
 use Rattle.lin_rows.specs.System.{System}
 use Rattle.lin_rows.proofs.Integers.{mul_assoc_ℤ, mul_comm_ℤ, mul-zero_ℤ, zero-mul_ℤ, one-mul_ℤ}
 use Rattle.lin_rows.proofs.Lists.{AllByRecursion-at}
-use Rattle.farkas_cert.specs.Divided.{divided}
+use Rattle.farkas_cert.specs.Divided.{divided_numbers}
 use Rattle.farkas_cert.specs.Line.{combination}
 use Rattle.farkas_cert.specs.Elimination.{every}
 use Rattle.farkas_cert.proofs.Integers.{linear, eq_of_mul_right_ℤ}
 use Rattle.farkas_cert.proofs.Linear.{product-linear, from_divided_vanishes}
 use Rattle.farkas_cert.proofs.Lists.{all_both, all_from}
-use Rattle.tableau_elim.specs.Tableau.{Line, Tableau, Pivot, are_same, number_at, given, given_lines, pivot_at, solved, substituted, changed, pivoted}
+use Rattle.tableau_elim.specs.Tableau.{Line, Tableau, Pivot, are_same, number_at, given_tableau, given_lines, pivot_at, solved_line, combined_line, line_after_pivot, pivoted_tableau}
 use Rattle.tableau_elim.specs.declared.variable.Variable.{Variable}
 use Rattle.tableau_elim.specs.declared.variable.Variable.TheVariants.{Column, Slack}
 use Rattle.tableau_elim.proofs.Changed.{by_change, substituted_is}
@@ -119,20 +119,20 @@ only_one (line ∷ lines) own a d = elim a [
 -- ---- a pivot keeps the basics apart
 
 -- x stays apart from the new basic of a line, where it is apart from the old one or the entering variable
-basic_apart : (x : Variable) (pivot : Pivot) (line new : Line) → changed pivot line ≡ Some new → (are_same line.basic pivot.leaving ≡ true → Apart x pivot.entering)
+basic_apart : (x : Variable) (pivot : Pivot) (line new : Line) → line_after_pivot pivot line ≡ Some new → (are_same line.basic pivot.leaving ≡ true → Apart x pivot.entering)
     → (are_same line.basic pivot.leaving ≡ false → Apart x line.basic) → Apart x new.basic
-unfolding solved
+unfolding solved_line
 basic_apart x pivot line new e f g =
     by_change (λ made. Apart x made.basic) pivot line new e f
     (λ s t m. subst (λ (made : Line). Apart x made.basic) (substituted_is pivot line new m).1 (g s)) (λ s t. g s)
 
-all_apart : (x : Variable) (pivot : Pivot) (lines made : List Line) → every (map (changed pivot) lines) ≡ Some made
+all_apart : (x : Variable) (pivot : Pivot) (lines made : List Line) → every (map (line_after_pivot pivot) lines) ≡ Some made
     → AllByRecursion (λ line. (are_same line.basic pivot.leaving ≡ true → Apart x pivot.entering) × (are_same line.basic pivot.leaving ≡ false → Apart x line.basic)) lines
     → NotAmong x (basics_of made)
 unfolding every
 all_apart x pivot [] made e h = let same : [] ≡ made = cc in rw (← same) tt
 all_apart x pivot (line ∷ lines) made e h =
-    let parts = every_parts (changed pivot) line lines made e in
+    let parts = every_parts (line_after_pivot pivot) line lines made e in
     let rest = all_apart x pivot lines parts.1 parts.3 h.1 in
     rw parts.4 (basic_apart x pivot line parts.0 parts.2 h.0.0 h.0.1, rest)
 
@@ -142,12 +142,12 @@ entering_apart : (lines : List Line) (places : List Variable) (j : ℕ) → j < 
 entering_apart [] places j h k = tt
 entering_apart (line ∷ lines) places j h k = (AllByRecursion-at (Apart line.basic) places j (Column 0) k.0 h, entering_apart lines places j h k.1)
 
-pub distinct_after : (pivot : Pivot) (lines made : List Line) → every (map (changed pivot) lines) ≡ Some made → Distinct (basics_of lines)
+pub distinct_after : (pivot : Pivot) (lines made : List Line) → every (map (line_after_pivot pivot) lines) ≡ Some made → Distinct (basics_of lines)
     → AllByRecursion (λ line. Apart line.basic pivot.entering) lines → Distinct (basics_of made)
-unfolding every solved
+unfolding every solved_line
 distinct_after pivot [] made e d k = let same : [] ≡ made = cc in rw (← same) tt
 distinct_after pivot (line ∷ lines) made e d k =
-    let parts = every_parts (changed pivot) line lines made e in
+    let parts = every_parts (line_after_pivot pivot) line lines made e in
     let rest = distinct_after pivot lines parts.1 parts.3 d.1 k.1 in
     let here = by_change (λ new. NotAmong new.basic (basics_of parts.1)) pivot line parts.0 parts.2
     (λ s. all_apart pivot.entering pivot lines parts.1 parts.3 (entered line lines s d.0 k.1))
@@ -176,11 +176,11 @@ unsigned_zero s x e h =
     sym (one-mul_ℤ x) ∙ ap (λ t. t *ℤ x) (sym e) ∙ mul_assoc_ℤ s s x ∙ ap (λ t. s *ℤ t) none ∙ mul-zero_ℤ s
 
 pub own_back : (v : Values) (tableau : Tableau) (j : ℕ) (own : Line) → j < length tableau.places → number_at j own ≢ pos 0 → length own.numbers ≡ suc (length tableau.places)
-    → Holds v (places_after j own tableau.places) (solved (pivot_at j own tableau)) → Holds v tableau.places own
-unfolding solved pivot_at
+    → Holds v (places_after j own tableau.places) (solved_line (pivot_at j own tableau)) → Holds v tableau.places own
+unfolding solved_line pivot_at
 own_back v tableau j own h p w e =
     let n = number_at j own in
-    let numbers = slice_set (scaled (neg_ℤ (int_signum n)) (moved_numbers j own)) 0 (pos (unsigned_abs n)) in
+    let numbers = slice_set (multiple_of (neg_ℤ (int_signum n)) (moved_numbers j own)) 0 (pos (unsigned_abs n)) in
     let ws = weighed v (places_after j own tableau.places) (get_or tableau.places j (Column 0)) in
     unsigned_zero (int_signum n) (defect v tableau.places own) (sign_twice n p)
     (sym (own_defect v tableau.places j own h w) ∙ from_divided_vanishes (λ xs. product_of xs ws) (product-linear ws) numbers e)
@@ -191,7 +191,7 @@ abs_positive (pos (suc n)) h = omega (arith, ints)
 abs_positive (negsuc n) h = omega (arith, ints)
 
 substituted_back : (v : Values) (tableau : Tableau) (j : ℕ) (own line new : Line) → j < length tableau.places → number_at j own ≢ pos 0 → length own.numbers ≡ suc (length tableau.places)
-    → length line.numbers ≡ suc (length tableau.places) → Holds v tableau.places own → substituted (pivot_at j own tableau) line ≡ Some new
+    → length line.numbers ≡ suc (length tableau.places) → Holds v tableau.places own → combined_line (pivot_at j own tableau) line ≡ Some new
     → Holds v (places_after j own tableau.places) new → Holds v tableau.places line
 unfolding pivot_at
 substituted_back v tableau j own line new h p wo wl eo m e =
@@ -201,7 +201,7 @@ substituted_back v tableau j own line new h p wo wl eo m e =
     let b = neg_ℤ (int_signum n) *ℤ u in
     let rest = slice_set line.numbers (suc j) (pos 0) in
     let ws = weighed v (places_after j own tableau.places) line.basic in
-    let made : Line = record { basic = line.basic; numbers = divided (combination a rest b (moved_numbers j own)) } in
+    let made : Line = record { basic = line.basic; numbers = divided_numbers (combination a rest b (moved_numbers j own)) } in
     let zero_made : Holds v (places_after j own tableau.places) made = subst (λ (l : Line). Holds v (places_after j own tableau.places) l) (sym (substituted_is (pivot_at j own tableau) line new m).1) e in
     let none = from_divided_vanishes (λ xs. product_of xs ws) (product-linear ws) (combination a rest b (moved_numbers j own)) zero_made in
     let all = sym (other_defect v tableau.places j own line h wo wl) ∙ none in
@@ -210,7 +210,7 @@ substituted_back v tableau j own line new h p wo wl eo m e =
     eq_of_mul_right_ℤ (defect v tableau.places line) (pos 0) a (abs_positive n p) product
 
 changed_back : (v : Values) (tableau : Tableau) (j : ℕ) (own line new : Line) → j < length tableau.places → number_at j own ≢ pos 0 → length own.numbers ≡ suc (length tableau.places)
-    → length line.numbers ≡ suc (length tableau.places) → (are_same line.basic own.basic ≡ true → line ≡ own) → Holds v tableau.places own → changed (pivot_at j own tableau) line ≡ Some new
+    → length line.numbers ≡ suc (length tableau.places) → (are_same line.basic own.basic ≡ true → line ≡ own) → Holds v tableau.places own → line_after_pivot (pivot_at j own tableau) line ≡ Some new
     → Holds v (places_after j own tableau.places) new → Holds v tableau.places line
 unfolding pivot_at
 changed_back v tableau j own line new h p wo wl one eo m =
@@ -219,20 +219,20 @@ changed_back v tableau j own line new h p wo wl one eo m =
     (λ s t q e. substituted_back v tableau j own line new h p wo wl eo q e)
     (λ s t e. sym (same_defect v tableau.places j own line h t) ∙ e)
 
-solved_is : (j : ℕ) (own : Line) (tableau : Tableau) → changed (pivot_at j own tableau) own ≡ Some (solved (pivot_at j own tableau))
-unfolding changed pivot_at
+solved_is : (j : ℕ) (own : Line) (tableau : Tableau) → line_after_pivot (pivot_at j own tableau) own ≡ Some (solved_line (pivot_at j own tableau))
+unfolding line_after_pivot pivot_at
 solved_is j own tableau = rw (same_self own.basic) refl
 
 pub pivot_back : (v : Values) (system : System) (tableau next : Tableau) (j : ℕ) (own : Line) → j < length tableau.places → number_at j own ≢ pos 0 → IsKept system tableau
-    → Distinct (basics_of tableau.lines) → Among own tableau.lines → pivoted (pivot_at j own tableau) tableau ≡ Some next
+    → Distinct (basics_of tableau.lines) → Among own tableau.lines → pivoted_tableau (pivot_at j own tableau) tableau ≡ Some next
     → AllByRecursion (Holds v next.places) next.lines → AllByRecursion (Holds v tableau.places) tableau.lines
 pivot_back v system tableau next j own h p k d a e all =
     let is = pivoted_parts j own tableau next e in
     let places = is.1.1 in
     let made : AllByRecursion (Holds v (places_after j own tableau.places)) next.lines = subst (λ (ps : List Variable). AllByRecursion (Holds v ps) next.lines) places all in
     let ko = among_has (IsKeptLine system tableau.places) own tableau.lines a k.lines in
-    let eo = own_back v tableau j own h p ko.wide (made_has (Holds v (places_after j own tableau.places)) (changed (pivot_at j own tableau)) own (solved (pivot_at j own tableau)) tableau.lines next.lines a (solved_is j own tableau) is.1.0 made) in
-    every_back (Holds v tableau.places) (λ line. IsKeptLine system tableau.places line × (are_same line.basic own.basic ≡ true → line ≡ own)) (Holds v (places_after j own tableau.places)) (changed (pivot_at j own tableau)) tableau.lines next.lines
+    let eo = own_back v tableau j own h p ko.wide (made_has (Holds v (places_after j own tableau.places)) (line_after_pivot (pivot_at j own tableau)) own (solved_line (pivot_at j own tableau)) tableau.lines next.lines a (solved_is j own tableau) is.1.0 made) in
+    every_back (Holds v tableau.places) (λ line. IsKeptLine system tableau.places line × (are_same line.basic own.basic ≡ true → line ≡ own)) (Holds v (places_after j own tableau.places)) (line_after_pivot (pivot_at j own tableau)) tableau.lines next.lines
     (λ line new both m q. changed_back v tableau j own line new h p ko.wide both.0.wide both.1 eo m q)
     is.1.0 (all_both (IsKeptLine system tableau.places) (λ line. are_same line.basic own.basic ≡ true → line ≡ own) tableau.lines k.lines (only_one tableau.lines own a d)) made
 
@@ -240,10 +240,10 @@ pivot_back v system tableau next j own h p k d a e all =
 
 pub record IsBack (system : System) (tableau : Tableau) : Type 0 where
   pub distinct : Distinct (basics_of tableau.lines)
-  pub says : (v : Values) → AllByRecursion (Holds v tableau.places) tableau.lines → AllByRecursion (Holds v (given system).places) (given system).lines
+  pub says : (v : Values) → AllByRecursion (Holds v tableau.places) tableau.lines → AllByRecursion (Holds v (given_tableau system).places) (given_tableau system).lines
 
 pub back_by_pivot : (system : System) (tableau next : Tableau) (j : ℕ) (own : Line) → j < length tableau.places → number_at j own ≢ pos 0 → IsKept system tableau → IsBack system tableau
-    → Among own tableau.lines → pivoted (pivot_at j own tableau) tableau ≡ Some next → IsBack system next
+    → Among own tableau.lines → pivoted_tableau (pivot_at j own tableau) tableau ≡ Some next → IsBack system next
 unfolding pivot_at
 back_by_pivot system tableau next j own h p k b a e =
     let is = pivoted_parts j own tableau next e in
@@ -263,5 +263,5 @@ unfolding given_lines
 distinct_given k [] = tt
 distinct_given k (row ∷ rows) = (later_apart k row.equal row.bound (suc k) rows (omega arith), distinct_given (suc k) rows)
 
-pub back_given : (system : System) → IsBack system (given system)
+pub back_given : (system : System) → IsBack system (given_tableau system)
 back_given system = record { distinct = distinct_given 0 system.rows; says = λ v h. h }

@@ -5,7 +5,7 @@ use Rattle.std.specs.List.{AllByRecursion, range_with_len}
 use Rattle.std.specs.Option.{option_map}
 use Rattle.lin_rows.specs.System.{System, HasWidths}
 use Rattle.farkas_cert.specs.Cert.{Pairs}
-use Rattle.farkas_cert.specs.Divided.{divided}
+use Rattle.farkas_cert.specs.Divided.{divided_numbers}
 use Rattle.farkas_cert.specs.Elimination.{every}
 use Rattle.farkas_cert.specs.Line.{nonzero_pairs, is_nonzero}
 use Rattle.farkas_cert.specs.BackSubstitution.{Fraction}
@@ -15,8 +15,8 @@ use Rattle.farkas_cert.proofs.Lists.{all_filter}
 use Rattle.farkas_cert.proofs.Refuting.{IsProvedBy}
 use Rattle.std.proofs.lemmas.Int.{ints}
 use Rattle.std.proofs.lemmas.List.{drop-drop}
-use Rattle.tableau_elim.specs.Tableau.{Line, Tableau, comes_before, number_at, pivot_at, pivoted, given}
-use Rattle.tableau_elim.specs.Rounds.{Outcome, Refuted, Point, GaveUp, Found, Ends, Pivots, first_out, earlier, is_within, standing_of, is_suitable, suitable_from, lower, chosen, multipliers, refuted, point_of, point_over, or_gives_up, column_value, found, found_by_line, found_by_standing, found_by_place, at_end, after_pivot, goes_on, ended_within, most_pivots, outcome_of}
+use Rattle.tableau_elim.specs.Tableau.{Line, Tableau, comes_before, number_at, pivot_at, pivoted_tableau, given_tableau}
+use Rattle.tableau_elim.specs.Rounds.{Outcome, Refuted, Point, GaveUp, Found, Ends, Pivots, first_out, earlier, is_within, standing_of, is_suitable, suitable_from, lower, chosen_place, multipliers, refuted_outcome, point_of, point_over, or_gives_up, column_value, round_of, found_by_line, found_by_standing, found_by_place, at_end, after_pivot, goes_on, ended_within, most_pivots, outcome_of}
 use Rattle.tableau_elim.specs.declared.variable.Variable.{Variable}
 use Rattle.tableau_elim.specs.declared.variable.Variable.TheVariants.{Column, Slack}
 use Rattle.tableau_elim.specs.declared.standing.Side.{Side}
@@ -97,8 +97,8 @@ pub get_rest : (xs : List ℤ) (j : ℕ) → get_or (drop 1 xs) j (pos 0) ≡ ge
 get_rest [] j = refl
 get_rest (x ∷ xs) j = refl
 
-pub chosen_is : (side : Side) (places : List Variable) (ts : List ℤ) (j : ℕ) → chosen side places ts ≡ Some j → (j < length places) × (get_or ts j (pos 0) ≢ pos 0)
-unfolding chosen
+pub chosen_is : (side : Side) (places : List Variable) (ts : List ℤ) (j : ℕ) → chosen_place side places ts ≡ Some j → (j < length places) × (get_or ts j (pos 0) ≢ pos 0)
+unfolding chosen_place
 chosen_is side places ts j e = at (fold lower None (suitable_from side 0 places ts)) refl e where
   at : (o : Option (ℕ × Variable)) → fold lower None (suitable_from side 0 places ts) ≡ o → option_map (λ (place : ℕ × Variable). place.0) o ≡ Some j
       → (j < length places) × (get_or ts j (pos 0) ≢ pos 0)
@@ -138,22 +138,22 @@ point_of_sound system n tableau = at (every (map (column_value tableau) (range_w
 
 refuted_sound : (system : System) (tableau : Tableau) (line : Line) (side : Side) → HasWidths system → IsKept system tableau
     → IsKeptLine system tableau.places line → ((v : Values) → AllByRecursion (Holds v tableau.places) tableau.lines → Holds v tableau.places line)
-    → standing_of tableau.places line ≡ Out side → chosen side tableau.places (drop 1 line.numbers) ≡ None
-    → IsSoundOutcome system (refuted system side tableau.places line)
-unfolding refuted
+    → standing_of tableau.places line ≡ Out side → chosen_place side tableau.places (drop 1 line.numbers) ≡ None
+    → IsSoundOutcome system (refuted_outcome system side tableau.places line)
+unfolding refuted_outcome
 refuted_sound system tableau line side w k kl says out none =
-    let ms = divided (multipliers side (length system.rows) tableau.places line) in
+    let ms = divided_numbers (multipliers side (length system.rows) tableau.places line) in
     at ms (line_refutes system tableau line side w k kl says out none) (overflow_of system.rows (nonzero_pairs 1 ms)) refl
   where
     at : (ms : List ℤ) → IsProvedBy system ms → (o : Option (ℕ × ℕ)) → overflow_of system.rows (nonzero_pairs 1 ms) ≡ o → IsSoundOutcome system (cond (is_none o) (Refuted (nonzero_pairs 1 ms)) GaveUp)
     at ms proved None e = (record { refutes = proved.0; fits = e }, proved.1)
     at ms proved (Some place) e = tt
 
-pub found_sound : (system : System) (tableau : Tableau) → HasWidths system → IsKept system tableau → IsSoundFound system tableau (found system tableau)
-unfolding found
+pub found_sound : (system : System) (tableau : Tableau) → HasWidths system → IsKept system tableau → IsSoundFound system tableau (round_of system tableau)
+unfolding round_of
 found_sound system tableau w k = by_line (first_out tableau) refl where
   by_place : (line : Line) (side : Side) → IsKeptLine system tableau.places line → ((v : Values) → AllByRecursion (Holds v tableau.places) tableau.lines → Holds v tableau.places line) → standing_of tableau.places line ≡ Out side
-      → (o : Option ℕ) → chosen side tableau.places (drop 1 line.numbers) ≡ o → IsSoundFound system tableau (found_by_place system side tableau.places line o)
+      → (o : Option ℕ) → chosen_place side tableau.places (drop 1 line.numbers) ≡ o → IsSoundFound system tableau (found_by_place system side tableau.places line o)
   by_place line side kl says out None c = refuted_sound system tableau line side w k kl says out c
   by_place line side kl says out (Some j) c =
       let is = chosen_is side tableau.places (drop 1 line.numbers) j c in
@@ -163,7 +163,7 @@ found_sound system tableau w k = by_line (first_out tableau) refl where
       → IsSoundFound system tableau (found_by_standing system tableau.places line s)
   by_standing line kl says Within e = tt
   by_standing line kl says Unfit e = tt
-  by_standing line kl says (Out side) e = by_place line side kl says e (chosen side tableau.places (drop 1 line.numbers)) refl
+  by_standing line kl says (Out side) e = by_place line side kl says e (chosen_place side tableau.places (drop 1 line.numbers)) refl
 
   by_line : (o : Option Line) → first_out tableau ≡ o → IsSoundFound system tableau (found_by_line system tableau o)
   by_line None e = point_of_sound system system.columns tableau
@@ -171,7 +171,7 @@ found_sound system tableau w k = by_line (first_out tableau) refl where
 
 -- what follows a pivot is kept
 pub kept_after : (system : System) (tableau next : Tableau) (j : ℕ) (line : Line) → IsKept system tableau → IsSoundFound system tableau (Pivots j line)
-    → pivoted (pivot_at j line tableau) tableau ≡ Some next → IsKept system next
+    → pivoted_tableau (pivot_at j line tableau) tableau ≡ Some next → IsKept system next
 kept_after system tableau next j line k h e = kept_by_pivot system tableau next j line h.0 h.1 k h.2 h.3 e
 
 -- ---- all rounds
@@ -179,15 +179,15 @@ kept_after system tableau next j line k h e = kept_by_pivot system tableau next 
 ended_sound : (pivots : ℕ) (system : System) (tableau : Tableau) (outcome : Outcome) → HasWidths system → IsKept system tableau
     → ended_within pivots system tableau ≡ Some outcome → IsSoundOutcome system outcome
 unfolding ended_within
-ended_sound zero system tableau outcome w k e = at (found system tableau) (found_sound system tableau w k) e where
+ended_sound zero system tableau outcome w k e = at (round_of system tableau) (found_sound system tableau w k) e where
   at : (f : Found) → IsSoundFound system tableau f → at_end f ≡ Some outcome → IsSoundOutcome system outcome
   at (Ends o) h e = let same : o ≡ outcome = cc in subst (IsSoundOutcome system) same h
   at (Pivots j line) h e = absurd cc
 ended_sound (suc pivots) system tableau outcome w k e =
-    at (λ next kept. ended_sound pivots system next outcome w kept) (found system tableau) (found_sound system tableau w k) e
+    at (λ next kept. ended_sound pivots system next outcome w kept) (round_of system tableau) (found_sound system tableau w k) e
   where
     more : ((next : Tableau) → IsKept system next → ended_within pivots system next ≡ Some outcome → IsSoundOutcome system outcome) → (j : ℕ) (line : Line)
-        → IsSoundFound system tableau (Pivots j line) → (o : Option Tableau) → pivoted (pivot_at j line tableau) tableau ≡ o
+        → IsSoundFound system tableau (Pivots j line) → (o : Option Tableau) → pivoted_tableau (pivot_at j line tableau) tableau ≡ o
         → after_pivot (ended_within pivots system) o ≡ Some outcome → IsSoundOutcome system outcome
     more rest j line h None p e = let same : GaveUp ≡ outcome = cc in subst (IsSoundOutcome system) same tt
     more rest j line h (Some next) p e = rest next (kept_after system tableau next j line k h p) e
@@ -195,16 +195,16 @@ ended_sound (suc pivots) system tableau outcome w k e =
     at : ((next : Tableau) → IsKept system next → ended_within pivots system next ≡ Some outcome → IsSoundOutcome system outcome) → (f : Found)
         → IsSoundFound system tableau f → goes_on (ended_within pivots system) tableau f ≡ Some outcome → IsSoundOutcome system outcome
     at rest (Ends o) h e = let same : o ≡ outcome = cc in subst (IsSoundOutcome system) same h
-    at rest (Pivots j line) h e = more rest j line h (pivoted (pivot_at j line tableau) tableau) refl e
+    at rest (Pivots j line) h e = more rest j line h (pivoted_tableau (pivot_at j line tableau) tableau) refl e
 
 pub certificate_is_sound : (system : System) (pairs : Pairs) → HasWidths system → outcome_of system ≡ Refuted pairs → Proves system pairs × IsReduced pairs
 unfolding outcome_of
-certificate_is_sound system pairs w e = at (ended_within (most_pivots system) system (given system)) refl e where
-  at : (o : Option Outcome) → ended_within (most_pivots system) system (given system) ≡ o → unwrap_or o GaveUp ≡ Refuted pairs → Proves system pairs × IsReduced pairs
+certificate_is_sound system pairs w e = at (ended_within (most_pivots system) system (given_tableau system)) refl e where
+  at : (o : Option Outcome) → ended_within (most_pivots system) system (given_tableau system) ≡ o → unwrap_or o GaveUp ≡ Refuted pairs → Proves system pairs × IsReduced pairs
   at None f e = absurd cc
   at (Some outcome) f e =
       let same : outcome ≡ Refuted pairs = cc in
-      subst (IsSoundOutcome system) same (ended_sound (most_pivots system) system (given system) outcome w (kept_given system w) f)
+      subst (IsSoundOutcome system) same (ended_sound (most_pivots system) system (given_tableau system) outcome w (kept_given system w) f)
 
 -- ---- more pivots change nothing
 
@@ -213,12 +213,12 @@ pub more_change_nothing : (system : System) (pivots more : ℕ) (tableau : Table
 unfolding ended_within
 more_change_nothing system zero zero tableau outcome h e = e
 more_change_nothing system (suc pivots) zero tableau outcome h e = absurd (omega arith)
-more_change_nothing system zero (suc more) tableau outcome h e = at (found system tableau) e where
+more_change_nothing system zero (suc more) tableau outcome h e = at (round_of system tableau) e where
   at : (f : Found) → at_end f ≡ Some outcome → goes_on (ended_within more system) tableau f ≡ Some outcome
   at (Ends o) e = e
   at (Pivots j line) e = absurd cc
 more_change_nothing system (suc pivots) (suc more) tableau outcome h e =
-    at (λ next. more_change_nothing system pivots more next outcome (omega arith)) (found system tableau) e
+    at (λ next. more_change_nothing system pivots more next outcome (omega arith)) (round_of system tableau) e
   where
     later : ((next : Tableau) → ended_within pivots system next ≡ Some outcome → ended_within more system next ≡ Some outcome) → (o : Option Tableau)
         → after_pivot (ended_within pivots system) o ≡ Some outcome → after_pivot (ended_within more system) o ≡ Some outcome
@@ -228,4 +228,4 @@ more_change_nothing system (suc pivots) (suc more) tableau outcome h e =
     at : ((next : Tableau) → ended_within pivots system next ≡ Some outcome → ended_within more system next ≡ Some outcome) → (f : Found)
         → goes_on (ended_within pivots system) tableau f ≡ Some outcome → goes_on (ended_within more system) tableau f ≡ Some outcome
     at rest (Ends o) e = e
-    at rest (Pivots j line) e = later rest (pivoted (pivot_at j line tableau) tableau) e
+    at rest (Pivots j line) e = later rest (pivoted_tableau (pivot_at j line tableau) tableau) e

@@ -6,13 +6,13 @@ use Rattle.std.specs.List.{AllByRecursion}
 use Rattle.std.proofs.lemmas.List.{take_more_set, drop-set-lt, drop_more, get_or-drop, drop_all, take_all}
 use Rattle.lin_rows.proofs.Lists.{AllByRecursion-at}
 use Rattle.farkas_cert.specs.Elimination.{every}
-use Rattle.tableau_elim.specs.Tableau.{Line, Pivot, changed}
+use Rattle.tableau_elim.specs.Tableau.{Line, Pivot, line_after_pivot}
 use Rattle.tableau_elim.specs.inside.Held.{IsSound}
 use Rattle.tableau_elim.proofs.Lines.{no_line}
 
 -- the first k lines are made, and the others are as they were
 pub record IsChanging (pivot : Pivot) (given now : List Line) (k : ℕ) : Type 0 where
-  pub whole : option_map (λ rest. take k now ++ rest) (every (map (changed pivot) (drop k given))) ≡ every (map (changed pivot) given)
+  pub whole : option_map (λ rest. take k now ++ rest) (every (map (line_after_pivot pivot) (drop k given))) ≡ every (map (line_after_pivot pivot) given)
   pub left : drop k now ≡ drop k given
 
 abbrev pub in_front : {X : Type 0} → Option X → Option (List X) → Option (List X)
@@ -46,15 +46,15 @@ nothing_before None = refl
 nothing_before (Some xs) = refl
 
 pub changing_begins : (pivot : Pivot) (given : List Line) → IsChanging pivot given given 0
-changing_begins pivot given = record { whole = nothing_before (every (map (changed pivot) given)); left = refl }
+changing_begins pivot given = record { whole = nothing_before (every (map (line_after_pivot pivot) given)); left = refl }
 
 pub changing_goes_on : (pivot : Pivot) (given now : List Line) (k : ℕ) (old new : Line) → k < length given → length now ≡ length given
-    → get_or now k no_line ≡ old → changed pivot old ≡ Some new → IsChanging pivot given now k → IsChanging pivot given (slice_set now k new) (k + 1)
+    → get_or now k no_line ≡ old → line_after_pivot pivot old ≡ Some new → IsChanging pivot given now k → IsChanging pivot given (slice_set now k new) (k + 1)
 changing_goes_on pivot given now k old new h l here made i =
-    let rest = every (map (changed pivot) (drop (suc k) given)) in
+    let rest = every (map (line_after_pivot pivot) (drop (suc k) given)) in
     let same = sym (same_from_drop now given k no_line i.left) ∙ here in
-    let number : Some new ≡ changed pivot (get_or given k no_line) = sym made ∙ ap (changed pivot) (sym same) in
-    let step = every-step (changed pivot) given k no_line h in
+    let number : Some new ≡ line_after_pivot pivot (get_or given k no_line) = sym made ∙ ap (line_after_pivot pivot) (sym same) in
+    let step = every-step (line_after_pivot pivot) given k no_line h in
     let front = take_more_set now k new (omega arith) in
     let kept = drop-set-lt (k + 1) now k new (omega arith) in
     let left = drop_more now k no_line (omega arith) in
@@ -66,12 +66,12 @@ changing_goes_on pivot given now k old new h l here made i =
     }
 
 pub changing_stops : (pivot : Pivot) (given now : List Line) (k : ℕ) (old : Line) → k < length given
-    → get_or now k no_line ≡ old → changed pivot old ≡ None → IsChanging pivot given now k → every (map (changed pivot) given) ≡ None
+    → get_or now k no_line ≡ old → line_after_pivot pivot old ≡ None → IsChanging pivot given now k → every (map (line_after_pivot pivot) given) ≡ None
 changing_stops pivot given now k old h here none i =
-    let rest = every (map (changed pivot) (drop (suc k) given)) in
+    let rest = every (map (line_after_pivot pivot) (drop (suc k) given)) in
     let same = sym (same_from_drop now given k no_line i.left) ∙ here in
-    let number : None ≡ changed pivot (get_or given k no_line) = sym none ∙ ap (changed pivot) (sym same) in
-    sym (ap (λ o. option_map (λ rest. take k now ++ rest) (in_front o rest)) number ∙ ap (λ o. option_map (λ rest. take k now ++ rest) o) (sym (every-step (changed pivot) given k no_line h)) ∙ i.whole)
+    let number : None ≡ line_after_pivot pivot (get_or given k no_line) = sym none ∙ ap (line_after_pivot pivot) (sym same) in
+    sym (ap (λ o. option_map (λ rest. take k now ++ rest) (in_front o rest)) number ∙ ap (λ o. option_map (λ rest. take k now ++ rest) o) (sym (every-step (line_after_pivot pivot) given k no_line h)) ∙ i.whole)
 
 pub every_nothing : {X : Type 0} (os : List (Option X)) → length os ≡ 0 → every os ≡ Some []
 unfolding every
@@ -79,9 +79,9 @@ every_nothing [] e = refl
 every_nothing (o ∷ os) e = absurd (omega arith)
 
 pub changing_ends : (pivot : Pivot) (given now : List Line) (k : ℕ) → length given ≤ k → length now ≡ length given
-    → IsChanging pivot given now k → every (map (changed pivot) given) ≡ Some now
+    → IsChanging pivot given now k → every (map (line_after_pivot pivot) given) ≡ Some now
 changing_ends pivot given now k h l i =
-    let none = every_nothing (map (changed pivot) (drop k given)) (ap (λ xs. length (map (changed pivot) xs)) (drop_all k given h)) in
+    let none = every_nothing (map (line_after_pivot pivot) (drop k given)) (ap (λ xs. length (map (line_after_pivot pivot) xs)) (drop_all k given h)) in
     sym i.whole ∙ ap (λ o. option_map (λ rest. take k now ++ rest) o) none ∙ ap Some (append-nil (take k now) ∙ take_all k now (omega arith))
 
 pub sound_now : (given now : List Line) (k : ℕ) → k < length given → drop k now ≡ drop k given → AllByRecursion IsSound given → IsSound (get_or now k no_line)

@@ -5,7 +5,7 @@ use Rattle.std.specs.Option.{option_map}
 use Rattle.std.specs.List.{AllByRecursion}
 use Rattle.std.proofs.lemmas.List.{take_more_set, drop_more, drop-set-lt, take_all, drop_all}
 use Rattle.thr_base.specs.Number.{Fits}
-use Rattle.lin_rows.specs.Row.{scaled}
+use Rattle.lin_rows.specs.Row.{multiple_of}
 use Rattle.farkas_cert.specs.Combination.{combined_number, combined_numbers, in_front}
 use Rattle.farkas_cert.specs.Line.{all_fit, combination, combination_fits}
 use Rattle.farkas_cert.proofs.Combinations.{front_more, get_from_drop, combined_numbers-step, combined_numbers-all, all_fit-true, third_true}
@@ -67,7 +67,7 @@ combining_ends a xs b ys now i h l m k =
 -- ---- all numbers, where all fit
 
 pub combination_all_fit : (a : ℤ) (xs : List ℤ) (b : ℤ) (ys : List ℤ) → combination_fits a xs b ys ≡ true → AllByRecursion Fits (combination a xs b ys)
-combination_all_fit a xs b ys e = all_fit-true (combination a xs b ys) (third_true (all_fit (scaled a xs)) (all_fit (scaled b ys)) (all_fit (combination a xs b ys)) e)
+combination_all_fit a xs b ys e = all_fit-true (combination a xs b ys) (third_true (all_fit (multiple_of a xs)) (all_fit (multiple_of b ys)) (all_fit (combination a xs b ys)) e)
 
 -- what was made, or why nothing was
 pub made_by : (a : ℤ) (xs : List ℤ) (b : ℤ) (ys made : List ℤ) → length xs ≡ length ys → combined_numbers a xs b ys ≡ Some made

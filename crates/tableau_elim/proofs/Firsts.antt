@@ -4,7 +4,7 @@ use Rattle.std.specs.Prelude.{ℤ, pos, not, filter, fold, find}
 use Rattle.std.specs.Option.{option_map}
 use Rattle.std.proofs.lemmas.List.{drop_more, drop_all}
 use Rattle.tableau_elim.specs.Tableau.{Line, Tableau}
-use Rattle.tableau_elim.specs.Rounds.{earlier, is_within, standing_of, first_out, lower, suitable_from, is_suitable, chosen, compared, standing_by}
+use Rattle.tableau_elim.specs.Rounds.{earlier, is_within, standing_of, first_out, lower, suitable_from, is_suitable, chosen_place, standing_to_limit, standing_by}
 use Rattle.tableau_elim.specs.declared.variable.Variable.{Variable}
 use Rattle.tableau_elim.specs.declared.standing.Side.{Side}
 use Rattle.tableau_elim.specs.inside.Steps.{comes_first, earlier_out}
@@ -83,8 +83,8 @@ lowest_goes_on side best next k places ts whole d h l e i =
     ∙ sym step ∙ before
 
 pub lowest_ends : (side : Side) (best : Option (ℕ × Variable)) (k : ℕ) (places : List Variable) (ts : List ℤ) → length places ≤ k
-    → lowest_from side best k (drop k places) (drop k ts) ≡ lowest_from side None 0 places ts → option_map (λ place. place.0) best ≡ chosen side places ts
-unfolding chosen suitable_from
+    → lowest_from side best k (drop k places) (drop k ts) ≡ lowest_from side None 0 places ts → option_map (λ place. place.0) best ≡ chosen_place side places ts
+unfolding chosen_place suitable_from
 lowest_ends side best k places ts h i =
     let none : lowest_from side best k [] (drop k ts) ≡ best = refl in
     ap (option_map (λ (place : ℕ × Variable). place.0)) (sym none ∙ ap (λ xs. lowest_from side best k xs (drop k ts)) (sym (drop_all k places h)) ∙ i)
@@ -107,5 +107,5 @@ find_ends q lines k whole h i = ap (find q) (sym (drop_all k lines h)) ∙ i
 
 -- ---- how a slack stands
 
-pub standing_read : (equal : Bool) (s sum l limit : ℤ) (o p : Option ℤ) → s ≡ sum → l ≡ limit → Some sum ≡ o → Some limit ≡ p → compared equal s l ≡ standing_by equal o p
+pub standing_read : (equal : Bool) (s sum l limit : ℤ) (o p : Option ℤ) → s ≡ sum → l ≡ limit → Some sum ≡ o → Some limit ≡ p → standing_to_limit equal s l ≡ standing_by equal o p
 standing_read equal s sum l limit o p e f g h = rw (← g, ← h, e, f) refl

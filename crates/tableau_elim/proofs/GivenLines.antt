@@ -12,7 +12,7 @@ use Rattle.lin_rows.proofs.Lists.{slice_get-there}
 use Rattle.lin_rows.proofs.Numbers.{one_fits}
 use Rattle.farkas_cert.specs.Cert.{row_numbered}
 use Rattle.farkas_cert.specs.Proof.{numbers_of}
-use Rattle.tableau_elim.specs.Tableau.{Line, given, given_lines}
+use Rattle.tableau_elim.specs.Tableau.{Line, given_tableau, given_lines}
 use Rattle.tableau_elim.specs.declared.variable.Variable.{Variable}
 use Rattle.tableau_elim.specs.declared.variable.Variable.TheVariants.{Column, Slack}
 use Rattle.tableau_elim.specs.declared.tableau.Tableau.{Tableau as HeldTableau}
@@ -114,7 +114,7 @@ long_range a (suc n) = ap suc (long_range (a + 1) n)
 
 -- the whole tableau
 pub given_is : (system : System) (held : HeldTableau) (w : ℕ) → held.places.items ≡ map Column (range_with_len 0 system.columns) → w ≡ suc system.columns
-    → lines_of w held.basics.items held.numbers.items ≡ given_lines 0 system.rows → tableau_of held ≡ given system
+    → lines_of w held.basics.items held.numbers.items ≡ given_lines 0 system.rows → tableau_of held ≡ given_tableau system
 given_is system held w p e l =
     let wide : suc (length held.places.items) ≡ w = ap suc (ap length p ∙ long_range 0 system.columns) ∙ sym e in
     let lines : lines_of (suc (length held.places.items)) held.basics.items held.numbers.items ≡ given_lines 0 system.rows = ap (λ w. lines_of w held.basics.items held.numbers.items) wide ∙ l in

@@ -4,13 +4,13 @@ use Rattle.std.specs.Prelude.{ℤ, pos, negsuc, neg_ℤ, ◌+ℤ◌, ◌-ℤ◌,
 use Rattle.std.specs.Int.{int_signum}
 use Rattle.std.proofs.lemmas.Int.{ints}
 use Rattle.std.proofs.lemmas.List.{map-set}
-use Rattle.lin_rows.specs.Row.{product_of, scaled}
+use Rattle.lin_rows.specs.Row.{product_of, multiple_of}
 use Rattle.lin_rows.proofs.Integers.{mul-add_ℤ, mul-neg_ℤ, neg-mul_ℤ, mul-zero_ℤ, zero-mul_ℤ, one-mul_ℤ}
 use Rattle.farkas_cert.specs.Line.{combination, is_nonzero}
 use Rattle.farkas_cert.proofs.Integers.{linear, factors}
 use Rattle.farkas_cert.proofs.Linear.{product-linear, product-scaled, of_combination, divided_vanishes}
 use Rattle.farkas_cert.proofs.Slack.{set_product, without_product}
-use Rattle.tableau_elim.specs.Tableau.{Line, Tableau, divisor_of, number_at, pivot_at, solved, substituted, changed}
+use Rattle.tableau_elim.specs.Tableau.{Line, Tableau, divisor_of, number_at, pivot_at, solved_line, combined_line, line_after_pivot}
 use Rattle.tableau_elim.proofs.Changed.{substituted_is, by_change}
 use Rattle.tableau_elim.specs.declared.variable.Variable.{Variable}
 use Rattle.tableau_elim.specs.declared.variable.Variable.TheVariants.{Column}
@@ -148,7 +148,7 @@ other_defect v places j own line h wo wl =
     rw weighed_after (sum ∙ omega (arith, linear))
 
 front_product : (xs ns : List ℤ) (k p z : ℤ) → 0 < length xs
-    → product_of (slice_set (scaled k (slice_set xs 0 (pos 0))) 0 p) (z ∷ ns) ≡ p *ℤ z +ℤ k *ℤ product_of (slice_set xs 0 (pos 0)) (z ∷ ns)
+    → product_of (slice_set (multiple_of k (slice_set xs 0 (pos 0))) 0 p) (z ∷ ns) ≡ p *ℤ z +ℤ k *ℤ product_of (slice_set xs 0 (pos 0)) (z ∷ ns)
 front_product [] ns k p z h = absurd (omega arith)
 front_product (x ∷ xs) ns k p z h =
     let more = product-scaled k xs ns in
@@ -168,7 +168,7 @@ long_set (x ∷ xs) (suc i) y = ap suc (long_set xs i y)
 -- the numbers of which the solved line is made
 pub own_defect : (v : Values) (places : List Variable) (j : ℕ) (own : Line) → j < length places → length own.numbers ≡ suc (length places) →
     let p = number_at j own in
-    product_of (slice_set (scaled (neg_ℤ (int_signum p)) (moved_numbers j own)) 0 (pos (unsigned_abs p))) (weighed v (places_after j own places) (get_or places j (Column 0)))
+    product_of (slice_set (multiple_of (neg_ℤ (int_signum p)) (moved_numbers j own)) 0 (pos (unsigned_abs p))) (weighed v (places_after j own places) (get_or places j (Column 0)))
     ≡ neg_ℤ (int_signum p *ℤ defect v places own)
 own_defect v places j own h w =
     let p = number_at j own in
@@ -184,18 +184,18 @@ own_defect v places j own h w =
 -- ---- a pivot leaves what the lines say
 
 pub solved_holds : (v : Values) (tableau : Tableau) (j : ℕ) (own : Line) → j < length tableau.places → length own.numbers ≡ suc (length tableau.places)
-    → Holds v tableau.places own → Holds v (places_after j own tableau.places) (solved (pivot_at j own tableau))
-unfolding solved pivot_at
+    → Holds v tableau.places own → Holds v (places_after j own tableau.places) (solved_line (pivot_at j own tableau))
+unfolding solved_line pivot_at
 solved_holds v tableau j own h w e =
     let p = number_at j own in
-    let numbers = slice_set (scaled (neg_ℤ (int_signum p)) (moved_numbers j own)) 0 (pos (unsigned_abs p)) in
+    let numbers = slice_set (multiple_of (neg_ℤ (int_signum p)) (moved_numbers j own)) 0 (pos (unsigned_abs p)) in
     let ws = weighed v (places_after j own tableau.places) (get_or tableau.places j (Column 0)) in
     divided_vanishes (λ xs. product_of xs ws) (product-linear ws) numbers
     (own_defect v tableau.places j own h w ∙ ap (λ t. neg_ℤ (int_signum p *ℤ t)) e ∙ ap neg_ℤ (mul-zero_ℤ (int_signum p)))
 
 pub substituted_holds : (v : Values) (tableau : Tableau) (j : ℕ) (own line new : Line) → j < length tableau.places → length own.numbers ≡ suc (length tableau.places)
     → length line.numbers ≡ suc (length tableau.places) → Holds v tableau.places own → Holds v tableau.places line
-    → substituted (pivot_at j own tableau) line ≡ Some new → Holds v (places_after j own tableau.places) new
+    → combined_line (pivot_at j own tableau) line ≡ Some new → Holds v (places_after j own tableau.places) new
 unfolding pivot_at
 substituted_holds v tableau j own line new h wo wl eo el e =
     let p = number_at j own in
@@ -229,7 +229,7 @@ same_defect v places j own line h e =
 
 pub changed_holds : (v : Values) (tableau : Tableau) (j : ℕ) (own line new : Line) → j < length tableau.places → length own.numbers ≡ suc (length tableau.places)
     → length line.numbers ≡ suc (length tableau.places) → Holds v tableau.places own → Holds v tableau.places line
-    → changed (pivot_at j own tableau) line ≡ Some new → Holds v (places_after j own tableau.places) new
+    → line_after_pivot (pivot_at j own tableau) line ≡ Some new → Holds v (places_after j own tableau.places) new
 unfolding pivot_at
 changed_holds v tableau j own line new h wo wl eo el e =
     by_change (Holds v (places_after j own tableau.places)) (pivot_at j own tableau) line new e

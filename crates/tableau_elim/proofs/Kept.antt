@@ -7,15 +7,15 @@ use Rattle.std.proofs.lemmas.Int.{ints}
 use Rattle.std.proofs.lemmas.Bool.{ne_eqb}
 use Rattle.std.proofs.lemmas.Bool.Decides.{nat_tests}
 use Rattle.std.specs.Option.{option_map}
-use Rattle.lin_rows.specs.Row.{Row, scaled, sum_of}
+use Rattle.lin_rows.specs.Row.{Row, multiple_of, sum_of}
 use Rattle.lin_rows.specs.System.{System, HasWidths}
 use Rattle.lin_rows.proofs.Lists.{AllByRecursion-at}
-use Rattle.farkas_cert.specs.Divided.{divided}
+use Rattle.farkas_cert.specs.Divided.{divided_numbers}
 use Rattle.farkas_cert.specs.Line.{combination}
 use Rattle.farkas_cert.specs.Elimination.{every}
 use Rattle.farkas_cert.proofs.Lists.{all_every, all_map, all_both}
 use Rattle.farkas_cert.proofs.Signs.{split_at}
-use Rattle.tableau_elim.specs.Tableau.{Line, Tableau, Pivot, are_same, divisor_of, number_at, given, given_lines, pivot_at, solved, substituted, changed, pivoted}
+use Rattle.tableau_elim.specs.Tableau.{Line, Tableau, Pivot, are_same, divisor_of, number_at, given_tableau, given_lines, pivot_at, solved_line, combined_line, line_after_pivot, pivoted_tableau}
 use Rattle.tableau_elim.specs.declared.variable.Variable.{Variable}
 use Rattle.tableau_elim.specs.declared.variable.Variable.TheVariants.{Column, Slack}
 use Rattle.tableau_elim.proofs.Changed.{Front, substituted_is, by_change, changed_front}
@@ -86,8 +86,8 @@ long_map : (f : ℤ → ℤ) (xs : List ℤ) → length (map f xs) ≡ length xs
 long_map f [] = refl
 long_map f (x ∷ xs) = ap suc (long_map f xs)
 
-long_divided : (xs : List ℤ) → length (divided xs) ≡ length xs
-unfolding divided
+long_divided : (xs : List ℤ) → length (divided_numbers xs) ≡ length xs
+unfolding divided_numbers
 long_divided xs = long_map _ xs
 
 long_sum : (xs ys : List ℤ) → length xs ≡ length ys → length (sum_of xs ys) ≡ length ys
@@ -96,19 +96,19 @@ long_sum (x ∷ xs) [] e = e
 long_sum (x ∷ xs) (y ∷ ys) e = ap suc (long_sum xs ys (omega arith))
 
 long_combination : (a : ℤ) (xs : List ℤ) (b : ℤ) (ys : List ℤ) → length xs ≡ length ys → length (combination a xs b ys) ≡ length ys
-long_combination a xs b ys e = long_sum (scaled a xs) (scaled b ys) (long_map _ xs ∙ e ∙ sym (long_map _ ys)) ∙ long_map _ ys
+long_combination a xs b ys e = long_sum (multiple_of a xs) (multiple_of b ys) (long_map _ xs ∙ e ∙ sym (long_map _ ys)) ∙ long_map _ ys
 
 long_moved : (j : ℕ) (own : Line) (tableau : Tableau) → length (pivot_at j own tableau).moved ≡ length own.numbers
 unfolding pivot_at
 long_moved j own tableau = long_set (slice_set own.numbers (suc j) (neg_ℤ (divisor_of own))) 0 (pos 0) ∙ long_set own.numbers (suc j) (neg_ℤ (divisor_of own))
 
-long_solved : (pivot : Pivot) → length (solved pivot).numbers ≡ length pivot.moved
-unfolding solved
+long_solved : (pivot : Pivot) → length (solved_line pivot).numbers ≡ length pivot.moved
+unfolding solved_line
 long_solved pivot =
-    long_divided (slice_set (scaled (neg_ℤ (int_signum pivot.number)) pivot.moved) 0 (pos (unsigned_abs pivot.number)))
-    ∙ long_set (scaled (neg_ℤ (int_signum pivot.number)) pivot.moved) 0 (pos (unsigned_abs pivot.number)) ∙ long_map _ pivot.moved
+    long_divided (slice_set (multiple_of (neg_ℤ (int_signum pivot.number)) pivot.moved) 0 (pos (unsigned_abs pivot.number)))
+    ∙ long_set (multiple_of (neg_ℤ (int_signum pivot.number)) pivot.moved) 0 (pos (unsigned_abs pivot.number)) ∙ long_map _ pivot.moved
 
-long_substituted : (pivot : Pivot) (line new : Line) → length line.numbers ≡ length pivot.moved → substituted pivot line ≡ Some new → length new.numbers ≡ length pivot.moved
+long_substituted : (pivot : Pivot) (line new : Line) → length line.numbers ≡ length pivot.moved → combined_line pivot line ≡ Some new → length new.numbers ≡ length pivot.moved
 long_substituted pivot line new e m =
     let a = pos (unsigned_abs pivot.number) in
     let b = neg_ℤ (int_signum pivot.number) *ℤ number_at pivot.place line in
@@ -126,9 +126,9 @@ front_moved j own tableau = at (slice_set own.numbers (suc j) (neg_ℤ (divisor_
 -- ---- the basics of what a pivot makes
 
 -- A predicate of variables holds of the new basic where it holds of the entering variable and of the basics that stay.
-basic_changed : (P : Variable → Type 0) (pivot : Pivot) (line new : Line) → changed pivot line ≡ Some new → P pivot.entering
+basic_changed : (P : Variable → Type 0) (pivot : Pivot) (line new : Line) → line_after_pivot pivot line ≡ Some new → P pivot.entering
     → (are_same line.basic pivot.leaving ≡ false → P line.basic) → P new.basic
-unfolding solved
+unfolding solved_line
 basic_changed P pivot line new e entering stays =
     by_change (λ made. P made.basic) pivot line new e (λ s. entering)
     (λ s t m. subst (λ (made : Line). P made.basic) (substituted_is pivot line new m).1 (stays s)) (λ s t. stays s)
@@ -137,7 +137,7 @@ basic_changed P pivot line new e entering stays =
 
 kept_line : (system : System) (tableau : Tableau) (j : ℕ) (own line new : Line) → j < length tableau.places → number_at j own ≢ pos 0 → Distinct tableau.places
     → AllByRecursion (IsOf system) tableau.places → IsKeptLine system tableau.places own → IsKeptLine system tableau.places line
-    → changed (pivot_at j own tableau) line ≡ Some new → IsKeptLine system (places_after j own tableau.places) new
+    → line_after_pivot (pivot_at j own tableau) line ≡ Some new → IsKeptLine system (places_after j own tableau.places) new
 unfolding pivot_at
 kept_line system tableau j own line new h p d of ko kl e =
     let pivot = pivot_at j own tableau in
@@ -180,13 +180,13 @@ pub record IsKept (system : System) (tableau : Tableau) : Type 0 where
   pub distinct : Distinct tableau.places
   pub known : AllByRecursion (IsOf system) tableau.places
   -- values of which the given lines are so are ones of which these are
-  pub says : (v : Values) → AllByRecursion (Holds v (given system).places) (given system).lines → AllByRecursion (Holds v tableau.places) tableau.lines
+  pub says : (v : Values) → AllByRecursion (Holds v (given_tableau system).places) (given_tableau system).lines → AllByRecursion (Holds v tableau.places) tableau.lines
 
 -- the lines and the places that a pivot makes
-pub pivoted_parts : (j : ℕ) (own : Line) (tableau next : Tableau) → pivoted (pivot_at j own tableau) tableau ≡ Some next
-    → Unit {0} × ((every (map (changed (pivot_at j own tableau)) tableau.lines) ≡ Some next.lines) × (next.places ≡ places_after j own tableau.places))
-unfolding pivoted pivot_at
-pivoted_parts j own tableau next e = (tt, at (every (map (changed (pivot_at j own tableau)) tableau.lines)) e) where
+pub pivoted_parts : (j : ℕ) (own : Line) (tableau next : Tableau) → pivoted_tableau (pivot_at j own tableau) tableau ≡ Some next
+    → Unit {0} × ((every (map (line_after_pivot (pivot_at j own tableau)) tableau.lines) ≡ Some next.lines) × (next.places ≡ places_after j own tableau.places))
+unfolding pivoted_tableau pivot_at
+pivoted_parts j own tableau next e = (tt, at (every (map (line_after_pivot (pivot_at j own tableau)) tableau.lines)) e) where
   at : (o : Option (List Line)) → option_map (λ lines. record { lines = lines; places = places_after j own tableau.places }) o ≡ Some next
       → (o ≡ Some next.lines) × (next.places ≡ places_after j own tableau.places)
   at None e = absurd cc
@@ -196,19 +196,19 @@ pivoted_parts j own tableau next e = (tt, at (every (map (changed (pivot_at j ow
 
 pub kept_by_pivot : (system : System) (tableau next : Tableau) (j : ℕ) (own : Line) → j < length tableau.places → number_at j own ≢ pos 0
     → IsKept system tableau → IsKeptLine system tableau.places own → ((v : Values) → AllByRecursion (Holds v tableau.places) tableau.lines → Holds v tableau.places own)
-    → pivoted (pivot_at j own tableau) tableau ≡ Some next → IsKept system next
+    → pivoted_tableau (pivot_at j own tableau) tableau ≡ Some next → IsKept system next
 kept_by_pivot system tableau next j own h p k ko eo e =
     let is = pivoted_parts j own tableau next e in
     let lines = is.1.0 in
     let places = is.1.1 in
     record {
-      lines = rw places (all_every (IsKeptLine system (places_after j own tableau.places)) (map (changed (pivot_at j own tableau)) tableau.lines) next.lines
-          (all_map (IsKeptLine system tableau.places) (λ o. (new : Line) → o ≡ Some new → IsKeptLine system (places_after j own tableau.places) new) (changed (pivot_at j own tableau)) tableau.lines
+      lines = rw places (all_every (IsKeptLine system (places_after j own tableau.places)) (map (line_after_pivot (pivot_at j own tableau)) tableau.lines) next.lines
+          (all_map (IsKeptLine system tableau.places) (λ o. (new : Line) → o ≡ Some new → IsKeptLine system (places_after j own tableau.places) new) (line_after_pivot (pivot_at j own tableau)) tableau.lines
           (λ line kl new m. kept_line system tableau j own line new h p k.distinct k.known ko kl m) k.lines) lines);
       distinct = rw places (distinct_set tableau.places j own.basic k.distinct ko.apart);
       known = rw places (all_set (IsOf system) tableau.places j own.basic ko.known k.known);
-      says = λ v g. rw places (all_every (Holds v (places_after j own tableau.places)) (map (changed (pivot_at j own tableau)) tableau.lines) next.lines
-          (all_map (λ line. IsKeptLine system tableau.places line × Holds v tableau.places line) (λ o. (new : Line) → o ≡ Some new → Holds v (places_after j own tableau.places) new) (changed (pivot_at j own tableau)) tableau.lines
+      says = λ v g. rw places (all_every (Holds v (places_after j own tableau.places)) (map (line_after_pivot (pivot_at j own tableau)) tableau.lines) next.lines
+          (all_map (λ line. IsKeptLine system tableau.places line × Holds v tableau.places line) (λ o. (new : Line) → o ≡ Some new → Holds v (places_after j own tableau.places) new) (line_after_pivot (pivot_at j own tableau)) tableau.lines
           (λ line both new m. changed_holds v tableau j own line new h ko.wide both.0.wide (eo v (k.says v g)) both.1 m)
           (all_both (IsKeptLine system tableau.places) (Holds v tableau.places) tableau.lines k.lines (k.says v g))) lines);
     }
@@ -238,7 +238,7 @@ long_range a zero = refl
 long_range a (suc n) = ap suc (long_range (a + 1) n)
 
 given_kept : (system : System) (k : ℕ) (rows : List Row) → drop k system.rows ≡ rows → AllByRecursion (λ row. length row.coefficients ≡ system.columns) rows
-    → AllByRecursion (IsKeptLine system (given system).places) (given_lines k rows)
+    → AllByRecursion (IsKeptLine system (given_tableau system).places) (given_lines k rows)
 unfolding given_lines
 given_kept system k [] e w = tt
 given_kept system k (row ∷ rows) e w =
@@ -252,7 +252,7 @@ given_kept system k (row ∷ rows) e w =
       given_kept system (suc k) rows at.1 w.1,
     )
 
-pub kept_given : (system : System) → HasWidths system → IsKept system (given system)
+pub kept_given : (system : System) → HasWidths system → IsKept system (given_tableau system)
 kept_given system w = record {
   lines = given_kept system 0 system.rows refl w;
   distinct = distinct_columns 0 system.columns;

@@ -7,7 +7,7 @@ use Rattle.farkas_cert.specs.Elimination.{every}
 use Rattle.farkas_cert.proofs.Lists.{all_from}
 use Rattle.thr_base.specs.Number.{Fits}
 use Rattle.lin_rows.proofs.Lists.{AllByRecursion-at}
-use Rattle.tableau_elim.specs.Tableau.{Line, Tableau, Pivot, divisor_of, pivot_at, changed, pivoted}
+use Rattle.tableau_elim.specs.Tableau.{Line, Tableau, Pivot, divisor_of, pivot_at, line_after_pivot, pivoted_tableau}
 use Rattle.tableau_elim.specs.declared.variable.Variable.{Variable}
 use Rattle.tableau_elim.specs.declared.tableau.Tableau.{Tableau as HeldTableau}
 use Rattle.tableau_elim.specs.inside.Held.{lines_of, tableau_of, IsSound, IsHeld, IsPivot}
@@ -29,20 +29,20 @@ front_zero (x ∷ xs) y = refl
 
 pub pivoted_by_none : (held : HeldTableau) (pivot other : Pivot) (w : ℕ) (basics : List Variable) (numbers : List ℤ) → pivot ≡ other
     → w ≡ suc (length held.places.items) → basics ≡ held.basics.items → numbers ≡ held.numbers.items
-    → every (map (changed pivot) (lines_of w basics numbers)) ≡ None → None ≡ pivoted other (tableau_of held)
-unfolding pivoted
+    → every (map (line_after_pivot pivot) (lines_of w basics numbers)) ≡ None → None ≡ pivoted_tableau other (tableau_of held)
+unfolding pivoted_tableau
 pivoted_by_none held pivot other w basics numbers e f g h none =
-    let all : every (map (changed other) (tableau_of held).lines) ≡ None = rw (← e, ← f, ← g, ← h) none in
+    let all : every (map (line_after_pivot other) (tableau_of held).lines) ≡ None = rw (← e, ← f, ← g, ← h) none in
     rw all refl
 
 pub pivoted_by_some : (held made : HeldTableau) (pivot other : Pivot) (w : ℕ) (basics more : List Variable) (numbers next : List ℤ) → pivot ≡ other
     → w ≡ suc (length held.places.items) → basics ≡ held.basics.items → numbers ≡ held.numbers.items
-    → every (map (changed pivot) (lines_of w basics numbers)) ≡ Some (lines_of w more next)
+    → every (map (line_after_pivot pivot) (lines_of w basics numbers)) ≡ Some (lines_of w more next)
     → made.basics.items ≡ more → made.numbers.items ≡ next → made.places.items ≡ slice_set held.places.items pivot.place pivot.leaving
-    → Some (tableau_of made) ≡ pivoted other (tableau_of held)
-unfolding pivoted
+    → Some (tableau_of made) ≡ pivoted_tableau other (tableau_of held)
+unfolding pivoted_tableau
 pivoted_by_some held made pivot other w basics more numbers next e f g h some b n p =
-    let all : every (map (changed other) (tableau_of held).lines) ≡ Some (lines_of w more next) = rw (← e, ← f, ← g, ← h) some in
+    let all : every (map (line_after_pivot other) (tableau_of held).lines) ≡ Some (lines_of w more next) = rw (← e, ← f, ← g, ← h) some in
     let places : made.places.items ≡ slice_set held.places.items other.place other.leaving = rw (← e) p in
     let wide : suc (length made.places.items) ≡ w = ap suc (ap length places ∙ length-set held.places.items other.place other.leaving) ∙ sym f in
     rw (all, wide, b, n, places) refl
@@ -50,7 +50,7 @@ pivoted_by_some held made pivot other w basics more numbers next e f g h some b 
 pub held_by : (held made : HeldTableau) (pivot : Pivot) (w : ℕ) (basics more : List Variable) (numbers next : List ℤ)
     → IsHeld held → IsPivot (suc (length held.places.items)) pivot
     → w ≡ suc (length held.places.items) → basics ≡ held.basics.items → numbers ≡ held.numbers.items
-    → every (map (changed pivot) (lines_of w basics numbers)) ≡ Some (lines_of w more next)
+    → every (map (line_after_pivot pivot) (lines_of w basics numbers)) ≡ Some (lines_of w more next)
     → length more ≡ length basics → length next ≡ length numbers
     → made.basics.items ≡ more → made.numbers.items ≡ next → made.places.items ≡ slice_set held.places.items pivot.place pivot.leaving
     → IsHeld made

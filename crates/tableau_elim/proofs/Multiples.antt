@@ -12,7 +12,7 @@ use Rattle.thr_base.specs.Number.{Fits, fits}
 use Rattle.lin_rows.specs.Exact.{fitting}
 use Rattle.lin_rows.specs.Gcd.{gcd, lcm}
 use Rattle.lin_rows.specs.Row.{product_of}
-use Rattle.lin_rows.specs.Sum.{summed, overflow_from}
+use Rattle.lin_rows.specs.Sum.{sum_with_product, overflow_from}
 use Rattle.lin_rows.proofs.Divisors.{IsGcd-gcd}
 use Rattle.lin_rows.proofs.Numbers.{fits-true, true-fits, Fits-int_div_euclid, zero_fits}
 use Rattle.lin_rows.proofs.Sums.{summed-some, sum_in_order-given}
@@ -167,12 +167,12 @@ multiple_ends d values k h i =
 sum_fits : (s : ℤ) (xs ys : List ℤ) → overflow_from s xs ys ≡ None → Fits s → Fits (s +ℤ product_of xs ys)
 sum_fits s [] ys e h = subst Fits (omega (arith, ints)) h
 sum_fits s (x ∷ xs) [] e h = subst Fits (omega (arith, ints)) h
-sum_fits s (x ∷ xs) (y ∷ ys) e h = at (λ more. sum_fits more xs ys) (summed s (x *ℤ y)) refl e where
+sum_fits s (x ∷ xs) (y ∷ ys) e h = at (λ more. sum_fits more xs ys) (sum_with_product s (x *ℤ y)) refl e where
   later : (o : Option ℕ) → option_map suc o ≡ None → o ≡ None
   later None e = refl
   later (Some n) e = absurd cc
 
-  at : ((more : ℤ) → overflow_from more xs ys ≡ None → Fits more → Fits (more +ℤ product_of xs ys)) → (o : Option ℤ) → summed s (x *ℤ y) ≡ o
+  at : ((more : ℤ) → overflow_from more xs ys ≡ None → Fits more → Fits (more +ℤ product_of xs ys)) → (o : Option ℤ) → sum_with_product s (x *ℤ y) ≡ o
       → option_map_or (λ more. option_map suc (overflow_from more xs ys)) o (Some 0) ≡ None → Fits (s +ℤ (x *ℤ y +ℤ product_of xs ys))
   at rest None is e = absurd cc
   at rest (Some more) is e =

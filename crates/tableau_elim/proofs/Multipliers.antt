@@ -7,14 +7,14 @@ use Rattle.thr_base.specs.Number.{Fits}
 use Rattle.lin_rows.specs.System.{System, HasWidths}
 use Rattle.lin_rows.proofs.Lists.{AllByRecursion-map, AllByRecursion-at, AllByRecursion-drop}
 use Rattle.lin_rows.proofs.Numbers.{Fits-neg, zero_fits}
-use Rattle.farkas_cert.specs.Divided.{divided}
+use Rattle.farkas_cert.specs.Divided.{divided_numbers}
 use Rattle.farkas_cert.specs.Line.{is_nonzero, nonzero_pairs}
 use Rattle.tableau_elim.specs.Tableau.{Line, divisor_of}
 use Rattle.std.specs.Int.{int_signum}
 use Rattle.std.proofs.lemmas.Int.{ints}
-use Rattle.lin_rows.specs.Row.{scaled}
+use Rattle.lin_rows.specs.Row.{multiple_of}
 use Rattle.farkas_cert.specs.Proof.{Proves, overflow_of}
-use Rattle.tableau_elim.specs.Rounds.{with_multiplier, with_places, signed, multipliers, refuted, outcome_of, Refuted, GaveUp}
+use Rattle.tableau_elim.specs.Rounds.{with_multiplier, with_places, signed_multipliers, multipliers, refuted_outcome, outcome_of, Refuted, GaveUp}
 use Rattle.tableau_elim.proofs.Certificates.{certificate_is_sound}
 use Rattle.tableau_elim.specs.declared.variable.Variable.{Variable}
 use Rattle.tableau_elim.specs.declared.variable.Variable.TheVariants.{Column, Slack}
@@ -80,11 +80,11 @@ unsigned_fit rows places line h d =
     places_fit places (drop 1 line.numbers) (with_multiplier line.basic (divisor_of line) (replicate rows (pos 0))) (AllByRecursion-drop Fits 1 line.numbers h)
     (multiplier_fits line.basic (divisor_of line) (replicate rows (pos 0)) d (zeros_fit rows))
 
-signed_fit : (side : Side) (ms : List ℤ) → AllByRecursion Fits ms → AllByRecursion Fits (signed side ms)
+signed_fit : (side : Side) (ms : List ℤ) → AllByRecursion Fits ms → AllByRecursion Fits (signed_multipliers side ms)
 signed_fit High ms h = h
 signed_fit Low ms h = AllByRecursion-map Fits Fits neg_ℤ Fits-neg ms h
 
-pub multipliers_are : (side : Side) (rows : ℕ) (places : List Variable) (line : Line) → signed side (unsigned_multipliers rows places line) ≡ multipliers side rows places line
+pub multipliers_are : (side : Side) (rows : ℕ) (places : List Variable) (line : Line) → signed_multipliers side (unsigned_multipliers rows places line) ≡ multipliers side rows places line
 unfolding multipliers
 multipliers_are side rows places line = refl
 
@@ -112,7 +112,7 @@ long_zeros : (n : ℕ) → length (replicate n (pos 0)) ≡ n
 long_zeros zero = refl
 long_zeros (suc n) = ap suc (long_zeros n)
 
-long_signed : (side : Side) (ms : List ℤ) → length (signed side ms) ≡ length ms
+long_signed : (side : Side) (ms : List ℤ) → length (signed_multipliers side ms) ≡ length ms
 long_signed High ms = refl
 long_signed Low ms = length-map ms neg_ℤ
 
@@ -129,16 +129,16 @@ get_default [] k d e h = absurd (omega arith)
 get_default (x ∷ xs) zero d e h = refl
 get_default (x ∷ xs) (suc k) d e h = get_default xs k d e (omega arith)
 
-pub all_turned : (xs : List ℤ) → scaled (neg_ℤ (int_signum (pos 1))) xs ≡ map neg_ℤ xs
+pub all_turned : (xs : List ℤ) → multiple_of (neg_ℤ (int_signum (pos 1))) xs ≡ map neg_ℤ xs
 all_turned [] = refl
 all_turned (x ∷ xs) = let here : neg_ℤ (int_signum (pos 1)) *ℤ x ≡ neg_ℤ x = omega (arith, ints) in ap₂ (λ y ys. y ∷ ys) here (all_turned xs)
 
 pub weighed : (side : Side) (places : List Variable) (line : Line) (old set signed_ones new : List ℤ) → old ≡ replicate (length old) (pos 0)
-    → set ≡ with_places places (drop 1 line.numbers) (with_multiplier line.basic (divisor_of line) old) → signed_ones ≡ signed side set → new ≡ divided signed_ones
-    → new ≡ divided (multipliers side (length old) places line)
+    → set ≡ with_places places (drop 1 line.numbers) (with_multiplier line.basic (divisor_of line) old) → signed_ones ≡ signed_multipliers side set → new ≡ divided_numbers signed_ones
+    → new ≡ divided_numbers (multipliers side (length old) places line)
 weighed side places line old set signed_ones new zeros s t n =
     let all : set ≡ unsigned_multipliers (length old) places line = s ∙ ap (λ ms. with_places places (drop 1 line.numbers) (with_multiplier line.basic (divisor_of line) ms)) zeros in
-    n ∙ ap divided (t ∙ ap (signed side) all ∙ multipliers_are side (length old) places line)
+    n ∙ ap divided_numbers (t ∙ ap (signed_multipliers side) all ∙ multipliers_are side (length old) places line)
 
 pub set_fit : (places : List Variable) (line : Line) (old set : List ℤ) → AllByRecursion Fits line.numbers → Fits (divisor_of line) → old ≡ replicate (length old) (pos 0)
     → set ≡ with_places places (drop 1 line.numbers) (with_multiplier line.basic (divisor_of line) old) → AllByRecursion Fits set
@@ -146,11 +146,11 @@ set_fit places line old set h d zeros s =
     subst (λ (xs : List ℤ). AllByRecursion Fits xs) (sym (s ∙ ap (λ ms. with_places places (drop 1 line.numbers) (with_multiplier line.basic (divisor_of line) ms)) zeros))
     (unsigned_fit (length old) places line h d)
 
-pub sign_fit : (side : Side) (set signed_ones : List ℤ) → AllByRecursion Fits set → signed_ones ≡ signed side set → AllByRecursion Fits signed_ones
+pub sign_fit : (side : Side) (set signed_ones : List ℤ) → AllByRecursion Fits set → signed_ones ≡ signed_multipliers side set → AllByRecursion Fits signed_ones
 sign_fit side set signed_ones h e = subst (λ (xs : List ℤ). AllByRecursion Fits xs) (sym e) (signed_fit side set h)
 
-pub long_divided : (xs : List ℤ) → length (divided xs) ≡ length xs
-unfolding divided
+pub long_divided : (xs : List ℤ) → length (divided_numbers xs) ≡ length xs
+unfolding divided_numbers
 long_divided xs = length-map xs _
 
 pub zeros_are : (n : ℕ) (xs : List ℤ) → xs ≡ replicate n (pos 0) → xs ≡ replicate (length xs) (pos 0)
@@ -158,21 +158,21 @@ zeros_are n xs e = e ∙ ap (λ n. replicate n (pos 0)) (sym (ap length e ∙ lo
 
 -- ---- the answer by the check of the certificate
 
-pub proved_is : (system : System) (side : Side) (places : List Variable) (line : Line) (pairs : List (ℕ × ℤ)) → pairs ≡ nonzero_pairs 1 (divided (multipliers side (length system.rows) places line))
-    → Proves system pairs → Refuted pairs ≡ refuted system side places line
-unfolding refuted
+pub proved_is : (system : System) (side : Side) (places : List Variable) (line : Line) (pairs : List (ℕ × ℤ)) → pairs ≡ nonzero_pairs 1 (divided_numbers (multipliers side (length system.rows) places line))
+    → Proves system pairs → Refuted pairs ≡ refuted_outcome system side places line
+unfolding refuted_outcome
 proved_is system side places line pairs e p =
-    let fits : overflow_of system.rows (nonzero_pairs 1 (divided (multipliers side (length system.rows) places line))) ≡ None = ap (overflow_of system.rows) (sym e) ∙ p.fits in
+    let fits : overflow_of system.rows (nonzero_pairs 1 (divided_numbers (multipliers side (length system.rows) places line))) ≡ None = ap (overflow_of system.rows) (sym e) ∙ p.fits in
     ap Refuted e ∙ rw fits refl
 
 pub unproved_is : (system : System) (side : Side) (places : List Variable) (line : Line) (pairs : List (ℕ × ℤ)) → HasWidths system
-    → pairs ≡ nonzero_pairs 1 (divided (multipliers side (length system.rows) places line)) → outcome_of system ≡ refuted system side places line → (¬ Proves system pairs)
+    → pairs ≡ nonzero_pairs 1 (divided_numbers (multipliers side (length system.rows) places line)) → outcome_of system ≡ refuted_outcome system side places line → (¬ Proves system pairs)
     → GaveUp ≡ outcome_of system
-unfolding refuted
+unfolding refuted_outcome
 unproved_is system side places line pairs w e leads n =
-    at (overflow_of system.rows (nonzero_pairs 1 (divided (multipliers side (length system.rows) places line)))) leads
+    at (overflow_of system.rows (nonzero_pairs 1 (divided_numbers (multipliers side (length system.rows) places line)))) leads
   where
-    at : (o : Option (ℕ × ℕ)) → outcome_of system ≡ cond (is_none o) (Refuted (nonzero_pairs 1 (divided (multipliers side (length system.rows) places line)))) GaveUp → GaveUp ≡ outcome_of system
+    at : (o : Option (ℕ × ℕ)) → outcome_of system ≡ cond (is_none o) (Refuted (nonzero_pairs 1 (divided_numbers (multipliers side (length system.rows) places line)))) GaveUp → GaveUp ≡ outcome_of system
     at (Some place) leads = sym leads
     at None leads = absurd (n (certificate_is_sound system pairs w (leads ∙ ap Refuted (sym e))).0)
 

@@ -6,12 +6,12 @@ use Rattle.std.specs.List.{AllByRecursion}
 use Rattle.std.proofs.Math.ListN.{length-set}
 use Rattle.std.proofs.lemmas.Int.{ints}
 use Rattle.thr_base.specs.Number.{Fits}
-use Rattle.lin_rows.specs.Row.{scaled}
+use Rattle.lin_rows.specs.Row.{multiple_of}
 use Rattle.lin_rows.proofs.Numbers.{Fits-unsigned_abs, Fits-neg, zero_fits}
 use Rattle.lin_rows.proofs.Integers.{zero-mul_ℤ}
-use Rattle.farkas_cert.specs.Divided.{divided}
+use Rattle.farkas_cert.specs.Divided.{divided_numbers}
 use Rattle.farkas_cert.specs.Line.{combination, combination_fits, is_nonzero}
-use Rattle.tableau_elim.specs.Tableau.{Line, Pivot, are_same, solved, substituted, changed}
+use Rattle.tableau_elim.specs.Tableau.{Line, Pivot, are_same, solved_line, combined_line, line_after_pivot}
 use Rattle.tableau_elim.specs.declared.variable.Variable.{Variable}
 use Rattle.farkas_cert.specs.Combination.{combined_numbers}
 use Rattle.tableau_elim.proofs.Combinations.{made_by, none_by}
@@ -29,11 +29,11 @@ signed_fits (pos (suc n)) x h =
     rw sign (subst Fits e (Fits-neg x h))
 signed_fits (negsuc n) x h = let e : x ≡ pos 1 *ℤ x = omega (arith, ints) in subst Fits e h
 
-turned_fit : (p : ℤ) (xs : List ℤ) → AllByRecursion Fits xs → AllByRecursion Fits (scaled (neg_ℤ (int_signum p)) xs)
+turned_fit : (p : ℤ) (xs : List ℤ) → AllByRecursion Fits xs → AllByRecursion Fits (multiple_of (neg_ℤ (int_signum p)) xs)
 turned_fit p [] h = tt
 turned_fit p (x ∷ xs) h = (signed_fits p x h.0, turned_fit p xs h.1)
 
-pub solved_fit : (moved now : List ℤ) (p size : ℤ) → AllByRecursion Fits moved → Fits p → now ≡ scaled (neg_ℤ (int_signum p)) moved → size ≡ pos (unsigned_abs p)
+pub solved_fit : (moved now : List ℤ) (p size : ℤ) → AllByRecursion Fits moved → Fits p → now ≡ multiple_of (neg_ℤ (int_signum p)) moved → size ≡ pos (unsigned_abs p)
     → AllByRecursion Fits (slice_set now 0 size)
 solved_fit moved now p size h k e f =
     all_set Fits now 0 size (subst Fits (sym f) (Fits-unsigned_abs p k)) (subst (λ (xs : List ℤ). AllByRecursion Fits xs) (sym e) (turned_fit p moved h))
@@ -43,8 +43,8 @@ solved_fit moved now p size h k e f =
 pub substituted_made : (pivot : Pivot) (basic : Variable) (numbers made : List ℤ) (a b : ℤ) → length numbers ≡ length pivot.moved
     → a ≡ pos (unsigned_abs pivot.number) → b ≡ neg_ℤ (int_signum pivot.number) *ℤ get_or numbers (pivot.place + 1) (pos 0)
     → combined_numbers a (slice_set numbers (pivot.place + 1) (pos 0)) b pivot.moved ≡ Some made
-    → substituted pivot (record { basic = basic; numbers = numbers }) ≡ Some (record { basic = basic; numbers = divided made })
-unfolding substituted
+    → combined_line pivot (record { basic = basic; numbers = numbers }) ≡ Some (record { basic = basic; numbers = divided_numbers made })
+unfolding combined_line
 substituted_made pivot basic numbers made a b l p q e =
     let long : length (slice_set numbers (pivot.place + 1) (pos 0)) ≡ length pivot.moved = simp length-set l in
     let is = made_by a (slice_set numbers (pivot.place + 1) (pos 0)) b pivot.moved made long e in
@@ -58,8 +58,8 @@ substituted_made pivot basic numbers made a b l p q e =
 pub substituted_none : (pivot : Pivot) (basic : Variable) (numbers : List ℤ) (a b : ℤ) → length numbers ≡ length pivot.moved
     → a ≡ pos (unsigned_abs pivot.number) → b ≡ neg_ℤ (int_signum pivot.number) *ℤ get_or numbers (pivot.place + 1) (pos 0)
     → combined_numbers a (slice_set numbers (pivot.place + 1) (pos 0)) b pivot.moved ≡ None
-    → substituted pivot (record { basic = basic; numbers = numbers }) ≡ None
-unfolding substituted
+    → combined_line pivot (record { basic = basic; numbers = numbers }) ≡ None
+unfolding combined_line
 substituted_none pivot basic numbers a b l p q e =
     let long : length (slice_set numbers (pivot.place + 1) (pos 0)) ≡ length pivot.moved = simp length-set l in
     let is = none_by a (slice_set numbers (pivot.place + 1) (pos 0)) b pivot.moved long e in
@@ -70,14 +70,14 @@ substituted_none pivot basic numbers a b l p q e =
 
 -- ---- which change a line gets
 
-pub changed_same : (pivot : Pivot) (line : Line) (numbers : List ℤ) → are_same line.basic pivot.leaving ≡ true → numbers ≡ (solved pivot).numbers
-    → changed pivot line ≡ Some (record { basic = pivot.entering; numbers = numbers })
-unfolding changed solved
+pub changed_same : (pivot : Pivot) (line : Line) (numbers : List ℤ) → are_same line.basic pivot.leaving ≡ true → numbers ≡ (solved_line pivot).numbers
+    → line_after_pivot pivot line ≡ Some (record { basic = pivot.entering; numbers = numbers })
+unfolding line_after_pivot solved_line
 changed_same pivot line numbers e h = rw (e, h) refl
 
 pub changed_none : (pivot : Pivot) (line : Line) → are_same line.basic pivot.leaving ≡ false → get_or line.numbers (pivot.place + 1) (pos 0) ≡ pos 0
-    → changed pivot line ≡ Some line
-unfolding changed
+    → line_after_pivot pivot line ≡ Some line
+unfolding line_after_pivot
 changed_none pivot line e h = let at : get_or line.numbers (suc pivot.place) (pos 0) ≡ pos 0 = rw (← add-one pivot.place) h in rw (e, at) refl
 
 nonzero_is : (z : ℤ) → ¬ (z ≡ pos 0) → is_nonzero z ≡ true
@@ -86,7 +86,7 @@ nonzero_is (pos (suc n)) h = refl
 nonzero_is (negsuc n) h = refl
 
 pub changed_other : (pivot : Pivot) (line : Line) → are_same line.basic pivot.leaving ≡ false → ¬ (get_or line.numbers (pivot.place + 1) (pos 0) ≡ pos 0)
-    → changed pivot line ≡ substituted pivot line
-unfolding changed
+    → line_after_pivot pivot line ≡ combined_line pivot line
+unfolding line_after_pivot
 changed_other pivot line e h =
     let at : is_nonzero (get_or line.numbers (suc pivot.place) (pos 0)) ≡ true = rw (← add-one pivot.place) (nonzero_is (get_or line.numbers (pivot.place + 1) (pos 0)) h) in rw (e, at) refl

@@ -9,14 +9,14 @@ use Rattle.std.proofs.lemmas.Int.{ints}
 use Rattle.std.proofs.lemmas.Nat.Gcd.{dvd_trans, dvd_refl, mod-eq-zero_of_dvd, le_of_dvd}
 use Rattle.thr_base.specs.Number.{fits}
 use Rattle.lin_rows.specs.Gcd.{gcd, lcm}
-use Rattle.lin_rows.specs.Row.{Row, product_of, scaled, MeetsOver}
+use Rattle.lin_rows.specs.Row.{Row, product_of, multiple_of, MeetsOver}
 use Rattle.lin_rows.specs.Sum.{sum_in_order}
 use Rattle.lin_rows.specs.System.{System, HasWidths, IsRationalPoint}
 use Rattle.lin_rows.proofs.Divisors.{IsGcd-gcd}
 use Rattle.lin_rows.proofs.Integers.{mul_comm_ℤ, mul-zero_ℤ, zero-mul_ℤ, one-mul_ℤ}
 use Rattle.lin_rows.proofs.Sums.{sum_in_order-given}
 use Rattle.farkas_cert.specs.Cert.{Pairs}
-use Rattle.farkas_cert.specs.Divided.{over, divided}
+use Rattle.farkas_cert.specs.Divided.{over, divided_numbers}
 use Rattle.farkas_cert.specs.Elimination.{every}
 use Rattle.farkas_cert.specs.Line.{all_fit, nonzero_pairs}
 use Rattle.farkas_cert.specs.Proof.{overflow_of}
@@ -28,8 +28,8 @@ use Rattle.farkas_cert.proofs.Integers.{linear, factors, eq_of_mul_right_ℤ, le
 use Rattle.farkas_cert.proofs.Lists.{all_both, all_from}
 use Rattle.farkas_cert.proofs.Signs.{split_at}
 use Rattle.farkas_cert.proofs.Slack.{product-scaled_right}
-use Rattle.tableau_elim.specs.Tableau.{Line, Tableau, divisor_of, value_at_place, given, given_lines, sum_of_line, pivot_at, pivoted}
-use Rattle.tableau_elim.specs.Rounds.{Outcome, Refuted, Point, GaveUp, Found, Ends, Pivots, first_out, standing_of, chosen, multipliers, refuted, basic_value, column_value, common_denominator, point_over, point_of, or_gives_up, found, found_by_line, found_by_standing, found_by_place, at_end, after_pivot, goes_on, ended_within, most_pivots, outcome_of}
+use Rattle.tableau_elim.specs.Tableau.{Line, Tableau, divisor_of, value_at_place, given_tableau, given_lines, sum_of_line, pivot_at, pivoted_tableau}
+use Rattle.tableau_elim.specs.Rounds.{Outcome, Refuted, Point, GaveUp, Found, Ends, Pivots, first_out, standing_of, chosen_place, multipliers, refuted_outcome, basic_value, column_value, common_denominator, point_over, point_of, or_gives_up, round_of, found_by_line, found_by_standing, found_by_place, at_end, after_pivot, goes_on, ended_within, most_pivots, outcome_of}
 use Rattle.tableau_elim.specs.declared.variable.Variable.{Variable}
 use Rattle.tableau_elim.specs.declared.variable.Variable.TheVariants.{Column, Slack}
 use Rattle.tableau_elim.specs.declared.standing.Side.{Side}
@@ -166,7 +166,7 @@ columns_positive system m tableau (c ∷ cs) values h e =
 
 columns_are : (system : System) (m : ℤ) (tableau : Tableau) (d : ℕ) (cs : List ℕ) (values : List Fraction) → AllByRecursion (IsFine system m tableau) tableau.lines
     → every (map (column_value tableau) cs) ≡ Some values → AllByRecursion (λ value. unsigned_abs value.denominator ∣ d) values
-    → scaled m (map (numerator_by d) values) ≡ scaled (pos d) (map (values_of m tableau) (map Column cs))
+    → multiple_of m (map (numerator_by d) values) ≡ multiple_of (pos d) (map (values_of m tableau) (map Column cs))
 unfolding every
 columns_are system m tableau d [] values h e k = let same : [] ≡ values = cc in rw (← same) refl
 columns_are system m tableau d (c ∷ cs) values h e k =
@@ -174,7 +174,7 @@ columns_are system m tableau d (c ∷ cs) values h e k =
     let divides : AllByRecursion (λ value. unsigned_abs value.denominator ∣ d) (parts.0 ∷ parts.1) = subst (λ (vs : List Fraction). AllByRecursion (λ value. unsigned_abs value.denominator ∣ d) vs) parts.4 k in
     let here = (column_is system m tableau c parts.0 h parts.2).claim d divides.0 in
     let rest = columns_are system m tableau d cs parts.1 h parts.3 divides.1 in
-    ap (λ vs. scaled m (map (numerator_by d) vs)) parts.4 ∙ ap₂ (λ y ys. y ∷ ys) here rest
+    ap (λ vs. multiple_of m (map (numerator_by d) vs)) parts.4 ∙ ap₂ (λ y ys. y ∷ ys) here rest
 
 every_long : (f : ℕ → Option Fraction) (cs : List ℕ) (values : List Fraction) → every (map f cs) ≡ Some values → length values ≡ length cs
 unfolding every
@@ -202,15 +202,15 @@ meets_by false y s bound m d p q e k =
     le_of_mul_right_ℤ y (bound *ℤ d) m p (omega (arith, linear, mul_comm_ℤ y m, mul_comm_ℤ d s))
 
 rows_meet : (system : System) (m : ℤ) (tableau : Tableau) (x : List ℤ) (d : ℕ) (k : ℕ) (rows : List Row) → pos 0 <ℤ m → 0 < d → AllByRecursion (IsFine system m tableau) tableau.lines
-    → drop k system.rows ≡ rows → scaled m x ≡ scaled (pos d) (map (values_of m tableau) (given system).places)
-    → AllByRecursion (Holds (values_of m tableau) (given system).places) (given_lines k rows) → AllByRecursion (λ row. MeetsOver row x (pos d)) rows
+    → drop k system.rows ≡ rows → multiple_of m x ≡ multiple_of (pos d) (map (values_of m tableau) (given_tableau system).places)
+    → AllByRecursion (Holds (values_of m tableau) (given_tableau system).places) (given_lines k rows) → AllByRecursion (λ row. MeetsOver row x (pos d)) rows
 unfolding given_lines
 rows_meet system m tableau x d k [] p q h e same g = tt
 rows_meet system m tableau x d k (row ∷ rows) p q h e same g =
     let at = split_at system.rows rows k row e in
     let v = values_of m tableau in
     let s = v (Slack (record { row = k; equal = row.equal; bound = row.bound })) in
-    let xs = map v (given system).places in
+    let xs = map v (given_tableau system).places in
     let says : product_of row.coefficients xs ≡ s = omega (arith, linear, g.0, one-mul_ℤ (neg_ℤ s)) in
     let product : m *ℤ product_of row.coefficients x ≡ pos d *ℤ s =
     sym (product-scaled_right m row.coefficients x) ∙ ap (product_of row.coefficients) same ∙ product-scaled_right (pos d) row.coefficients xs ∙ ap (λ t. pos d *ℤ t) says in (
@@ -283,9 +283,9 @@ abbrev IsFromTableau : System → Tableau → Found → Type 0
 IsFromTableau system tableau (Ends outcome) = HasPoint system tableau outcome
 IsFromTableau system tableau (Pivots j line) = first_out tableau ≡ Some line
 
-refuted_none : (system : System) (tableau : Tableau) (side : Side) (places : List Variable) (line : Line) → HasPoint system tableau (refuted system side places line)
-unfolding refuted
-refuted_none system tableau side places line = at (nonzero_pairs 1 (divided (multipliers side (length system.rows) places line))) (overflow_of system.rows (nonzero_pairs 1 (divided (multipliers side (length system.rows) places line)))) where
+refuted_none : (system : System) (tableau : Tableau) (side : Side) (places : List Variable) (line : Line) → HasPoint system tableau (refuted_outcome system side places line)
+unfolding refuted_outcome
+refuted_none system tableau side places line = at (nonzero_pairs 1 (divided_numbers (multipliers side (length system.rows) places line))) (overflow_of system.rows (nonzero_pairs 1 (divided_numbers (multipliers side (length system.rows) places line)))) where
   at : (pairs : Pairs) (o : Option (ℕ × ℕ)) → HasPoint system tableau (cond (is_none o) (Refuted pairs) GaveUp)
   at pairs None = tt
   at pairs (Some place) = tt
@@ -295,8 +295,8 @@ outcome_point system tableau k b e (Refuted pairs) p = tt
 outcome_point system tableau k b e (Point x d) p = point_is system tableau x d k b e p
 outcome_point system tableau k b e GaveUp p = tt
 
-found_from : (system : System) (tableau : Tableau) → IsKept system tableau → IsBack system tableau → IsFromTableau system tableau (found system tableau)
-unfolding found
+found_from : (system : System) (tableau : Tableau) → IsKept system tableau → IsBack system tableau → IsFromTableau system tableau (round_of system tableau)
+unfolding round_of
 found_from system tableau k b = by_line (first_out tableau) refl where
   by_place : (line : Line) (side : Side) (o : Option ℕ) → first_out tableau ≡ Some line → IsFromTableau system tableau (found_by_place system side tableau.places line o)
   by_place line side None e = refuted_none system tableau side tableau.places line
@@ -305,7 +305,7 @@ found_from system tableau k b = by_line (first_out tableau) refl where
   by_standing : (line : Line) (s : Standing) → first_out tableau ≡ Some line → IsFromTableau system tableau (found_by_standing system tableau.places line s)
   by_standing line Within e = tt
   by_standing line Unfit e = tt
-  by_standing line (Out side) e = by_place line side (chosen side tableau.places (drop 1 line.numbers)) e
+  by_standing line (Out side) e = by_place line side (chosen_place side tableau.places (drop 1 line.numbers)) e
 
   by_line : (o : Option Line) → first_out tableau ≡ o → IsFromTableau system tableau (found_by_line system tableau o)
   by_line None e = outcome_point system tableau k b e (point_of system.columns tableau) refl
@@ -316,12 +316,12 @@ found_from system tableau k b = by_line (first_out tableau) refl where
 ended_point : (pivots : ℕ) (system : System) (tableau : Tableau) (outcome : Outcome) → HasWidths system → IsKept system tableau → IsBack system tableau
     → ended_within pivots system tableau ≡ Some outcome → HasPoint system tableau outcome
 unfolding ended_within
-ended_point zero system tableau outcome w k b e = at (found system tableau) (found_from system tableau k b) e where
+ended_point zero system tableau outcome w k b e = at (round_of system tableau) (found_from system tableau k b) e where
   at : (f : Found) → IsFromTableau system tableau f → at_end f ≡ Some outcome → HasPoint system tableau outcome
   at (Ends o) h e = let same : o ≡ outcome = cc in subst (HasPoint system tableau) same h
   at (Pivots j line) h e = absurd cc
 ended_point (suc pivots) system tableau outcome w k b e =
-    at (λ next kept back. moved next outcome (ended_point pivots system next outcome w kept back)) (found system tableau) (found_sound system tableau w k) (found_from system tableau k b) e
+    at (λ next kept back. moved next outcome (ended_point pivots system next outcome w kept back)) (round_of system tableau) (found_sound system tableau w k) (found_from system tableau k b) e
   where
     moved : (next : Tableau) (o : Outcome) → (ended_within pivots system next ≡ Some outcome → HasPoint system next o) → ended_within pivots system next ≡ Some outcome → HasPoint system tableau o
     moved next (Refuted pairs) h e = tt
@@ -329,7 +329,7 @@ ended_point (suc pivots) system tableau outcome w k b e =
     moved next GaveUp h e = tt
 
     more : ((next : Tableau) → IsKept system next → IsBack system next → ended_within pivots system next ≡ Some outcome → HasPoint system tableau outcome) → (j : ℕ) (line : Line)
-        → IsSoundFound system tableau (Pivots j line) → first_out tableau ≡ Some line → (o : Option Tableau) → pivoted (pivot_at j line tableau) tableau ≡ o
+        → IsSoundFound system tableau (Pivots j line) → first_out tableau ≡ Some line → (o : Option Tableau) → pivoted_tableau (pivot_at j line tableau) tableau ≡ o
         → after_pivot (ended_within pivots system) o ≡ Some outcome → HasPoint system tableau outcome
     more rest j line h f None p e = let same : GaveUp ≡ outcome = cc in subst (HasPoint system tableau) same tt
     more rest j line h f (Some next) p e =
@@ -339,13 +339,13 @@ ended_point (suc pivots) system tableau outcome w k b e =
     at : ((next : Tableau) → IsKept system next → IsBack system next → ended_within pivots system next ≡ Some outcome → HasPoint system tableau outcome) → (f : Found)
         → IsSoundFound system tableau f → IsFromTableau system tableau f → goes_on (ended_within pivots system) tableau f ≡ Some outcome → HasPoint system tableau outcome
     at rest (Ends o) h f e = let same : o ≡ outcome = cc in subst (HasPoint system tableau) same f
-    at rest (Pivots j line) h f e = more rest j line h f (pivoted (pivot_at j line tableau) tableau) refl e
+    at rest (Pivots j line) h f e = more rest j line h f (pivoted_tableau (pivot_at j line tableau) tableau) refl e
 
 pub point_is_sound : (system : System) (x : List ℤ) (d : ℤ) → HasWidths system → outcome_of system ≡ Point x d → IsRationalPoint system x d
 unfolding outcome_of
-point_is_sound system x d w e = at (ended_within (most_pivots system) system (given system)) refl e where
-  at : (o : Option Outcome) → ended_within (most_pivots system) system (given system) ≡ o → unwrap_or o GaveUp ≡ Point x d → IsRationalPoint system x d
+point_is_sound system x d w e = at (ended_within (most_pivots system) system (given_tableau system)) refl e where
+  at : (o : Option Outcome) → ended_within (most_pivots system) system (given_tableau system) ≡ o → unwrap_or o GaveUp ≡ Point x d → IsRationalPoint system x d
   at None f e = absurd cc
   at (Some outcome) f e =
       let same : outcome ≡ Point x d = cc in
-      subst (HasPoint system (given system)) same (ended_point (most_pivots system) system (given system) outcome w (kept_given system w) (back_given system) f)
+      subst (HasPoint system (given_tableau system)) same (ended_point (most_pivots system) system (given_tableau system) outcome w (kept_given system w) (back_given system) f)

@@ -8,7 +8,7 @@ use Rattle.std.proofs.lemmas.Bool.{eqb-true}
 use Rattle.std.proofs.lemmas.Int.{ints, by_lt_z, unsigned_abs-mul}
 use Rattle.thr_base.specs.Number.{fits}
 use Rattle.lin_rows.specs.Exact.{fitting}
-use Rattle.lin_rows.specs.Row.{Row, product_of, scaled}
+use Rattle.lin_rows.specs.Row.{Row, product_of, multiple_of}
 use Rattle.lin_rows.specs.Sum.{sum_in_order}
 use Rattle.lin_rows.specs.System.{System}
 use Rattle.lin_rows.proofs.Integers.{mul_assoc_ℤ, mul_comm_ℤ, zero-mul_ℤ, mul-neg_ℤ}
@@ -19,7 +19,7 @@ use Rattle.farkas_cert.proofs.Integers.{linear, factors, mul-positive_ℤ, mul_r
 use Rattle.farkas_cert.proofs.Lists.{all_from, all_unfilter}
 use Rattle.farkas_cert.proofs.Slack.{product-scaled_right}
 use Rattle.tableau_elim.specs.Tableau.{Line, Tableau, are_same, comes_before, divisor_of, value_at_place, sum_of_line}
-use Rattle.tableau_elim.specs.Rounds.{first_out, earlier, is_within, standing_of, standing_by, standing_by_basic, compared}
+use Rattle.tableau_elim.specs.Rounds.{first_out, earlier, is_within, standing_of, standing_by, standing_by_basic, standing_to_limit}
 use Rattle.tableau_elim.specs.declared.variable.Variable.{Variable}
 use Rattle.tableau_elim.specs.declared.variable.Variable.TheVariants.{Column, Slack}
 use Rattle.tableau_elim.specs.declared.standing.Side.TheVariants.{High, Low}
@@ -91,7 +91,7 @@ none_line [] x h = refl
 none_line (line ∷ lines) x h = rw h.0 (none_line lines x h.1)
 
 pub place_values : (m : ℤ) (tableau : Tableau) (places : List Variable) → AllByRecursion (λ line. NotAmong line.basic places) tableau.lines
-    → map (values_of m tableau) places ≡ scaled m (map value_at_place places)
+    → map (values_of m tableau) places ≡ multiple_of m (map value_at_place places)
 place_values m tableau [] h = refl
 place_values m tableau (x ∷ places) h =
     let none = none_line tableau.lines x (all_from (λ (line : Line). NotAmong line.basic (x ∷ places)) (λ line. Apart line.basic x) tableau.lines (λ line n. n.0) h) in
@@ -114,7 +114,7 @@ holds_algebra d sum q m e =
     omega (arith, linear, mul-neg_ℤ d (sum *ℤ q))
 
 pub line_holds : (m : ℤ) (tableau : Tableau) (line : Line) (n : ℕ) → length line.numbers ≡ suc n → line_of tableau.lines line.basic ≡ Some line
-    → map (values_of m tableau) tableau.places ≡ scaled m (map value_at_place tableau.places) → share m line *ℤ divisor_of line ≡ m
+    → map (values_of m tableau) tableau.places ≡ multiple_of m (map value_at_place tableau.places) → share m line *ℤ divisor_of line ≡ m
     → Holds (values_of m tableau) tableau.places line
 unfolding line_sum
 line_holds m tableau line n w f p s = at line.numbers refl w where
@@ -164,7 +164,7 @@ fitting_is z x e = at (fits z) e where
 abbrev pub Keeps : Bool → ℤ → ℤ → Type 0
 Keeps equal sum limit = (sum ≤ℤ limit) × (equal ≡ true → sum ≡ limit)
 
-compared_within : (equal : Bool) (sum limit : ℤ) → compared equal sum limit ≡ Within → Keeps equal sum limit
+compared_within : (equal : Bool) (sum limit : ℤ) → standing_to_limit equal sum limit ≡ Within → Keeps equal sum limit
 compared_within equal sum limit e = at (int_lt limit sum) equal (int_lt sum limit) refl refl refl e where
   at : (a b d : Bool) → int_lt limit sum ≡ a → equal ≡ b → int_lt sum limit ≡ d → cond a (Out High) (cond (b && d) (Out Low) Within) ≡ Within → Keeps equal sum limit
   at true b d p q r e = absurd cc

@@ -16,7 +16,7 @@ use Rattle.lin_rows.proofs.Integers.{one-mul_ℤ, zero-mul_ℤ, mul-zero_ℤ, mu
 use Rattle.lin_rows.proofs.Points.{product_of-neg, product_of-nil}
 use Rattle.lin_rows.proofs.Sums.{sum_in_order-given}
 use Rattle.farkas_cert.specs.Cert.{weighted_sum}
-use Rattle.farkas_cert.specs.Divided.{divided}
+use Rattle.farkas_cert.specs.Divided.{divided_numbers}
 use Rattle.farkas_cert.specs.Line.{nonzero_pairs}
 use Rattle.farkas_cert.proofs.Derived.{divided_primitive}
 use Rattle.farkas_cert.proofs.Integers.{linear}
@@ -24,8 +24,8 @@ use Rattle.farkas_cert.proofs.Linear.{product-linear, divided_vanishes, of_divid
 use Rattle.farkas_cert.proofs.Refuting.{IsProvedBy, product_of_zeros}
 use Rattle.farkas_cert.proofs.Signs.{Signs, RowSign, signs_over, nonzero_pairs-in_order, split_at}
 use Rattle.farkas_cert.proofs.Weighted.{values_at, bounds_of, weighted_coefficients, weighted_bound, zeros_from_products, divides_listed}
-use Rattle.tableau_elim.specs.Tableau.{Line, Tableau, divisor_of, comes_before, value_at_place, given, given_lines, sum_of_line}
-use Rattle.tableau_elim.specs.Rounds.{standing_of, standing_by_basic, standing_by, compared, chosen, lower, suitable_from, with_places, with_multiplier, signed, multipliers}
+use Rattle.tableau_elim.specs.Tableau.{Line, Tableau, divisor_of, comes_before, value_at_place, given_tableau, given_lines, sum_of_line}
+use Rattle.tableau_elim.specs.Rounds.{standing_of, standing_by_basic, standing_by, standing_to_limit, chosen_place, lower, suitable_from, with_places, with_multiplier, signed_multipliers, multipliers}
 use Rattle.tableau_elim.specs.declared.variable.Variable.{Variable}
 use Rattle.tableau_elim.specs.declared.variable.Variable.TheVariants.{Column, Slack}
 use Rattle.tableau_elim.specs.declared.standing.Side.{Side}
@@ -77,7 +77,7 @@ get_bounds (r ∷ rows) (suc k) row e = get_bounds rows k row e
 -- the given lines say what the rows say
 pub given_hold : (system : System) (v : Values) (z : List ℤ) (k : ℕ) (rows : List Row) → drop k system.rows ≡ rows
     → ((c : ℕ) → v (Column c) ≡ get_or z c (pos 0)) → ((row : Row) (r : ℕ) (equal : Bool) (bound : ℤ) → slice_get system.rows r ≡ Some row → v (Slack (record { row = r; equal = equal; bound = bound })) ≡ product_of row.coefficients z)
-    → AllByRecursion (λ row. length row.coefficients ≡ system.columns) rows → AllByRecursion (Holds v (given system).places) (given_lines k rows)
+    → AllByRecursion (λ row. length row.coefficients ≡ system.columns) rows → AllByRecursion (Holds v (given_tableau system).places) (given_lines k rows)
 unfolding given_lines
 given_hold system v z k [] e f g w = tt
 given_hold system v z k (row ∷ rows) e f g w =
@@ -97,7 +97,7 @@ abbrev is_high : Side → Bool
 is_high High = true
 is_high Low = false
 
-out_by : (equal : Bool) (sum limit : ℤ) (side : Side) → compared equal sum limit ≡ Out side
+out_by : (equal : Bool) (sum limit : ℤ) (side : Side) → standing_to_limit equal sum limit ≡ Out side
     → (side ≡ High → limit <ℤ sum) × (side ≡ Low → (equal ≡ true) × (sum <ℤ limit))
 out_by equal sum limit side e = at (int_lt limit sum) equal (int_lt sum limit) refl refl refl e where
   at : (a b d : Bool) → int_lt limit sum ≡ a → equal ≡ b → int_lt sum limit ≡ d → cond a (Out High) (cond (b && d) (Out Low) Within) ≡ Out side
@@ -183,7 +183,7 @@ weighed_by system places ts ys r equal bound d h dis n k =
     let first = ap (λ t. t *ℤ get_or ys r (pos 0)) (get_zeros n0 r) in
     omega (arith, linear, zero-mul_ℤ (get_or ys r (pos 0)))
 
-signed_product : (side : Side) (ms ys : List ℤ) → product_of (signed side ms) ys ≡ signed_number side (product_of ms ys)
+signed_product : (side : Side) (ms ys : List ℤ) → product_of (signed_multipliers side ms) ys ≡ signed_number side (product_of ms ys)
 signed_product High ms ys = refl
 signed_product Low ms ys = product_of-neg ms ys
 
@@ -200,35 +200,35 @@ bound_values system (Slack s ∷ places) k =
 negative_over : (g : ℕ) (x y : ℤ) → pos g *ℤ y ≡ x → x <ℤ pos 0 → y <ℤ pos 0
 negative_over g x y e h = by_lt_z y (pos 0) (λ l. l) (λ l. absurd (omega (arith, linear, mul-le-mul_ℤ (pos g) (pos 0) y (omega (arith, linear)) l, mul-zero_ℤ (pos g))))
 
-signs_divided : (rows : List Row) (ms : List ℤ) → Signs false rows ms → Signs false rows (divided ms)
-unfolding divided
+signs_divided : (rows : List Row) (ms : List ℤ) → Signs false rows ms → Signs false rows (divided_numbers ms)
+unfolding divided_numbers
 signs_divided rows ms h = signs_over false (gcd_of ms) rows ms h
 
 -- Multipliers of the right signs that cancel the coefficients and leave a negative bound refute, once they are divided.
 pub proved_by : (system : System) (ms : List ℤ) → Signs false system.rows ms → ((z : List ℤ) → product_of ms (values_at z system.rows) ≡ pos 0)
-    → product_of ms (bounds_of system.rows) <ℤ pos 0 → IsProvedBy system (divided ms)
+    → product_of ms (bounds_of system.rows) <ℤ pos 0 → IsProvedBy system (divided_numbers ms)
 proved_by system ms s c b =
     let signs = signs_divided system.rows ms s in
     let cancels = λ (z : List ℤ). divided_vanishes (λ xs. product_of xs (values_at z system.rows)) (product-linear (values_at z system.rows)) ms (c z) in
-    let bound : product_of (divided ms) (bounds_of system.rows) <ℤ pos 0 =
-    negative_over (gcd_of ms) (product_of ms (bounds_of system.rows)) (product_of (divided ms) (bounds_of system.rows)) (of_divided (λ xs. product_of xs (bounds_of system.rows)) (product-linear (bounds_of system.rows)) ms) b in (
+    let bound : product_of (divided_numbers ms) (bounds_of system.rows) <ℤ pos 0 =
+    negative_over (gcd_of ms) (product_of ms (bounds_of system.rows)) (product_of (divided_numbers ms) (bounds_of system.rows)) (of_divided (λ xs. product_of xs (bounds_of system.rows)) (product-linear (bounds_of system.rows)) ms) b in (
       record {
-        in_order = nonzero_pairs-in_order system.rows system.rows 0 0 false (divided ms) (omega arith) refl signs;
+        in_order = nonzero_pairs-in_order system.rows system.rows 0 0 false (divided_numbers ms) (omega arith) refl signs;
         contradicts = record {
-          cancels = zeros_from_products (weighted_sum system.rows (nonzero_pairs 1 (divided ms))).coefficients (λ z. weighted_coefficients system.rows system.rows 0 false (divided ms) z refl signs ∙ cancels z);
-          negative = rw (weighted_bound system.rows system.rows 0 false (divided ms) refl signs) bound;
+          cancels = zeros_from_products (weighted_sum system.rows (nonzero_pairs 1 (divided_numbers ms))).coefficients (λ z. weighted_coefficients system.rows system.rows 0 false (divided_numbers ms) z refl signs ∙ cancels z);
+          negative = rw (weighted_bound system.rows system.rows 0 false (divided_numbers ms) refl signs) bound;
         };
       },
-      λ g d. elim (divided_primitive ms g (divides_listed g 1 (divided ms) d)) [
+      λ g d. elim (divided_primitive ms g (divides_listed g 1 (divided_numbers ms) d)) [
         | inl l ↦ l
-        | inr all ↦ absurd (omega (arith, linear, product_of_zeros (divided ms) (bounds_of system.rows) all))
+        | inr all ↦ absurd (omega (arith, linear, product_of_zeros (divided_numbers ms) (bounds_of system.rows) all))
       ],
     )
 
 -- ---- the line
 
-none_chosen : (side : Side) (places : List Variable) (ts : List ℤ) → chosen side places ts ≡ None → suitable_from side 0 places ts ≡ []
-unfolding chosen
+none_chosen : (side : Side) (places : List Variable) (ts : List ℤ) → chosen_place side places ts ≡ None → suitable_from side 0 places ts ≡ []
+unfolding chosen_place
 none_chosen side places ts e = at (suitable_from side 0 places ts) e where
   some : (best : ℕ × Variable) (xs : List (ℕ × Variable)) → option_map (λ (place : ℕ × Variable). place.0) (fold lower (Some best) xs) ≡ None → ⊥
   some best [] e = absurd cc
@@ -263,8 +263,8 @@ own_sign Low false d h e = absurd (false≢true (e refl))
 
 pub line_refutes : (system : System) (tableau : Tableau) (line : Line) (side : Side) → HasWidths system → IsKept system tableau → IsKeptLine system tableau.places line
     → ((v : Values) → AllByRecursion (Holds v tableau.places) tableau.lines → Holds v tableau.places line)
-    → standing_of tableau.places line ≡ Out side → chosen side tableau.places (drop 1 line.numbers) ≡ None
-    → IsProvedBy system (divided (multipliers side (length system.rows) tableau.places line))
+    → standing_of tableau.places line ≡ Out side → chosen_place side tableau.places (drop 1 line.numbers) ≡ None
+    → IsProvedBy system (divided_numbers (multipliers side (length system.rows) tableau.places line))
 unfolding multipliers
 line_refutes system tableau line side w k kl among out none =
     let o = line_out tableau.places line side out in
@@ -281,12 +281,12 @@ line_refutes system tableau line side w k kl among out none =
     let apart = subst (λ (x : Variable). NotAmong x places) is.basic kl.apart in
     let within = within_rows system.rows r known.there known.at in
     let unsuitable = none_suitable side 0 places ts (none_chosen side places ts none) in
-    let same : signed side (with_places places ts (with_multiplier line.basic d (replicate n (pos 0)))) ≡ signed side (with_places places ts start) =
-    ap (λ x. signed side (with_places places ts (with_multiplier x d (replicate n (pos 0))))) is.basic in
-    let signs : Signs false system.rows (signed side (with_places places ts start)) =
+    let same : signed_multipliers side (with_places places ts (with_multiplier line.basic d (replicate n (pos 0)))) ≡ signed_multipliers side (with_places places ts start) =
+    ap (λ x. signed_multipliers side (with_places places ts (with_multiplier x d (replicate n (pos 0))))) is.basic in
+    let signs : Signs false system.rows (signed_multipliers side (with_places places ts start)) =
     places_signs system side places ts start k.known unsuitable
     (set_signs system side r equal bound d (replicate n (pos 0)) known (own_sign side equal d kl.positive (λ l. (is.low l).0)) (zeros_signs side system.rows)) in
-    let cancels : (z : List ℤ) → product_of (signed side (with_places places ts start)) (values_at z system.rows) ≡ pos 0 = λ z.
+    let cancels : (z : List ℤ) → product_of (signed_multipliers side (with_places places ts start)) (values_at z system.rows) ≡ pos 0 = λ z.
     let v = point_values system z in
     let holds = among v (k.says v (given_hold system v z 0 system.rows refl (λ c. refl) (λ row r equal bound at. get_values z system.rows r row at) w)) in
     let says : product_of (d ∷ ts) (neg_ℤ (v (Slack (record { row = r; equal = equal; bound = bound }))) ∷ map v places) ≡ pos 0 =
@@ -299,8 +299,8 @@ line_refutes system tableau line side w k kl among out none =
     let weight = weighed_by system places ts (bounds_of system.rows) r equal bound d within k.distinct apart k.known in
     let own = get_bounds system.rows r known.there known.at ∙ known.bound_is in
     let sums = ap (product_of ts) (bound_values system places k.known) in
-    let negative : product_of (signed side (with_places places ts start)) (bounds_of system.rows) <ℤ pos 0 =
+    let negative : product_of (signed_multipliers side (with_places places ts start)) (bounds_of system.rows) <ℤ pos 0 =
     subst (λ (x : ℤ). x <ℤ pos 0) (sym (signed_product side (with_places places ts start) (bounds_of system.rows)))
     (below side d bound (product_of ts (map value_at_place places)) (product_of (with_places places ts start) (bounds_of system.rows))
     (weight ∙ ap (λ b. d *ℤ b -ℤ product_of ts (map (slack_value (bounds_of system.rows)) places)) own ∙ ap (λ s. d *ℤ bound -ℤ s) sums) is.high (λ l. (is.low l).1)) in
-    rw same (proved_by system (signed side (with_places places ts start)) signs cancels negative)
+    rw same (proved_by system (signed_multipliers side (with_places places ts start)) signs cancels negative)

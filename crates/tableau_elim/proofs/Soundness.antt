@@ -6,11 +6,11 @@ use Rattle.std.specs.List.{AllByRecursion}
 use Rattle.std.proofs.Math.Nat.{suc-mul}
 use Rattle.std.proofs.lemmas.List.{length-take-le, length-drop}
 use Rattle.thr_base.specs.Number.{Fits}
-use Rattle.lin_rows.specs.Row.{scaled}
+use Rattle.lin_rows.specs.Row.{multiple_of}
 use Rattle.farkas_cert.specs.Elimination.{every}
 use Rattle.farkas_cert.specs.Line.{combination}
 use Rattle.farkas_cert.proofs.Lists.{all_every, all_map, all_both}
-use Rattle.tableau_elim.specs.Tableau.{Line, Pivot, number_at, solved, changed}
+use Rattle.tableau_elim.specs.Tableau.{Line, Pivot, number_at, solved_line, line_after_pivot}
 use Rattle.tableau_elim.specs.declared.variable.Variable.{Variable}
 use Rattle.tableau_elim.specs.inside.Held.{lines_of, IsSound, IsPivot}
 use Rattle.tableau_elim.proofs.Changed.{substituted_is, by_change, changed_front}
@@ -29,13 +29,13 @@ b_of pivot line = neg_ℤ (int_signum pivot.number) *ℤ number_at pivot.place l
 abbrev rest_of : Pivot → Line → List ℤ
 rest_of pivot line = slice_set line.numbers (suc pivot.place) (pos 0)
 
-solved_fits : (w : ℕ) (pivot : Pivot) → IsPivot w pivot → AllByRecursion Fits (solved pivot).numbers
-unfolding solved
+solved_fits : (w : ℕ) (pivot : Pivot) → IsPivot w pivot → AllByRecursion Fits (solved_line pivot).numbers
+unfolding solved_line
 solved_fits w pivot k =
-    divided_fit (slice_set (scaled (neg_ℤ (int_signum pivot.number)) pivot.moved) 0 (pos (unsigned_abs pivot.number)))
-    (solved_fit pivot.moved (scaled (neg_ℤ (int_signum pivot.number)) pivot.moved) pivot.number (pos (unsigned_abs pivot.number)) k.fits k.number_fits refl refl)
+    divided_fit (slice_set (multiple_of (neg_ℤ (int_signum pivot.number)) pivot.moved) 0 (pos (unsigned_abs pivot.number)))
+    (solved_fit pivot.moved (multiple_of (neg_ℤ (int_signum pivot.number)) pivot.moved) pivot.number (pos (unsigned_abs pivot.number)) k.fits k.number_fits refl refl)
 
-changed_sound : (w : ℕ) (pivot : Pivot) (line new : Line) → IsPivot w pivot → IsSound line → 0 < length line.numbers → changed pivot line ≡ Some new → IsSound new
+changed_sound : (w : ℕ) (pivot : Pivot) (line new : Line) → IsPivot w pivot → IsSound line → 0 < length line.numbers → line_after_pivot pivot line ≡ Some new → IsSound new
 changed_sound w pivot line new k s l e = record {
   fits = by_change (λ made. AllByRecursion Fits made.numbers) pivot line new e
       (λ t. solved_fits w pivot k)
@@ -45,10 +45,10 @@ changed_sound w pivot line new k s l e = record {
 }
 
 pub all_changed_sound : (w : ℕ) (pivot : Pivot) (lines made : List Line) → IsPivot w pivot → AllByRecursion IsSound lines
-    → AllByRecursion (λ line. 0 < length line.numbers) lines → every (map (changed pivot) lines) ≡ Some made → AllByRecursion IsSound made
+    → AllByRecursion (λ line. 0 < length line.numbers) lines → every (map (line_after_pivot pivot) lines) ≡ Some made → AllByRecursion IsSound made
 all_changed_sound w pivot lines made k s l e =
-    all_every IsSound (map (changed pivot) lines) made
-    (all_map (λ line. IsSound line × (0 < length line.numbers)) (λ o. (new : Line) → o ≡ Some new → IsSound new) (changed pivot) lines
+    all_every IsSound (map (line_after_pivot pivot) lines) made
+    (all_map (λ line. IsSound line × (0 < length line.numbers)) (λ o. (new : Line) → o ≡ Some new → IsSound new) (line_after_pivot pivot) lines
     (λ line both new m. changed_sound w pivot line new k both.0 both.1 m)
     (all_both IsSound (λ line. 0 < length line.numbers) lines s l)) e
 

@@ -12,7 +12,7 @@ use Rattle.lin_rows.proofs.Points.{product_of-nil}
 use Rattle.farkas_cert.specs.Line.{is_nonzero}
 use Rattle.farkas_cert.proofs.Integers.{linear}
 use Rattle.farkas_cert.proofs.Signs.{Signs, RowSign}
-use Rattle.tableau_elim.specs.Rounds.{is_suitable, suitable_from, with_places, signed}
+use Rattle.tableau_elim.specs.Rounds.{is_suitable, suitable_from, with_places, signed_multipliers}
 use Rattle.tableau_elim.specs.declared.variable.Variable.{Variable}
 use Rattle.tableau_elim.specs.declared.variable.Variable.TheVariants.{Column, Slack}
 use Rattle.tableau_elim.specs.declared.standing.Side.{Side}
@@ -117,7 +117,7 @@ abbrev pub signed_number : Side → ℤ → ℤ
 signed_number High m = m
 signed_number Low m = neg_ℤ m
 
-signed_set : (side : Side) (ms : List ℤ) (i : ℕ) (m : ℤ) → signed side (slice_set ms i m) ≡ slice_set (signed side ms) i (signed_number side m)
+signed_set : (side : Side) (ms : List ℤ) (i : ℕ) (m : ℤ) → signed_multipliers side (slice_set ms i m) ≡ slice_set (signed_multipliers side ms) i (signed_number side m)
 signed_set High ms i m = refl
 signed_set Low ms i m = map-set neg_ℤ ms i m
 
@@ -130,10 +130,10 @@ signs_set (r ∷ rows) (k ∷ ms) (suc i) row m h e s = (h.0, signs_set rows ms 
 
 -- A slack's row takes the multiplier.
 pub set_signs : (system : System) (side : Side) (r : ℕ) (equal : Bool) (bound m : ℤ) (ms : List ℤ) → IsSlackOf system r equal bound
-    → RowSign equal false (signed_number side m) → Signs false system.rows (signed side ms) → Signs false system.rows (signed side (slice_set ms r m))
+    → RowSign equal false (signed_number side m) → Signs false system.rows (signed_multipliers side ms) → Signs false system.rows (signed_multipliers side (slice_set ms r m))
 set_signs system side r equal bound m ms known s h =
     subst (Signs false system.rows) (sym (signed_set side ms r m))
-    (signs_set system.rows (signed side ms) r known.there (signed_number side m) h known.at
+    (signs_set system.rows (signed_multipliers side ms) r known.there (signed_number side m) h known.at
     (subst (λ (b : Bool). RowSign b false (signed_number side m)) (sym known.equal_is) s))
 
 slack_sign : (side : Side) (r : ℕ) (equal : Bool) (bound t : ℤ) → is_suitable side (Slack (record { row = r; equal = equal; bound = bound })) t ≡ false
@@ -143,7 +143,7 @@ slack_sign High r false bound t e = omega (arith, ints)
 slack_sign Low r false bound t e = omega (arith, ints)
 
 pub places_signs : (system : System) (side : Side) (places : List Variable) (ts ms : List ℤ) → AllByRecursion (IsOf system) places → Unsuitable side places ts
-    → Signs false system.rows (signed side ms) → Signs false system.rows (signed side (with_places places ts ms))
+    → Signs false system.rows (signed_multipliers side ms) → Signs false system.rows (signed_multipliers side (with_places places ts ms))
 unfolding with_places
 places_signs system side [] ts ms k u h = h
 places_signs system side (x ∷ places) [] ms k u h = h
@@ -152,7 +152,7 @@ places_signs system side (Slack s ∷ places) (t ∷ ts) ms k u h =
     places_signs system side places ts (slice_set ms s.row (neg_ℤ t)) k.1 u.1
     (set_signs system side s.row s.equal s.bound (neg_ℤ t) ms k.0 (slack_sign side s.row s.equal s.bound t u.0) h)
 
-pub zeros_signs : (side : Side) (rows : List Row) → Signs false rows (signed side (replicate (length rows) (pos 0)))
+pub zeros_signs : (side : Side) (rows : List Row) → Signs false rows (signed_multipliers side (replicate (length rows) (pos 0)))
 zeros_signs High [] = tt
 zeros_signs High (row ∷ rows) = (none row.equal, zeros_signs High rows) where
   none : (equal : Bool) → RowSign equal false (pos 0)

@@ -9,11 +9,11 @@ use Rattle.lin_rows.specs.Gcd.{lcm}
 use Rattle.lin_rows.specs.System.{System}
 use Rattle.farkas_cert.specs.Cert.{Pairs}
 use Rattle.farkas_cert.specs.Proof.{overflow_of}
-use Rattle.farkas_cert.specs.Divided.{over, divided}
+use Rattle.farkas_cert.specs.Divided.{over, divided_numbers}
 use Rattle.farkas_cert.specs.Line.{is_nonzero, all_fit, nonzero_pairs}
 use Rattle.farkas_cert.specs.Elimination.{every}
 use Rattle.farkas_cert.specs.BackSubstitution.{Fraction, whole, fraction}
-use Rattle.tableau_elim.specs.Tableau.{Line, Tableau, divisor_of, given, sum_of_line, are_same, comes_before, pivot_at, pivoted}
+use Rattle.tableau_elim.specs.Tableau.{Line, Tableau, divisor_of, given_tableau, sum_of_line, are_same, comes_before, pivot_at, pivoted_tableau}
 use Rattle.tableau_elim.specs.declared.variable.Variable.{Variable}
 use Rattle.tableau_elim.specs.declared.variable.Variable.TheVariants.{Column, Slack}
 use Rattle.tableau_elim.specs.declared.standing.Side.{Side}
@@ -31,13 +31,13 @@ pub data Outcome : Type 0 where
 -- ---- the line that is looked at
 
 -- A sum is high above its limit, and low below that of an equality.
-abbrev pub compared : Bool → ℤ → ℤ → Standing
-compared equal sum limit = cond (int_lt limit sum) (Out High) (cond (equal && int_lt sum limit) (Out Low) Within)
+abbrev pub standing_to_limit : Bool → ℤ → ℤ → Standing
+standing_to_limit equal sum limit = cond (int_lt limit sum) (Out High) (cond (equal && int_lt sum limit) (Out Low) Within)
 
 abbrev pub standing_by : Bool → Option ℤ → Option ℤ → Standing
 standing_by equal None limit = Unfit
 standing_by equal (Some sum) None = Unfit
-standing_by equal (Some sum) (Some limit) = compared equal sum limit
+standing_by equal (Some sum) (Some limit) = standing_to_limit equal sum limit
 
 -- Where the basic is a slack, the line's sum is compared with the bound of its row times the divisor; both must fit.
 abbrev pub standing_by_basic : List Variable → Line → Variable → Standing
@@ -82,8 +82,8 @@ lower None place = Some place
 lower (Some best) place = Some (cond (comes_before place.1 best.1) place best)
 
 -- the suitable place with the lowest column, or else with the slack of the lowest row
-unfoldable pub chosen : Side → List Variable → List ℤ → Option ℕ
-chosen side places ts = option_map (λ place. place.0) (fold lower None (suitable_from side 0 places ts))
+unfoldable pub chosen_place : Side → List Variable → List ℤ → Option ℕ
+chosen_place side places ts = option_map (λ place. place.0) (fold lower None (suitable_from side 0 places ts))
 
 -- ---- a line that no place can mend
 
@@ -99,18 +99,18 @@ with_places (x ∷ places) [] ms = ms
 with_places (x ∷ places) (t ∷ ts) ms = with_places places ts (with_multiplier x (neg_ℤ t) ms)
 
 -- the divisor for the line's own row; in a low line all with the other sign
-abbrev pub signed : Side → List ℤ → List ℤ
-signed High ms = ms
-signed Low ms = map neg_ℤ ms
+abbrev pub signed_multipliers : Side → List ℤ → List ℤ
+signed_multipliers High ms = ms
+signed_multipliers Low ms = map neg_ℤ ms
 
 unfoldable pub multipliers : Side → ℕ → List Variable → Line → List ℤ
 multipliers side rows places line =
-    signed side (with_places places (drop 1 line.numbers) (with_multiplier line.basic (divisor_of line) (replicate rows (pos 0))))
+    signed_multipliers side (with_places places (drop 1 line.numbers) (with_multiplier line.basic (divisor_of line) (replicate rows (pos 0))))
 
 -- They are divided by their greatest common divisor and refute, where each product and partial sum of the check fits.
-unfoldable pub refuted : System → Side → List Variable → Line → Outcome
-refuted system side places line =
-    let pairs = nonzero_pairs 1 (divided (multipliers side (length system.rows) places line)) in
+unfoldable pub refuted_outcome : System → Side → List Variable → Line → Outcome
+refuted_outcome system side places line =
+    let pairs = nonzero_pairs 1 (divided_numbers (multipliers side (length system.rows) places line)) in
     if is_none (overflow_of system.rows pairs) then Refuted pairs else GaveUp
 
 -- ---- the point
@@ -148,20 +148,20 @@ pub data Found : Type 0 where
   Pivots : ℕ → Line → Found
 
 abbrev pub found_by_place : System → Side → List Variable → Line → Option ℕ → Found
-found_by_place system side places line None = Ends (refuted system side places line)
+found_by_place system side places line None = Ends (refuted_outcome system side places line)
 found_by_place system side places line (Some j) = Pivots j line
 
 abbrev pub found_by_standing : System → List Variable → Line → Standing → Found
 found_by_standing system places line Within = Ends GaveUp
-found_by_standing system places line (Out side) = found_by_place system side places line (chosen side places (drop 1 line.numbers))
+found_by_standing system places line (Out side) = found_by_place system side places line (chosen_place side places (drop 1 line.numbers))
 found_by_standing system places line Unfit = Ends GaveUp
 
 abbrev pub found_by_line : System → Tableau → Option Line → Found
 found_by_line system tableau None = Ends (point_of system.columns tableau)
 found_by_line system tableau (Some line) = found_by_standing system tableau.places line (standing_of tableau.places line)
 
-unfoldable pub found : System → Tableau → Found
-found system tableau = found_by_line system tableau (first_out tableau)
+unfoldable pub round_of : System → Tableau → Found
+round_of system tableau = found_by_line system tableau (first_out tableau)
 
 abbrev pub at_end : Found → Option Outcome
 at_end (Ends outcome) = Some outcome
@@ -173,12 +173,12 @@ after_pivot more (Some tableau) = more tableau
 
 abbrev pub goes_on : (Tableau → Option Outcome) → Tableau → Found → Option Outcome
 goes_on more tableau (Ends outcome) = Some outcome
-goes_on more tableau (Pivots j line) = after_pivot more (pivoted (pivot_at j line tableau) tableau)
+goes_on more tableau (Pivots j line) = after_pivot more (pivoted_tableau (pivot_at j line tableau) tableau)
 
 -- what a tableau comes to where so many pivots may be made; nothing where one more is wanted
 unfoldable pub ended_within : ℕ → System → Tableau → Option Outcome
-ended_within zero system tableau = at_end (found system tableau)
-ended_within (suc pivots) system tableau = goes_on (ended_within pivots system) tableau (found system tableau)
+ended_within zero system tableau = at_end (round_of system tableau)
+ended_within (suc pivots) system tableau = goes_on (ended_within pivots system) tableau (round_of system tableau)
 
 abbrev pub most_pivots : System → ℕ
 most_pivots system = 4 * (length system.rows + system.columns)
@@ -189,4 +189,4 @@ outcome_after pivots system tableau = unwrap_or (ended_within pivots system tabl
 
 -- what the tableau of a system comes to
 unfoldable pub outcome_of : System → Outcome
-outcome_of system = outcome_after (most_pivots system) system (given system)
+outcome_of system = outcome_after (most_pivots system) system (given_tableau system)

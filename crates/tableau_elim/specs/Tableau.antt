@@ -4,10 +4,10 @@ use Rattle.std.specs.Prelude.{ℕ, suc, ℤ, pos, neg_ℤ, ◌*ℤ◌, unsigned_
 use Rattle.std.specs.Int.{int_signum}
 use Rattle.std.specs.List.{range_with_len}
 use Rattle.std.specs.Option.{option_map}
-use Rattle.lin_rows.specs.Row.{Row, scaled}
+use Rattle.lin_rows.specs.Row.{Row, multiple_of}
 use Rattle.lin_rows.specs.Sum.{sum_in_order}
 use Rattle.lin_rows.specs.System.{System}
-use Rattle.farkas_cert.specs.Divided.{divided}
+use Rattle.farkas_cert.specs.Divided.{divided_numbers}
 use Rattle.farkas_cert.specs.Line.{is_nonzero, combination, combination_fits}
 use Rattle.farkas_cert.specs.Elimination.{every}
 use Rattle.tableau_elim.specs.declared.variable.Variable.{Variable}
@@ -58,8 +58,8 @@ given_lines k [] = []
 given_lines k (row ∷ rows) =
     record { basic = Slack (record { row = k; equal = row.equal; bound = row.bound }); numbers = pos 1 ∷ row.coefficients } ∷ given_lines (suc k) rows
 
-abbrev pub given : System → Tableau
-given system = record { lines = given_lines 0 system.rows; places = map Column (range_with_len 0 system.columns) }
+abbrev pub given_tableau : System → Tableau
+given_tableau system = record { lines = given_lines 0 system.rows; places = map Column (range_with_len 0 system.columns) }
 
 -- the sum of a line's numbers times the values at the places, in order; nothing where a product or a sum up to it does not fit
 unfoldable pub sum_of_line : List Variable → Line → Option ℤ
@@ -93,31 +93,31 @@ pivot_at j line tableau = record {
 
 -- The line is solved for the entering variable. With p at the place, |p| is the divisor, sign(p) times the old divisor stands at the
 -- place, and each other number t becomes -sign(p) t.
-unfoldable pub solved : Pivot → Line
-solved pivot = record {
+unfoldable pub solved_line : Pivot → Line
+solved_line pivot = record {
   basic = pivot.entering;
-  numbers = divided (slice_set (scaled (neg_ℤ (int_signum pivot.number)) pivot.moved) 0 (pos (unsigned_abs pivot.number)));
+  numbers = divided_numbers (slice_set (multiple_of (neg_ℤ (int_signum pivot.number)) pivot.moved) 0 (pos (unsigned_abs pivot.number)));
 }
 
 -- In another line, with u at the place, this is put in for the entering variable: the divisor is multiplied by |p|, sign(p) u times the
 -- pivot's divisor stands at the place, and each other number t becomes |p| t less sign(p) u times that of the pivot's line. None is
 -- made where a product or a difference does not fit.
-unfoldable pub substituted : Pivot → Line → Option Line
-substituted pivot line =
+unfoldable pub combined_line : Pivot → Line → Option Line
+combined_line pivot line =
     let a = pos (unsigned_abs pivot.number) in
     let b = neg_ℤ (int_signum pivot.number) *ℤ number_at pivot.place line in
     let rest = slice_set line.numbers (suc pivot.place) (pos 0) in
     cond (combination_fits a rest b pivot.moved)
-    (Some (record { basic = line.basic; numbers = divided (combination a rest b pivot.moved) })) None
+    (Some (record { basic = line.basic; numbers = divided_numbers (combination a rest b pivot.moved) })) None
 
 -- Lines without a number at the place stay.
-unfoldable pub changed : Pivot → Line → Option Line
-changed pivot line =
-    cond (are_same line.basic pivot.leaving) (Some (solved pivot))
-    (cond (is_nonzero (number_at pivot.place line)) (substituted pivot line) (Some line))
+unfoldable pub line_after_pivot : Pivot → Line → Option Line
+line_after_pivot pivot line =
+    cond (are_same line.basic pivot.leaving) (Some (solved_line pivot))
+    (cond (is_nonzero (number_at pivot.place line)) (combined_line pivot line) (Some line))
 
 -- the tableau after a pivot
-unfoldable pub pivoted : Pivot → Tableau → Option Tableau
-pivoted pivot tableau =
+unfoldable pub pivoted_tableau : Pivot → Tableau → Option Tableau
+pivoted_tableau pivot tableau =
     option_map (λ lines. record { lines = lines; places = slice_set tableau.places pivot.place pivot.leaving })
-    (every (map (changed pivot) tableau.lines))
+    (every (map (line_after_pivot pivot) tableau.lines))

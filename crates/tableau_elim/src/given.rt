@@ -52,7 +52,7 @@ fn slack_of(rows: &NamedRows<'_>, place: u32, bound: i128) -> Variable
 
 /// The tableau of the given rows.
 pub fn given_tableau(alloc: Global, rows: &NamedRows<'_>) -> Result<Tableau, AllocError>
-    ensures tableau { IfOk result (λ tableau. tableau_of tableau ≡ specs.given rows.now) }
+    ensures tableau { IfOk result (λ tableau. tableau_of tableau ≡ specs.given_tableau rows.now) }
     ensures held { IfOk result IsHeld }
 {
     let places = columns_at_places(alloc, rows.columns())?;

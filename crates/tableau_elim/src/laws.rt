@@ -3,7 +3,7 @@ ghost use Rattle.lin_rows.specs.System.{System, HasWidths, IsRationalPoint};
 ghost use Rattle.farkas_cert.specs.Cert.{Pairs};
 ghost use Rattle.farkas_cert.specs.Proof.{Proves};
 ghost use Rattle.farkas_cert.specs.Reduced.{IsReduced};
-ghost use Rattle.tableau_elim.specs.Tableau.{given};
+ghost use Rattle.tableau_elim.specs.Tableau.{given_tableau};
 ghost use Rattle.tableau_elim.specs.Rounds.{Outcome, Refuted, Point, ended_within, outcome_of};
 
 /// A certificate with which the tableau ends proves, and has no common divisor: a law, and no code.
@@ -19,5 +19,5 @@ pub fn point_is_a_point()
 
 /// Where the tableau has ended after some pivots, leave for more changes nothing: a law, and no code.
 pub fn more_pivots_change_nothing()
-    ensures { (system : System) (pivots more : ℕ) (outcome : Outcome) → pivots ≤ more → ended_within pivots system (given system) ≡ Some outcome → ended_within more system (given system) ≡ Some outcome }
+    ensures { (system : System) (pivots more : ℕ) (outcome : Outcome) → pivots ≤ more → ended_within pivots system (given_tableau system) ≡ Some outcome → ended_within more system (given_tableau system) ≡ Some outcome }
 {}

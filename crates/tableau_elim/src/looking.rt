@@ -36,7 +36,7 @@ pub fn sum_of_line(tableau: &Tableau, values: &[i128], line: usize) -> Option<i1
 
 /// How a sum stands to its limit.
 fn standing_by_limit(equal: bool, sum: i128, limit: i128) -> Standing
-    ensures { result ≡ specs.compared equal sum limit }
+    ensures { result ≡ specs.standing_to_limit equal sum limit }
 {
     if limit < sum {
         Standing::Out(Side::High)

@@ -2,7 +2,7 @@ ghost use Rattle.std.specs.Prelude.{◌≡◌, None, Some, MatchBool, length, ne
 ghost use Rattle.std.specs.Int.{int_signum};
 ghost use Rattle.std.specs.List.{AllByRecursion};
 ghost use Rattle.thr_base.specs.Number.{Fits};
-ghost use Rattle.lin_rows.specs.Row.{scaled};
+ghost use Rattle.lin_rows.specs.Row.{multiple_of};
 ghost use Rattle.farkas_cert.specs.Combination.{combined_numbers};
 
 use farkas_cert::combined_number;
@@ -39,7 +39,7 @@ pub fn with_other_sign(p: i128, number: i128) -> i128
 /// Each number gets the sign that `p` has not.
 pub fn turn(numbers: &mut [i128], p: i128)
     requires { AllByRecursion Fits numbers.old }
-    ensures { numbers.new ≡ scaled (neg_ℤ (int_signum p)) numbers.old }
+    ensures { numbers.new ≡ multiple_of (neg_ℤ (int_signum p)) numbers.old }
 {
     for number in numbers.iter_mut() {
         *number = with_other_sign(p, *number);

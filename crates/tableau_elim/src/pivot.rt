@@ -2,7 +2,7 @@ ghost use Rattle.std.specs.Prelude.{◌≡◌, ◌≢◌, ◌<◌, ◌+◌, suc,
 ghost use Rattle.std.specs.Int.{int_signum};
 ghost use Rattle.std.specs.List.{AllByRecursion};
 ghost use Rattle.thr_base.specs.Number.{Fits};
-ghost use Rattle.lin_rows.specs.Row.{scaled};
+ghost use Rattle.lin_rows.specs.Row.{multiple_of};
 ghost use Rattle.tableau_elim.specs.Tableau as specs;
 ghost use Rattle.tableau_elim.specs.inside.Held.{pivot_of, IsPivot};
 
@@ -65,10 +65,10 @@ impl Pivot {
     }
 
     /// The numbers of the pivot's own line.
-    #[tactic(auto, unfolding(crate::specs::Tableau::solved))]
+    #[tactic(auto, unfolding(crate::specs::Tableau::solved_line))]
     fn solve(&self, numbers: &mut [i128])
         requires known { IsPivot (length numbers.old) (pivot_of self.now) }
-        ensures { numbers.new ≡ (specs.solved (pivot_of self.now)).numbers }
+        ensures { numbers.new ≡ (specs.solved_line (pivot_of self.now)).numbers }
     {
         numbers.copy_from_slice(self.moved.as_slice());
         turn(numbers, self.number);
@@ -77,11 +77,11 @@ impl Pivot {
     }
 
     /// What the pivot's line says is put into another line, unless a number does not fit.
-    #[tactic(auto, unfolding(crate::specs::Tableau::substituted))]
+    #[tactic(auto, unfolding(crate::specs::Tableau::combined_line))]
     fn substitute(&self, numbers: &mut [i128]) -> bool
         requires known { IsPivot (length numbers.old) (pivot_of self.now) }
         requires fits { AllByRecursion Fits numbers.old }
-        ensures { (basic : Variable) → MatchBool result (specs.substituted (pivot_of self.now) (record { basic = basic; numbers = numbers.old }) ≡ Some (record { basic = basic; numbers = numbers.new })) (specs.substituted (pivot_of self.now) (record { basic = basic; numbers = numbers.old }) ≡ None) }
+        ensures { (basic : Variable) → MatchBool result (specs.combined_line (pivot_of self.now) (record { basic = basic; numbers = numbers.old }) ≡ Some (record { basic = basic; numbers = numbers.new })) (specs.combined_line (pivot_of self.now) (record { basic = basic; numbers = numbers.old }) ≡ None) }
     {
         let share = with_other_sign(self.number, numbers[self.place + 1]);
         numbers[self.place + 1] = 0;
@@ -93,11 +93,11 @@ impl Pivot {
     }
 
     /// Changes a line, unless a number does not fit. Answers whether all fit.
-    #[tactic(auto, unfolding(crate::specs::Tableau::changed))]
+    #[tactic(auto, unfolding(crate::specs::Tableau::line_after_pivot))]
     pub fn change(&self, basic: &mut Variable, numbers: &mut [i128]) -> bool
         requires known { IsPivot (length numbers.old) (pivot_of self.now) }
         requires fits { AllByRecursion Fits numbers.old }
-        ensures { MatchBool result (specs.changed (pivot_of self.now) (record { basic = basic.old; numbers = numbers.old }) ≡ Some (record { basic = basic.new; numbers = numbers.new })) (specs.changed (pivot_of self.now) (record { basic = basic.old; numbers = numbers.old }) ≡ None) }
+        ensures { MatchBool result (specs.line_after_pivot (pivot_of self.now) (record { basic = basic.old; numbers = numbers.old }) ≡ Some (record { basic = basic.new; numbers = numbers.new })) (specs.line_after_pivot (pivot_of self.now) (record { basic = basic.old; numbers = numbers.old }) ≡ None) }
     {
         if basic.is_same(&self.leaving) {
             *basic = self.entering;

@@ -49,10 +49,10 @@ fn better(
 }
 
 /// The suitable place whose variable comes first.
-#[tactic(auto, unfolding(crate::specs::Rounds::chosen))]
+#[tactic(auto, unfolding(crate::specs::Rounds::chosen_place))]
 pub fn chosen_place(side: Side, places: &[Variable], numbers: &[i128]) -> Option<usize>
     requires { length numbers.now ≡ length places.now }
-    ensures { result ≡ specs.chosen side places.now numbers.now }
+    ensures { result ≡ specs.chosen_place side places.now numbers.now }
 {
     let mut best = None;
     'places: for place in 0..places.len() {

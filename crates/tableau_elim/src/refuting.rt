@@ -2,7 +2,7 @@ ghost use Rattle.std.specs.Prelude.{◌≡◌, ◌<◌, ◌-◌, ◌^◌, drop, 
 ghost use Rattle.std.specs.List.{AllByRecursion};
 ghost use Rattle.thr_base.specs.Number.{Fits};
 ghost use Rattle.lin_rows.specs.System.{HasWidths};
-ghost use Rattle.farkas_cert.specs.Divided.{divided};
+ghost use Rattle.farkas_cert.specs.Divided.{divided_numbers};
 ghost use Rattle.farkas_cert.specs.Line.{nonzero_pairs};
 ghost use Rattle.tableau_elim.specs.Tableau.{divisor_of};
 ghost use Rattle.tableau_elim.specs.Rounds as specs;
@@ -51,7 +51,7 @@ fn set_for_places(multipliers: &mut [i128], places: &[Variable], numbers: &[i128
 /// Gives all multipliers the sign that the side asks for.
 fn sign(multipliers: &mut [i128], side: Side)
     requires { AllByRecursion Fits multipliers.old }
-    ensures { multipliers.new ≡ specs.signed side multipliers.old }
+    ensures { multipliers.new ≡ specs.signed_multipliers side multipliers.old }
 {
     match side {
         Side::High => {}
@@ -82,7 +82,7 @@ fn weigh(multipliers: &mut [i128], side: Side, tableau: &Tableau, line: usize)
     requires held { IsHeld tableau.now }
     requires within { line < length tableau.now.basics.items }
     requires zeros { multipliers.old ≡ replicate (length multipliers.old) (pos 0) }
-    ensures { multipliers.new ≡ divided (specs.multipliers side (length multipliers.old) tableau.now.places.items (line_at line (tableau_of tableau.now))) }
+    ensures { multipliers.new ≡ divided_numbers (specs.multipliers side (length multipliers.old) tableau.now.places.items (line_at line (tableau_of tableau.now))) }
 {
     set_all(multipliers, tableau, line);
     sign(multipliers, side);
@@ -99,7 +99,7 @@ fn certificate(
 ) -> Result<Cert, AllocError>
     requires held { IsHeld tableau.now }
     requires within { line < length tableau.now.basics.items }
-    ensures { IfOk result (λ cert. cert ≡ nonzero_pairs 1 (divided (specs.multipliers side rows tableau.now.places.items (line_at line (tableau_of tableau.now))))) }
+    ensures { IfOk result (λ cert. cert ≡ nonzero_pairs 1 (divided_numbers (specs.multipliers side rows tableau.now.places.items (line_at line (tableau_of tableau.now))))) }
 {
     let mut multipliers = vec![in alloc; 0; rows as usize]?;
     weigh(&mut multipliers, side, tableau, line);
@@ -118,7 +118,7 @@ pub fn refutation(
     requires held { IsHeld tableau.now }
     requires within { line < length tableau.now.basics.items }
     requires widths { HasWidths rows.now }
-    requires leads { specs.outcome_of rows.now ≡ specs.refuted rows.now side tableau.now.places.items (line_at line (tableau_of tableau.now)) }
+    requires leads { specs.outcome_of rows.now ≡ specs.refuted_outcome rows.now side tableau.now.places.items (line_at line (tableau_of tableau.now)) }
     ensures { IfOk result (λ tried. outcome_in tried ≡ specs.outcome_of rows.now) }
 {
     let cert = certificate(alloc, side, rows.count(), tableau, line)?;

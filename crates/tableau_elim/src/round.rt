@@ -35,8 +35,8 @@ fn mended_by_place(
     requires held { IsHeld tableau.now }
     requires within { line < length tableau.now.basics.items }
     requires widths { HasWidths rows.now }
-    requires leads { let at = line_at line (tableau_of tableau.now) in specs.chosen side tableau.now.places.items (drop 1 at.numbers) ≡ None → specs.outcome_of rows.now ≡ specs.refuted rows.now side tableau.now.places.items at }
-    ensures found { let at = line_at line (tableau_of tableau.now) in IfOk result (λ found. found_of (tableau_of tableau.now) found ≡ specs.found_by_place rows.now side tableau.now.places.items at (specs.chosen side tableau.now.places.items (drop 1 at.numbers))) }
+    requires leads { let at = line_at line (tableau_of tableau.now) in specs.chosen_place side tableau.now.places.items (drop 1 at.numbers) ≡ None → specs.outcome_of rows.now ≡ specs.refuted_outcome rows.now side tableau.now.places.items at }
+    ensures found { let at = line_at line (tableau_of tableau.now) in IfOk result (λ found. found_of (tableau_of tableau.now) found ≡ specs.found_by_place rows.now side tableau.now.places.items at (specs.chosen_place side tableau.now.places.items (drop 1 at.numbers))) }
     ensures place { IfOk result (IsForPivot tableau.now) }
 {
     let numbers = tableau.numbers_of(line);
@@ -60,7 +60,7 @@ fn mended_by_standing(
     requires held { IsHeld tableau.now }
     requires within { line < length tableau.now.basics.items }
     requires widths { HasWidths rows.now }
-    requires leads { let at = line_at line (tableau_of tableau.now) in (side : Side) → standing ≡ Standing.Out side → specs.chosen side tableau.now.places.items (drop 1 at.numbers) ≡ None → specs.outcome_of rows.now ≡ specs.refuted rows.now side tableau.now.places.items at }
+    requires leads { let at = line_at line (tableau_of tableau.now) in (side : Side) → standing ≡ Standing.Out side → specs.chosen_place side tableau.now.places.items (drop 1 at.numbers) ≡ None → specs.outcome_of rows.now ≡ specs.refuted_outcome rows.now side tableau.now.places.items at }
     ensures found { let at = line_at line (tableau_of tableau.now) in IfOk result (λ found. found_of (tableau_of tableau.now) found ≡ specs.found_by_standing rows.now tableau.now.places.items at standing) }
     ensures place { IfOk result (IsForPivot tableau.now) }
 {
@@ -74,8 +74,8 @@ fn mended_by_standing(
 pub fn round(alloc: Global, rows: &NamedRows<'_>, tableau: &Tableau) -> Result<Found, AllocError>
     requires held { IsHeld tableau.now }
     requires widths { HasWidths rows.now }
-    requires leads { (outcome : Outcome) → specs.found rows.now (tableau_of tableau.now) ≡ specs.Ends outcome → specs.outcome_of rows.now ≡ outcome }
-    ensures found { IfOk result (λ found. found_of (tableau_of tableau.now) found ≡ specs.found rows.now (tableau_of tableau.now)) }
+    requires leads { (outcome : Outcome) → specs.round_of rows.now (tableau_of tableau.now) ≡ specs.Ends outcome → specs.outcome_of rows.now ≡ outcome }
+    ensures found { IfOk result (λ found. found_of (tableau_of tableau.now) found ≡ specs.round_of rows.now (tableau_of tableau.now)) }
     ensures place { IfOk result (IsForPivot tableau.now) }
 {
     let values = values_at_places(alloc, tableau.places.as_slice())?;

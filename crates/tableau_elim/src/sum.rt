@@ -1,13 +1,13 @@
 ghost use Rattle.std.specs.Prelude.{◌≡◌, pos, ◌*ℤ◌, length};
 ghost use Rattle.thr_base.specs.Number.{Fits};
-ghost use Rattle.lin_rows.specs.Sum.{summed, sum_in_order};
+ghost use Rattle.lin_rows.specs.Sum.{sum_with_product, sum_in_order};
 
 use lin_rows::{product_if_fits, sum_if_fits};
 
 /// The sum with one more product, where both fit. The lines are mostly 0, so that is looked at first.
 fn with_product(sum: i128, number: i128, value: i128) -> Option<i128>
     requires { Fits sum }
-    ensures { result ≡ summed sum (number *ℤ value) }
+    ensures { result ≡ sum_with_product sum (number *ℤ value) }
 {
     if number == 0 {
         Some(sum)

@@ -90,7 +90,7 @@ impl Tableau {
         requires line { line < length self.basics.items }
         requires place { place < length self.places.items }
         requires number { specs.number_at place (line_at line (tableau_of self)) ≢ pos 0 }
-        ensures tableau { IfOk result (λ made. option_map tableau_of made ≡ specs.pivoted (specs.pivot_at place (line_at line (tableau_of self)) (tableau_of self)) (tableau_of self)) }
+        ensures tableau { IfOk result (λ made. option_map tableau_of made ≡ specs.pivoted_tableau (specs.pivot_at place (line_at line (tableau_of self)) (tableau_of self)) (tableau_of self)) }
         ensures held { IfOk result (λ made. IfSome made IsHeld) }
         ensures sizes { IfOk result (λ made. IfSome made (λ next. (length next.basics.items ≡ length self.basics.items) × (length next.places.items ≡ length self.places.items))) }
     {
@@ -110,7 +110,7 @@ fn change_all(basics: &mut [Variable], numbers: &mut [i128], width: usize, pivot
     requires size { length numbers.old ≡ length basics.old * width }
     requires known { IsPivot width (pivot_of pivot.now) }
     requires sound { AllByRecursion IsSound (lines_of width basics.old numbers.old) }
-    ensures { MatchBool result (every (map (specs.changed (pivot_of pivot.now)) (lines_of width basics.old numbers.old)) ≡ Some (lines_of width basics.new numbers.new)) (every (map (specs.changed (pivot_of pivot.now)) (lines_of width basics.old numbers.old)) ≡ None) }
+    ensures { MatchBool result (every (map (specs.line_after_pivot (pivot_of pivot.now)) (lines_of width basics.old numbers.old)) ≡ Some (lines_of width basics.new numbers.new)) (every (map (specs.line_after_pivot (pivot_of pivot.now)) (lines_of width basics.old numbers.old)) ≡ None) }
 {
     'lines: for line in 0..basics.len() {
         if !pivot.change(

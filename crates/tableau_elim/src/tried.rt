@@ -1,7 +1,7 @@
 ghost use Rattle.std.specs.Prelude.{◌≡◌, ◌+◌, ◌*◌, length, IfOk};
 ghost use Rattle.lin_rows.specs.System.{HasWidths};
 ghost use Rattle.lin_rows.specs.View.{system_of};
-ghost use Rattle.tableau_elim.specs.Tableau.{given};
+ghost use Rattle.tableau_elim.specs.Tableau.{given_tableau};
 ghost use Rattle.tableau_elim.specs.Rounds as specs;
 ghost use Rattle.tableau_elim.specs.Decision.{outcome_in, IsEvidence};
 ghost use Rattle.tableau_elim.specs.inside.Held.{tableau_of, IsHeld};

@@ -47,6 +47,6 @@ pub record IsOwnText (threads i : ℕ) (text : List ℕ) : Type 0 where
   pub text_is : text ≡ own_text i name
 
 -- The text is that of a column with this owner, in a program of so many threads.
-abbrev pub IsTextOf : ℕ → Option ℕ → List ℕ → Type 0
-IsTextOf threads None text = IsSharedText threads text
-IsTextOf threads (Some i) text = IsOwnText threads i text
+abbrev pub IsColumnText : ℕ → Option ℕ → List ℕ → Type 0
+IsColumnText threads None text = IsSharedText threads text
+IsColumnText threads (Some i) text = IsOwnText threads i text

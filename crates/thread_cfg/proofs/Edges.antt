@@ -11,7 +11,7 @@ use Rattle.lin_rows.specs.System.{IsRowOver}
 use Rattle.lin_rows.proofs.Lists.{AllByRecursion-map}
 use Rattle.lin_rows.proofs.Numbers.{zero_fits}
 use Rattle.transition_formula.specs.Program.{Edge, Form, IsFormOver}
-use Rattle.transition_formula.specs.Step.{assigned, value_of}
+use Rattle.transition_formula.specs.Step.{after_sets, value_of}
 use Rattle.transition_formula.specs.Laws.{MeetsAll}
 use Rattle.transition_formula.specs.Forms.{column_form, constant_form}
 use Rattle.transition_formula.proofs.NextValues.{AreSet, get_or-assigned, is_set, length-assigned, next_value-from, range-from, range-to}
@@ -133,11 +133,11 @@ module _ (columns : ℕ) (frame : Frame) (events : List Event) (width : ℕ) (la
       ∙ ap (λ values. get_or values c (pos 0)) first
 
   -- What the sets leave is what the forms are worth.
-  pub sets-assigned : assigned (with_forms (form_at width last) (set_columns columns frame events)) z before ≡ worths z last.forms
+  pub sets-assigned : after_sets (with_forms (form_at width last) (set_columns columns frame events)) z before ≡ worths z last.forms
   sets-assigned =
       let sets = with_forms (form_at width last) (set_columns columns frame events) in
       let long = length-assigned sets z before in
-      ext_get_or (pos 0) (assigned sets z before) (worths z last.forms)
+      ext_get_or (pos 0) (after_sets sets z before) (worths z last.forms)
       (long ∙ length_is ∙ sym (length-map last.forms (λ form. value_of form z) ∙ forms-length))
       (λ c h.
       let within : c < columns = omega (arith, long) in

@@ -1,8 +1,8 @@
 -- States: values in front, and the counters behind them.
 use Rattle.std.proofs.Common.{◌≡◌, ℕ, zero, suc, ◌+◌, ◌-◌, ◌<◌, ◌≤◌, ℤ, pos, negsuc, List, [], ◌∷◌, ◌++◌, length, map, Option, Some, option_map, refl, sym, ap, subst, arith, slice_get, slice_set, ◌∙◌}
 use Rattle.std.specs.List.{AllByRecursion}
-use Rattle.transition_formula.specs.Program.{Form, numbered}
-use Rattle.transition_formula.specs.Step.{assigned, value_of}
+use Rattle.transition_formula.specs.Program.{Form, at_number}
+use Rattle.transition_formula.specs.Step.{after_sets, value_of}
 use Rattle.thread_cfg.specs.SameSteps.{state_of}
 use Rattle.thread_cfg.proofs.Numbered.{none-some, some-same}
 
@@ -62,7 +62,7 @@ pub record Front (values : List ℤ) (counters whole : List ℤ) : Type 0 where
   pub as_long : length front ≡ length values
   pub whole_is : whole ≡ front ++ counters
 
-pub assigned-front : (sets : List (ℕ × Form)) (z values counters : List ℤ) → AllByRecursion (λ (set : ℕ × Form). set.0 < length values) sets → Front values counters (assigned sets z (values ++ counters))
+pub assigned-front : (sets : List (ℕ × Form)) (z values counters : List ℤ) → AllByRecursion (λ (set : ℕ × Form). set.0 < length values) sets → Front values counters (after_sets sets z (values ++ counters))
 assigned-front [] z values counters all = record { front = values; as_long = refl; whole_is = refl }
 assigned-front (set ∷ sets) z values counters all =
     let more = assigned-front sets z values counters all.1 in
@@ -96,21 +96,21 @@ pos-same a b e = ap (λ z. elim z as (λ _. ℕ) [ pos n ↦ n | negsuc n ↦ 0 
 
 -- ---- numbers from 1
 
-pub numbered-get : {X : Type 0} → (xs : List X) (i : ℕ) (x : X) → numbered xs i ≡ Some x → (1 ≤ i) × (slice_get xs (i - 1) ≡ Some x)
+pub numbered-get : {X : Type 0} → (xs : List X) (i : ℕ) (x : X) → at_number xs i ≡ Some x → (1 ≤ i) × (slice_get xs (i - 1) ≡ Some x)
 numbered-get xs zero x e = absurd (none-some x e)
 numbered-get xs (suc j) x e = (omega arith, rw (back j) e)
   where
     back : (j : ℕ) → suc j - 1 ≡ j
     back j = omega arith
 
-pub get-numbered : {X : Type 0} → (xs : List X) (i : ℕ) (o : Option X) → 1 ≤ i → slice_get xs (i - 1) ≡ o → numbered xs i ≡ o
+pub get-numbered : {X : Type 0} → (xs : List X) (i : ℕ) (o : Option X) → 1 ≤ i → slice_get xs (i - 1) ≡ o → at_number xs i ≡ o
 get-numbered xs zero o h e = absurd (omega (arith, h))
 get-numbered xs (suc j) o h e = subst (λ m. slice_get xs m ≡ o) (back j) e
   where
     back : (j : ℕ) → suc j - 1 ≡ j
     back j = omega arith
 
-pub numbered-set : {X : Type 0} → (xs : List X) (i j : ℕ) (x y : X) → 1 ≤ i → ¬ (j ≡ i) → numbered (slice_set xs (i - 1) x) j ≡ Some y → numbered xs j ≡ Some y
+pub numbered-set : {X : Type 0} → (xs : List X) (i j : ℕ) (x y : X) → 1 ≤ i → ¬ (j ≡ i) → at_number (slice_set xs (i - 1) x) j ≡ Some y → at_number xs j ≡ Some y
 numbered-set xs i zero x y h d e = absurd (none-some y e)
 numbered-set xs zero (suc j) x y h d e = absurd (omega (arith, h))
 numbered-set xs (suc i) (suc j) x y h d e =
@@ -119,10 +119,10 @@ numbered-set xs (suc i) (suc j) x y h d e =
     back : (i : ℕ) → suc i - 1 ≡ i
     back i = omega arith
 
-pub numbered-same : {X : Type 0} → (xs : List X) (i : ℕ) (x y : X) → 1 ≤ i → i ≤ length xs → numbered (slice_set xs (i - 1) x) i ≡ Some y → x ≡ y
+pub numbered-same : {X : Type 0} → (xs : List X) (i : ℕ) (x y : X) → 1 ≤ i → i ≤ length xs → at_number (slice_set xs (i - 1) x) i ≡ Some y → x ≡ y
 numbered-same xs i x y h w e =
     let here = get-exists xs (i - 1) (omega (arith, h, w)) in
     some-same x y (sym (get-set xs (i - 1) x here.0 here.1) ∙ (numbered-get (slice_set xs (i - 1) x) i y e).1)
 
-pub get-all : {X : Type 0} → (xs : List X) (i : ℕ) → 1 ≤ i → i ≤ length xs → (x : X) × (numbered xs i ≡ Some x)
+pub get-all : {X : Type 0} → (xs : List X) (i : ℕ) → 1 ≤ i → i ≤ length xs → (x : X) × (at_number xs i ≡ Some x)
 get-all xs i some among = let here = get-exists xs (i - 1) (omega (arith, some, among)) in (here.0, get-numbered xs i (Some here.0) some here.1)

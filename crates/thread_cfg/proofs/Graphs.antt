@@ -12,7 +12,7 @@ use Rattle.c_check.specs.Program.{created_of}
 use Rattle.c_check.specs.Check.{IsPlanOf}
 use Rattle.c_check.specs.Columns.{columns_of, counters_from, own_columns_from, own_count, owns_of, shared_columns, threads_from}
 use Rattle.c_check.specs.WellFormed.{IsWellFormedPlan}
-use Rattle.transition_formula.specs.Program.{Edge, IsEdgeOf, IsProgram, Thread, numbered}
+use Rattle.transition_formula.specs.Program.{Edge, IsEdgeOf, IsProgram, Thread, at_number}
 use Rattle.thread_cfg.specs.Threads.{Running, threads_running}
 use Rattle.thread_cfg.specs.Graph.{actions_of, edges_from, locations_of, program_column, program_of, refusals_from, refusals_of, thread_graph, thread_refusals}
 use Rattle.thread_cfg.specs.SameSteps.{SameSteps}
@@ -30,19 +30,19 @@ use Rattle.thread_cfg.proofs.Interleavings.{IsKnown, all-has, fails-alike, state
 
 -- ---- lists
 
-numbered-map : {X Y : Type 0} → (f : X → Y) (xs : List X) (i : ℕ) (x : X) → numbered xs i ≡ Some x → numbered (map f xs) i ≡ Some (f x)
+numbered-map : {X Y : Type 0} → (f : X → Y) (xs : List X) (i : ℕ) (x : X) → at_number xs i ≡ Some x → at_number (map f xs) i ≡ Some (f x)
 numbered-map f xs zero x e = absurd (none-some x e)
 numbered-map f [] (suc i) x e = absurd (none-some x e)
 numbered-map f (y ∷ xs) (suc zero) x e = ap (λ z. Some (f z)) (some-same y x e)
 numbered-map f (y ∷ xs) (suc (suc i)) x e = numbered-map f xs (suc i) x e
 
-numbered-below : {X : Type 0} → (xs : List X) (i : ℕ) (x : X) → numbered xs i ≡ Some x → (1 ≤ i) × (i ≤ length xs)
+numbered-below : {X : Type 0} → (xs : List X) (i : ℕ) (x : X) → at_number xs i ≡ Some x → (1 ≤ i) × (i ≤ length xs)
 numbered-below xs zero x e = absurd (none-some x e)
 numbered-below [] (suc i) x e = absurd (none-some x e)
 numbered-below (y ∷ xs) (suc zero) x e = (omega arith, omega arith)
 numbered-below (y ∷ xs) (suc (suc i)) x e = let m = numbered-below xs (suc i) x e in (omega arith, omega (arith, m.1))
 
-flat-none : {X Y : Type 0} → (f : X → List Y) (xs : List X) (i : ℕ) (x : X) → flat_map f xs ≡ [] → numbered xs i ≡ Some x → f x ≡ []
+flat-none : {X Y : Type 0} → (f : X → List Y) (xs : List X) (i : ℕ) (x : X) → flat_map f xs ≡ [] → at_number xs i ≡ Some x → f x ≡ []
 flat-none f xs zero x e at = absurd (none-some x at)
 flat-none f [] (suc i) x e at = absurd (none-some x at)
 flat-none f (y ∷ xs) (suc zero) x e at = subst (λ z. f z ≡ []) (some-same y x at) (empty-front (f y) (flat_map f xs) e)
@@ -53,13 +53,13 @@ take-front [] ys = refl
 take-front (x ∷ xs) ys = ap (λ l. x ∷ l) (take-front xs ys)
 
 -- an element of a list that is mapped is what one is mapped to
-mapped-numbered : {X Y : Type 0} → (f : X → Y) (xs : List X) (i : ℕ) (y : Y) → numbered (map f xs) i ≡ Some y → (x : X) × (numbered xs i ≡ Some x) × (f x ≡ y)
+mapped-numbered : {X Y : Type 0} → (f : X → Y) (xs : List X) (i : ℕ) (y : Y) → at_number (map f xs) i ≡ Some y → (x : X) × (at_number xs i ≡ Some x) × (f x ≡ y)
 mapped-numbered f xs zero y e = absurd (none-some y e)
 mapped-numbered f [] (suc i) y e = absurd (none-some y e)
 mapped-numbered f (x ∷ xs) (suc zero) y e = (x, refl, some-same (f x) y e)
 mapped-numbered f (x ∷ xs) (suc (suc i)) y e = mapped-numbered f xs (suc i) y e
 
-numbered-has : {X : Type 0} → (xs : List X) (x : X) (e : ℕ) → numbered xs e ≡ Some x → Has xs x
+numbered-has : {X : Type 0} → (xs : List X) (x : X) (e : ℕ) → at_number xs e ≡ Some x → Has xs x
 numbered-has xs x zero h = absurd (none-some x h)
 numbered-has xs x (suc e) h = number-has xs x e h
 
@@ -122,14 +122,14 @@ module _ (tree : plain.Tree) (plan : Plan) (is : IsPlanOf tree plan) (well : IsW
   counters-within = omega (arith, fronts-length.1)
 
 module _ (tree : plain.Tree) (plan : Plan) (is : IsPlanOf tree plan) (well : IsWellFormedPlan plan) (fits : refusals_of tree ≡ []) where
-  graph-is : (i : ℕ) (t : Running) → numbered (threads_running tree) i ≡ Some t
+  graph-is : (i : ℕ) (t : Running) → at_number (threads_running tree) i ≡ Some t
       → IsGraphOf (program_of tree) (n tree plan is well) (k tree plan is well) t.frame (length t.function.locals) t.function.body (thread_graph (length (columns_of tree)) (k tree plan is well) t)
   graph-is i t at =
       let r = running-is tree plan is well i t at in
       let among = numbered-below (threads_running tree) i t at in
       let fit = thread-fits (length (columns_of tree)) t (flat-none (thread_refusals (length (columns_of tree))) (threads_running tree) i t fits at) in
       record {
-        thread_is = subst (λ m. numbered (program_of tree).threads m ≡ Some (thread_graph (length (columns_of tree)) (k tree plan is well) t)) (sym r.number)
+        thread_is = subst (λ m. at_number (program_of tree).threads m ≡ Some (thread_graph (length (columns_of tree)) (k tree plan is well) t)) (sym r.number)
             (numbered-map (thread_graph (length (columns_of tree)) (k tree plan is well)) (threads_running tree) i t at);
         some = omega (arith, r.number, among.0);
         among = omega (arith, r.number, among.1);
@@ -192,7 +192,7 @@ module _ (tree : plain.Tree) (plan : Plan) (is : IsPlanOf tree plan) (well : IsW
         alternative = a;
         n = n tree plan is well;
         running_is = found.1;
-        action_is = subst (λ m. numbered (actions_of t) m ≡ Some is_at.action) back is_at.action_is;
+        action_is = subst (λ m. at_number (actions_of t) m ≡ Some is_at.action) back is_at.action_is;
         alternative_is = has-contains is_at.action.alternatives a is_at.is_of.is_there;
         leads = from_to.1;
         columns_are = (fronts-length tree plan is well).1;

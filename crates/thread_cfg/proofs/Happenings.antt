@@ -4,7 +4,7 @@ use Rattle.std.specs.List.{list_any, slice_get, range_with_len}
 use Rattle.std.proofs.lemmas.List.{append_cancel_right, length-append, length-map, length-replicate, map-set, set-append_right}
 use Rattle.std.specs.Option.{option_map}
 use Rattle.std.proofs.lemmas.Option.{slice_get-map}
-use Rattle.transition_formula.specs.Program.{Edge, Thread, numbered}
+use Rattle.transition_formula.specs.Program.{Edge, Thread, at_number}
 use Rattle.transition_formula.specs.Step.{Steps, after_step}
 use Rattle.transition_formula.specs.Forms.{column_form}
 use Rattle.thread_cfg.specs.Source.{Frame}
@@ -47,7 +47,7 @@ slice_get-append_right (x ∷ xs) ys j =
 slice_get-pos : (locations : List ℕ) (j l : ℕ) → slice_get locations j ≡ Some l → slice_get (map pos locations) j ≡ Some (pos l)
 slice_get-pos locations j l e = slice_get-map pos locations j ∙ ap (option_map pos) e
 
-slice_get-numbered : (locations : List ℕ) (i l : ℕ) → 1 ≤ i → numbered locations i ≡ Some l → slice_get locations (i - 1) ≡ Some l
+slice_get-numbered : (locations : List ℕ) (i l : ℕ) → 1 ≤ i → at_number locations i ≡ Some l → slice_get locations (i - 1) ≡ Some l
 slice_get-numbered locations zero l h e = absurd (omega arith)
 slice_get-numbered locations (suc j) l h e = let back : suc j - 1 ≡ j = omega arith in ap (slice_get locations) back ∙ e
 

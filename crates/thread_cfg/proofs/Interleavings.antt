@@ -8,8 +8,8 @@ use Rattle.c_check.specs.Items.{Item, Items}
 use Rattle.c_check.specs.Check.{function_items}
 use Rattle.c_check.specs.Columns.{columns_of, counters_from}
 use Rattle.c_check.specs.Program.{created_of}
-use Rattle.transition_formula.specs.Program.{Edge, Form, IsEdgeOf, IsProgram, IsThreadOf, Program, Thread, numbered}
-use Rattle.transition_formula.specs.Step.{IsInitial, Steps, after_step, assigned, value_of}
+use Rattle.transition_formula.specs.Program.{Edge, Form, IsEdgeOf, IsProgram, IsThreadOf, Program, Thread, at_number}
+use Rattle.transition_formula.specs.Step.{IsInitial, Steps, after_step, after_sets, value_of}
 use Rattle.transition_formula.specs.Run.{IsFailing, Leads, Reaches, RunStep}
 use Rattle.thread_cfg.specs.Source.{DoesFirst, Frame, SourceSteps, Standing, read_as}
 use Rattle.thread_cfg.specs.Threads.{Running, threads_running}
@@ -73,19 +73,19 @@ module _ (tree : plain.Tree) (program : Program) (known : IsKnown tree program) 
   abbrev n : ℕ
   n = length (columns_of tree) - length (threads_running tree)
 
-  lefts_of : (i : ℕ) (o : Option Running) → numbered (threads_running tree) i ≡ o → ℕ → Option Standing
+  lefts_of : (i : ℕ) (o : Option Running) → at_number (threads_running tree) i ≡ o → ℕ → Option Standing
   lefts_of i None e = λ l. None
   lefts_of i (Some t) e = (known.same.steps_are i t e).left
 
   -- what is left at the locations of the i-th thread
   left_at : ℕ → ℕ → Option Standing
-  left_at i = lefts_of i (numbered (threads_running tree) i) refl
+  left_at i = lefts_of i (at_number (threads_running tree) i) refl
 
-  same-at : (i : ℕ) (t : Running) → numbered (threads_running tree) i ≡ Some t → StepsBy tree program (left_at i) t
+  same-at : (i : ℕ) (t : Running) → at_number (threads_running tree) i ≡ Some t → StepsBy tree program (left_at i) t
   unfolding left_at lefts_of
-  same-at i t e = let h = by (numbered (threads_running tree) i) refl e in record { steps = h.0; left_is = h.1 }
+  same-at i t e = let h = by (at_number (threads_running tree) i) refl e in record { steps = h.0; left_is = h.1 }
     where
-      by : (o : Option Running) (p : numbered (threads_running tree) i ≡ o) → o ≡ Some t
+      by : (o : Option Running) (p : at_number (threads_running tree) i ≡ o) → o ≡ Some t
           → (steps : HasSameSteps program n k t.frame (function_items t.function)) × (steps.left ≡ lefts_of i o p)
       by None p q = absurd (none-some t q)
       by (Some s) p q =
@@ -109,12 +109,12 @@ module _ (tree : plain.Tree) (program : Program) (known : IsKnown tree program) 
     stand = λ j l st at stands. by j l st (j == i) refl at stands;
   }
     where
-      by : (j l : ℕ) (st : Standing) (b : Bool) → (j == i) ≡ b → numbered (slice_set t.locations (i - 1) to) j ≡ Some l
-          → numbered (slice_set c.standings (i - 1) next) j ≡ Some st → left_at j l ≡ Some (standing_as st)
+      by : (j l : ℕ) (st : Standing) (b : Bool) → (j == i) ≡ b → at_number (slice_set t.locations (i - 1) to) j ≡ Some l
+          → at_number (slice_set c.standings (i - 1) next) j ≡ Some st → left_at j l ≡ Some (standing_as st)
       by j l st true e at stands =
           let is : j ≡ i = (Decides-eqb j i).0 e in
-          let l_is : to ≡ l = numbered-same t.locations i to l some (omega (arith, among, t.locations_length)) (subst (λ m. numbered (slice_set t.locations (i - 1) to) m ≡ Some l) is at) in
-          let st_is : next ≡ st = numbered-same c.standings i next st some (omega (arith, among, t.standings_length)) (subst (λ m. numbered (slice_set c.standings (i - 1) next) m ≡ Some st) is stands) in
+          let l_is : to ≡ l = numbered-same t.locations i to l some (omega (arith, among, t.locations_length)) (subst (λ m. at_number (slice_set t.locations (i - 1) to) m ≡ Some l) is at) in
+          let st_is : next ≡ st = numbered-same c.standings i next st some (omega (arith, among, t.standings_length)) (subst (λ m. at_number (slice_set c.standings (i - 1) next) m ≡ Some st) is stands) in
           subst (λ m. left_at m l ≡ Some (standing_as st)) (sym is)
           (subst (λ s. left_at i l ≡ Some (standing_as s)) st_is (subst (λ m. left_at i m ≡ Some (standing_as next)) l_is lands))
       by j l st false e at stands =
@@ -142,11 +142,11 @@ module _ (tree : plain.Tree) (program : Program) (known : IsKnown tree program) 
 
   after-length : (thread : Thread) (edge : Edge) (before inputs : List ℤ) → length (after_step thread edge before inputs) ≡ length before
   after-length thread edge before inputs =
-      length-slice_set (assigned edge.sets (before ++ inputs) before) thread.counter (pos edge.to) ∙ assigned-length edge.sets (before ++ inputs) before
+      length-slice_set (after_sets edge.sets (before ++ inputs) before) thread.counter (pos edge.to) ∙ assigned-length edge.sets (before ++ inputs) before
     where
-      assigned-length : (sets : List (ℕ × Form)) (z state : List ℤ) → length (assigned sets z state) ≡ length state
+      assigned-length : (sets : List (ℕ × Form)) (z state : List ℤ) → length (after_sets sets z state) ≡ length state
       assigned-length [] z state = refl
-      assigned-length (s ∷ sets) z state = length-slice_set (assigned sets z state) s.0 (value_of s.1 z) ∙ assigned-length sets z state
+      assigned-length (s ∷ sets) z state = length-slice_set (after_sets sets z state) s.0 (value_of s.1 z) ∙ assigned-length sets z state
 
   values-length : (values counters : List ℤ) (m : ℕ) → length (values ++ counters) ≡ m + length counters → length values ≡ m
   values-length values counters m e = let a = length-append values counters in omega (arith, a, e)
@@ -161,15 +161,15 @@ module _ (tree : plain.Tree) (program : Program) (known : IsKnown tree program) 
       counter : (leads.of_thread.counter ≡ n + (i - 1)) × (1 ≤ i) × (i ≤ k)
       counter = counter-is i leads.of_thread leads.edge_is.thread_is
 
-      go : (running : (x : Running) × (numbered (threads_running tree) i ≡ Some x)) (at : (x : ℕ) × (numbered t.locations i ≡ Some x))
-          (stands : (x : Standing) × (numbered c.standings i ≡ Some x)) → StepsOn c after
+      go : (running : (x : Running) × (at_number (threads_running tree) i ≡ Some x)) (at : (x : ℕ) × (at_number t.locations i ≡ Some x))
+          (stands : (x : Standing) × (at_number c.standings i ≡ Some x)) → StepsOn c after
       go running at stands =
           let thread_no : running.0.frame.thread ≡ i = known.same.numbered_so i running.0 running.1 in
           let alike = same-at i running.0 running.1 in
           let same_thread : leads.of_thread ≡ alike.steps.thread =
-          some-same leads.of_thread alike.steps.thread (sym leads.edge_is.thread_is ∙ subst (λ m. numbered program.threads m ≡ Some alike.steps.thread) thread_no alike.steps.thread_is) in
+          some-same leads.of_thread alike.steps.thread (sym leads.edge_is.thread_is ∙ subst (λ m. at_number program.threads m ≡ Some alike.steps.thread) thread_no alike.steps.thread_is) in
           let s = alike.steps.by_source c.values t.locations at.0 taken.edge leads.by_edge taken.inputs after t.values_length t.locations_length
-          (subst (λ m. numbered t.locations m ≡ Some at.0) (sym thread_no) at.1)
+          (subst (λ m. at_number t.locations m ≡ Some at.0) (sym thread_no) at.1)
           (subst (λ m. IsEdgeOf program m taken.edge alike.steps.thread leads.by_edge) (sym thread_no)
           (subst (λ x. IsEdgeOf program i taken.edge x leads.by_edge) same_thread leads.edge_is))
           (subst (λ x. Steps x leads.by_edge (state_of c.values t.locations) taken.inputs after) same_thread
@@ -223,12 +223,12 @@ module _ (tree : plain.Tree) (program : Program) (known : IsKnown tree program) 
       below : s.i - 1 < length c.standings
       below = get-below c.standings (s.i - 1) s.standing at.1
 
-      go : (l : (x : ℕ) × (numbered t.locations s.i ≡ Some x)) → IsStep before next
+      go : (l : (x : ℕ) × (at_number t.locations s.i ≡ Some x)) → IsStep before next
       go l =
           let thread_no : s.running.frame.thread ≡ s.i = known.same.numbered_so s.i s.running s.thread_is in
           let alike = same-at s.i s.running s.thread_is in
           let r = alike.steps.by_edges c.values t.locations l.0 (standing_as s.standing) next.values s.next t.values_length t.locations_length
-          (subst (λ m. numbered t.locations m ≡ Some l.0) (sym thread_no) l.1)
+          (subst (λ m. at_number t.locations m ≡ Some l.0) (sym thread_no) l.1)
           (subst (λ x. x l.0 ≡ Some (standing_as s.standing)) (sym alike.left_is) (t.stand s.i l.0 s.standing l.1 s.stands))
           (steps-as s.running.frame c.values next.values s.standing s.next s.steps) in
           let e = r.2 in
@@ -261,8 +261,8 @@ module _ (tree : plain.Tree) (program : Program) (known : IsKnown tree program) 
 
   -- ---- starts
 
-  mapped-get : (ts : List Running) (i : ℕ) (st : Standing) → numbered (map (λ (t : Running). Standing.Doing (function_items t.function)) ts) i ≡ Some st
-      → (t : Running) × (numbered ts i ≡ Some t) × (st ≡ Standing.Doing (function_items t.function))
+  mapped-get : (ts : List Running) (i : ℕ) (st : Standing) → at_number (map (λ (t : Running). Standing.Doing (function_items t.function)) ts) i ≡ Some st
+      → (t : Running) × (at_number ts i ≡ Some t) × (st ≡ Standing.Doing (function_items t.function))
   mapped-get ts zero st e = absurd (none-some st e)
   mapped-get [] (suc i) st e = absurd (none-some st e)
   mapped-get (t ∷ ts) (suc zero) st e = (t, refl, sym (some-same (Standing.Doing (function_items t.function)) st e))
@@ -289,7 +289,7 @@ module _ (tree : plain.Tree) (program : Program) (known : IsKnown tree program) 
     stand = stand;
   }
     where
-      stand : (i l : ℕ) (st : Standing) → numbered (ones (created_of tree)) i ≡ Some l → numbered (map (λ (t : Running). Standing.Doing (function_items t.function)) (threads_running tree)) i ≡ Some st
+      stand : (i l : ℕ) (st : Standing) → at_number (ones (created_of tree)) i ≡ Some l → at_number (map (λ (t : Running). Standing.Doing (function_items t.function)) (threads_running tree)) i ≡ Some st
           → left_at i l ≡ Some (standing_as st)
       stand i l st at stands =
           let m = mapped-get (threads_running tree) i st stands in
@@ -336,8 +336,8 @@ module _ (tree : plain.Tree) (program : Program) (known : IsKnown tree program) 
   -- ---- failing
 
   -- a thread is at location 0 exactly where it has failed
-  failed-at-zero : (c : Configuration) (state : List ℤ) (t : Shows c state) (i l : ℕ) → numbered t.locations i ≡ Some l
-      → (l ≡ 0) ↔ (numbered c.standings i ≡ Some Standing.Failed)
+  failed-at-zero : (c : Configuration) (state : List ℤ) (t : Shows c state) (i l : ℕ) → at_number t.locations i ≡ Some l
+      → (l ≡ 0) ↔ (at_number c.standings i ≡ Some Standing.Failed)
   failed-at-zero c state t i l at = (to_failed, to_zero)
     where
       place : (1 ≤ i) × (slice_get t.locations (i - 1) ≡ Some l)
@@ -346,28 +346,28 @@ module _ (tree : plain.Tree) (program : Program) (known : IsKnown tree program) 
       below : i - 1 < length t.locations
       below = get-below t.locations (i - 1) l place.1
 
-      running : (x : Running) × (numbered (threads_running tree) i ≡ Some x)
+      running : (x : Running) × (at_number (threads_running tree) i ≡ Some x)
       running = get-all (threads_running tree) i place.0 (omega (arith, below, place.0, t.locations_length))
 
-      stands : (x : Standing) × (numbered c.standings i ≡ Some x)
+      stands : (x : Standing) × (at_number c.standings i ≡ Some x)
       stands = get-all c.standings i place.0 (omega (arith, below, place.0, t.locations_length, t.standings_length))
 
       alike : StepsBy tree program (left_at i) running.0
       alike = same-at i running.0 running.1
 
-      to_failed : l ≡ 0 → numbered c.standings i ≡ Some Standing.Failed
+      to_failed : l ≡ 0 → at_number c.standings i ≡ Some Standing.Failed
       to_failed zero_is =
           let left_is : left_at i 0 ≡ Some (standing_as stands.0) = subst (λ m. left_at i m ≡ Some (standing_as stands.0)) zero_is (t.stand i l stands.0 at stands.1) in
           let failed : standing_as stands.0 ≡ Standing.Failed =
           some-same (standing_as stands.0) Standing.Failed (sym left_is ∙ subst (λ f. f 0 ≡ Some Standing.Failed) alike.left_is alike.steps.fails) in
           stands.1 ∙ ap Some (failed-as stands.0 failed)
 
-      to_zero : numbered c.standings i ≡ Some Standing.Failed → l ≡ 0
+      to_zero : at_number c.standings i ≡ Some Standing.Failed → l ≡ 0
       to_zero failed = alike.steps.fails_alone l (subst (λ x. x l ≡ Some Standing.Failed) (sym alike.left_is) (t.stand i l Standing.Failed at failed))
 
   -- the counter of a thread has its location
   counter-holds : (c : Configuration) (state : List ℤ) (t : Shows c state) (i l : ℕ) (thread : Thread) → IsThreadOf program i thread
-      → numbered t.locations i ≡ Some l → slice_get state thread.counter ≡ Some (pos l)
+      → at_number t.locations i ≡ Some l → slice_get state thread.counter ≡ Some (pos l)
   counter-holds c state t i l thread thread_is at =
       let counter = counter-is i thread thread_is in
       let place : length c.values + (i - 1) ≡ thread.counter = omega (arith, counter.0, t.values_length) in
@@ -406,7 +406,7 @@ module _ (tree : plain.Tree) (program : Program) (known : IsKnown tree program) 
       let alike = same-at i running.0 running.1 in
       let zero_is : l.0 ≡ 0 = (failed-at-zero f.configuration r.state t i l.0 l.1).1 f.failed in
       let thread_is : IsThreadOf program i alike.steps.thread =
-      subst (λ m. numbered program.threads m ≡ Some alike.steps.thread) (known.same.numbered_so i running.0 running.1) alike.steps.thread_is in
+      subst (λ m. at_number program.threads m ≡ Some alike.steps.thread) (known.same.numbered_so i running.0 running.1) alike.steps.thread_is in
       record {
         state = r.state;
         reaches = r.reaches;

@@ -7,7 +7,7 @@ use Rattle.c_tree.specs.declared.item.Tree.{Tree}
 use Rattle.c_tree.specs.Seen.{plain_tree}
 use Rattle.c_check.specs.declared.plan.Plan.{Plan}
 use Rattle.c_check.specs.declared.plan.Thread.{Thread}
-use Rattle.transition_formula.specs.Program.{numbered}
+use Rattle.transition_formula.specs.Program.{at_number}
 use Rattle.thread_cfg.specs.Action.{Action}
 use Rattle.thread_cfg.specs.Threads.{Running, threads_running}
 use Rattle.thread_cfg.specs.Graph.{actions_of, locations_of}
@@ -30,12 +30,12 @@ located text tree plan i is some among =
     record { thread = there.0; thread_is = there.1; step = step-is (plain_tree tree) plan (known-of-text text tree plan is) (i - 1) there.0 there.1 }
 
 -- the number of what stands at a place, from 1
-numbered-at : {X : Type 0} (xs : List X) (i : ℕ) (x : X) → 1 ≤ i → slice_get xs (i - 1) ≡ Some x → numbered xs i ≡ Some x
+numbered-at : {X : Type 0} (xs : List X) (i : ℕ) (x : X) → 1 ≤ i → slice_get xs (i - 1) ≡ Some x → at_number xs i ≡ Some x
 numbered-at xs zero x some e = absurd (omega (arith, some))
 numbered-at xs (suc i) x some e = let back : suc i - 1 ≡ i = omega arith in subst (λ (k : ℕ). slice_get xs k ≡ Some x) back e
 
 -- a place is that of its action
-place-at : (actions : List Action) (l : ℕ) (action : Action) → numbered actions l ≡ Some action → numbered (map (λ a. a.from) actions) l ≡ Some action.from
+place-at : (actions : List Action) (l : ℕ) (action : Action) → at_number actions l ≡ Some action → at_number (map (λ a. a.from) actions) l ≡ Some action.from
 place-at actions zero action e = absurd cc
 place-at actions (suc l) action e = slice_get-map (λ (a : Action). a.from) actions l ∙ ap (option_map (λ a. a.from)) e
 
@@ -46,5 +46,5 @@ places-are tree i t places some e is = record {
   running = t;
   running_is = numbered-at (threads_running (plain_tree tree)) i t some e;
   one_each = omega (arith, ap length is, length-map (actions_of t) (λ (a : Action). a.from), (thread_actions-laid t.frame (length t.function.locals) t.function.body).long);
-  at_each = λ l action at. subst (λ (ps : List ℕ). numbered ps l ≡ Some action.from) (sym is) (place-at (actions_of t) l action at);
+  at_each = λ l action at. subst (λ (ps : List ℕ). at_number ps l ≡ Some action.from) (sym is) (place-at (actions_of t) l action at);
 }

@@ -13,7 +13,7 @@ use Rattle.c_check.specs.Check.{IsAccepted, IsPlanOf}
 use Rattle.c_check.specs.Columns.{columns_of, counter_column, counters_from, own_columns_from, own_count, owns_of, shared_columns, threads_from}
 use Rattle.c_check.specs.WellFormed.{IsWellFormedPlan}
 use Rattle.c_check.specs.WellFormed as well_formed
-use Rattle.transition_formula.specs.Program.{Column, IsColumn, IsCounter, IsProgram, IsThread, StartsWhereShared, Thread, first_counter, numbered}
+use Rattle.transition_formula.specs.Program.{Column, IsColumn, IsCounter, IsProgram, IsThread, StartsWhereShared, Thread, first_counter, at_number}
 use Rattle.transition_formula.proofs.Lookups.{numbered-within}
 use Rattle.thread_cfg.specs.Threads.{Running, threads_running}
 use Rattle.thread_cfg.specs.Graph.{program_column, program_of, refusals_of, thread_graph, thread_refusals}
@@ -26,7 +26,7 @@ use Rattle.thread_cfg.proofs.RunningThreads.{actions-within, mapped-some, runnin
 
 -- ---- elements by their numbers
 -- an element of a list that is mapped is what one is mapped to
-numbered-map : {A B : Type 0} (f : A → B) (xs : List A) (i : ℕ) (y : B) → numbered (map f xs) i ≡ Some y → (x : A) × (numbered xs i ≡ Some x) × (f x ≡ y)
+numbered-map : {A B : Type 0} (f : A → B) (xs : List A) (i : ℕ) (y : B) → at_number (map f xs) i ≡ Some y → (x : A) × (at_number xs i ≡ Some x) × (f x ≡ y)
 numbered-map f xs zero y e = absurd cc
 numbered-map f xs (suc k) y e = mapped-some f (slice_get xs k) y (sym (slice_get-map f xs k) ∙ e)
 
@@ -44,7 +44,7 @@ nothing-made f (y ∷ xs) zero x e at = let same : y ≡ x = cc in ap f (sym sam
 nothing-made f (y ∷ xs) (suc k) x e at = nothing-made f xs k x (nil-rest (f y) (flat_map f xs) e) at
 
 -- and so for its number
-nothing-numbered : {A B : Type 0} (f : A → List B) (xs : List A) (i : ℕ) (x : A) → flat_map f xs ≡ [] → numbered xs i ≡ Some x → f x ≡ []
+nothing-numbered : {A B : Type 0} (f : A → List B) (xs : List A) (i : ℕ) (x : A) → flat_map f xs ≡ [] → at_number xs i ≡ Some x → f x ≡ []
 nothing-numbered f xs zero x e at = absurd cc
 nothing-numbered f xs (suc k) x e at = nothing-made f xs k x e at
 
@@ -140,7 +140,7 @@ module _ (tree : plain.Tree) (plan : Plan) (accepted : IsAccepted tree) (is : Is
       subst (λ (k : ℕ). IsCounter k column) number (counters-are 1 (created_of tree) (i - 1) column there)
 
   -- a thread is one of the program
-  thread-is : (i : ℕ) (t : Running) → numbered (threads_running tree) i ≡ Some t
+  thread-is : (i : ℕ) (t : Running) → at_number (threads_running tree) i ≡ Some t
       → IsThread (program_of tree) i (thread_graph (length (columns_of tree)) (length (threads_running tree)) t)
   thread-is i t e =
       let thread : Thread = thread_graph (length (columns_of tree)) (length (threads_running tree)) t in

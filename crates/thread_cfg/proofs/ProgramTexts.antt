@@ -9,7 +9,7 @@ use Rattle.lin_rows.proofs.Lists.{AllByRecursion-append, AllByRecursion-map, All
 use Rattle.thr_base.specs.Limits.{most_columns}
 use Rattle.thr_base.specs.Number.{number_text}
 use Rattle.thr_base.specs.declared.names.ThreadNo.{ThreadNo}
-use Rattle.thr_base.specs.ColumnText.{IsOwnName, IsTextOf, IsThreadNumber, counter, declared_again, local, temporary, variable}
+use Rattle.thr_base.specs.ColumnText.{IsOwnName, IsColumnText, IsThreadNumber, counter, declared_again, local, temporary, variable}
 use Rattle.c_tree.specs.declared.expr.Name.{Name}
 use Rattle.c_tree.specs.Plain as plain
 use Rattle.c_check.specs.declared.columns.OwnVariables.{OwnVariables}
@@ -54,7 +54,7 @@ owns-words tree words =
 -- ---- texts
 -- The column has a text that its owner asks for.
 abbrev TextIs : ℕ → stored.Column → Type 0
-TextIs threads c = IsTextOf threads (option_map (λ i. i.0) c.owner) c.text
+TextIs threads c = IsColumnText threads (option_map (λ i. i.0) c.owner) c.text
 
 -- the name of a local is one
 local_name-is : (k : ℕ) (name : List ℕ) → IsWord name → k ≤ most_columns → IsOwnName (local_name k name)

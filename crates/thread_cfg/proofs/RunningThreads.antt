@@ -19,7 +19,7 @@ use Rattle.c_check.specs.Program.{Function, created_of, functions_of, globals_in
 use Rattle.c_check.specs.Check.{IsPlanOf, stored_function}
 use Rattle.c_check.specs.Columns.{columns_if, columns_of, counters_from, local_columns, lock_column, own_columns_from, owns_of, shared_columns, temporary_columns, threads_of, variable_column}
 use Rattle.c_check.specs.WellFormed.{HasCode, HasThread, IsWellFormedPlan, counts_in, is_variable}
-use Rattle.transition_formula.specs.Program.{numbered}
+use Rattle.transition_formula.specs.Program.{at_number}
 use Rattle.thread_cfg.specs.Source.{Frame}
 use Rattle.thread_cfg.specs.Threads.{Running, running_from, threads_running, variables_of}
 use Rattle.thread_cfg.specs.Graph.{actions_of}
@@ -179,12 +179,12 @@ module _ (tree : plain.Tree) (plan : Plan) (is : IsPlanOf tree plan) (well : IsW
       }
 
   -- The i-th thread that runs has number i, its function names only what there is, and there is room for it.
-  pub running-is : (i : ℕ) (t : Running) → numbered (threads_running tree) i ≡ Some t → IsRunning tree plan i t
+  pub running-is : (i : ℕ) (t : Running) → at_number (threads_running tree) i ≡ Some t → IsRunning tree plan i t
   running-is zero t e = absurd cc
   running-is (suc j) t e = running-at j t (running_from-at (variables_of tree) (functions_of tree) 1 (threads_of tree) j t (functions-there tree plan is well) e)
 
   -- All that it does is within the columns of variables and locks.
-  pub actions-within : (i : ℕ) (t : Running) → numbered (threads_running tree) i ≡ Some t
+  pub actions-within : (i : ℕ) (t : Running) → at_number (threads_running tree) i ≡ Some t
       → ActionsWithin (length (columns_of tree) - length (threads_running tree)) t.frame (actions_of t)
   actions-within i t e =
       let r = running-is i t e in

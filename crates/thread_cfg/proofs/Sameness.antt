@@ -3,8 +3,8 @@ use Rattle.std.proofs.Common.{◌≡◌, ◌⊎◌, ◌↔◌, ℕ, zero, suc, �
 use Rattle.std.specs.List.{AllByRecursion}
 use Rattle.c_check.specs.Plan.{Stmts}
 use Rattle.c_check.specs.Items.{Grain, Items, items, joined}
-use Rattle.transition_formula.specs.Program.{Edge, Form, IsEdgeOf, IsThreadOf, Program, Thread, numbered}
-use Rattle.transition_formula.specs.Step.{Steps, assigned}
+use Rattle.transition_formula.specs.Program.{Edge, Form, IsEdgeOf, IsThreadOf, Program, Thread, at_number}
+use Rattle.transition_formula.specs.Step.{Steps, after_sets}
 use Rattle.thread_cfg.specs.Source.{DoesFirst, Frame, SourceSteps, Standing, read_as}
 use Rattle.thread_cfg.specs.Happen.{Happen}
 use Rattle.thread_cfg.specs.Action.{Action, Alternative, entry, exit_of, size, thread_actions}
@@ -182,7 +182,7 @@ module _ (program : Program) (n k : ℕ) (frame : Frame) (temporary : ℕ) (body
   -- ---- a step of the source is a step by an edge
 
   by-alternative : (values : List ℤ) (locations : List ℕ) (l : ℕ) (action : Action) (after : List ℤ) (to : ℕ)
-      → length values ≡ n → length locations ≡ k → numbered locations frame.thread ≡ Some (suc l) → slice_get acts l ≡ Some action
+      → length values ≡ n → length locations ≡ k → at_number locations frame.thread ≡ Some (suc l) → slice_get acts l ≡ Some action
       → IsTakenOf frame values action.alternatives after to → EdgeSteps program frame.thread values locations after to
   by-alternative values locations l action after to vs ls at action_is t = by (fit.made) refl
     where
@@ -199,19 +199,19 @@ module _ (program : Program) (n k : ℕ) (frame : Frame) (temporary : ℕ) (body
           let made : alternative_edge (n + k) frame (1 + l) t.alternative ≡ Ok (Some edge) = rw e at fit.is_made in
           let from = edge-from (n + k) frame (1 + l) t.alternative edge made in
           let number = has-number (edges_from (n + k) frame 1 acts) edge (at-edge (n + k) frame 1 acts l action t.alternative edge action_is t.is_there made) in
-          let here : numbered locations frame.thread ≡ Some (1 + l) = subst (λ x. numbered locations frame.thread ≡ Some x) (omega arith) at in
+          let here : at_number locations frame.thread ≡ Some (1 + l) = subst (λ x. at_number locations frame.thread ≡ Some x) (omega arith) at in
           record {
             thread = thread;
             e = suc number.0;
             edge = edge;
-            edge_is = record { thread_is = is.thread_is; edge_is = subst (λ es. numbered es (suc number.0) ≡ Some edge) (sym is.edges_are) number.1 };
+            edge_is = record { thread_is = is.thread_is; edge_is = subst (λ es. at_number es (suc number.0) ≡ Some edge) (sym is.edges_are) number.1 };
             inputs = t.taken.inputs;
             target = from.1 ∙ sym t.taken.leads;
             steps = rw t.taken.leads ((edges-happen n k frame.thread (1 + l) frame t.alternative edge thread values after locations t.taken.inputs within made is.counter_is is.some is.among vs ls here).1 t.taken.happen);
           }
 
   by-edges : (values : List ℤ) (locations : List ℕ) (from : ℕ) (standing : Standing) (after : List ℤ) (next : Standing)
-      → length values ≡ n → length locations ≡ k → numbered locations frame.thread ≡ Some from → standing_at temporary body from ≡ Some standing
+      → length values ≡ n → length locations ≡ k → at_number locations frame.thread ≡ Some from → standing_at temporary body from ≡ Some standing
       → SourceSteps frame values standing after next
       → (to : ℕ) × (standing_at temporary body to ≡ Some (standing_as next)) × EdgeSteps program frame.thread values locations after to
   by-edges values locations zero standing after next vs ls at left_is steps =
@@ -234,18 +234,18 @@ module _ (program : Program) (n k : ℕ) (frame : Frame) (temporary : ℕ) (body
 
   -- the state after a step by an edge of an alternative
   by-source : (values : List ℤ) (locations : List ℕ) (from e : ℕ) (edge : Edge) (inputs state : List ℤ)
-      → length values ≡ n → length locations ≡ k → numbered locations frame.thread ≡ Some from → IsEdgeOf program frame.thread e thread edge
+      → length values ≡ n → length locations ≡ k → at_number locations frame.thread ≡ Some from → IsEdgeOf program frame.thread e thread edge
       → Steps thread edge (state_of values locations) inputs state → SourceStepsTo frame (standing_at temporary body) locations from values state
   by-source values locations from e edge inputs state vs ls at edge_is s = found (edge-at (n + k) frame 1 acts edge has)
     where
       has : Has (edges_from (n + k) frame 1 acts) edge
       has = subst (λ es. Has es edge) is.edges_are (numbered-has thread.edges edge e edge_is.edge_is)
         where
-          numbered-has : (xs : List Edge) (x : Edge) (e : ℕ) → numbered xs e ≡ Some x → Has xs x
+          numbered-has : (xs : List Edge) (x : Edge) (e : ℕ) → at_number xs e ≡ Some x → Has xs x
           numbered-has xs x zero h = absurd (none-some x h)
           numbered-has xs x (suc e) h = number-has xs x e h
 
-      place : (f : ℕ) → numbered locations f ≡ Some from → 1 ≤ f → slice_get locations (f - 1) ≡ Some from
+      place : (f : ℕ) → at_number locations f ≡ Some from → 1 ≤ f → slice_get locations (f - 1) ≡ Some from
       place zero h some = absurd (none-some from h)
       place (suc f) h some = rw (back f) h
         where
@@ -269,7 +269,7 @@ module _ (program : Program) (n k : ℕ) (frame : Frame) (temporary : ℕ) (body
           let front = assigned-front edge.sets (state_of values locations ++ inputs) values (map pos locations)
           (subst (λ m. AllByRecursion (λ (set : ℕ × Form). set.0 < m) edge.sets) (sym vs) (edge-is n (n + k) frame (1 + f.l) a edge within f.is_of.made).sets_no_counter) in
           let counter : thread.counter ≡ length front.front + (frame.thread - 1) = omega (arith, is.counter_is, front.as_long, vs) in
-          let set : slice_set (assigned edge.sets (state_of values locations ++ inputs) (state_of values locations)) thread.counter (pos edge.to) ≡ state_of front.front (slice_set locations (frame.thread - 1) edge.to) =
+          let set : slice_set (after_sets edge.sets (state_of values locations ++ inputs) (state_of values locations)) thread.counter (pos edge.to) ≡ state_of front.front (slice_set locations (frame.thread - 1) edge.to) =
           ap (λ l. slice_set l thread.counter (pos edge.to)) front.whole_is
           ∙ ap (λ c. slice_set (state_of front.front locations) c (pos edge.to)) counter
           ∙ set-counter front.front locations (frame.thread - 1) edge.to in
@@ -277,7 +277,7 @@ module _ (program : Program) (n k : ℕ) (frame : Frame) (temporary : ℕ) (body
           s.leads ∙ set ∙ ap (λ x. state_of front.front (slice_set locations (frame.thread - 1) x)) from_to.1 in
           let happen : Happen frame values a.events inputs front.front =
           (edges-happen n k frame.thread (1 + f.l) frame a edge thread values front.front locations inputs within f.is_of.made is.counter_is is.some is.among vs ls
-          (subst (λ x. numbered locations frame.thread ≡ Some x) at_from at)).0
+          (subst (λ x. at_number locations frame.thread ≡ Some x) at_from at)).0
           (subst (λ x. Steps thread edge (state_of values locations) inputs x) state_is s) in
           let pair = pair-at frame (standing_at temporary body) lefts acts f.l f.action all-match f.action_is in
           let step = pair.matches.by_items values front.front a.to (of-taken frame values f.action.alternatives a front.front a.to f.is_of.is_there (record { inputs = inputs; happen = happen; leads = refl })) in

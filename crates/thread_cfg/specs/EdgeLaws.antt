@@ -2,7 +2,7 @@
 use Rattle.std.specs.Prelude.{◌≡◌, ◌↔◌, ◌≤◌, ℕ, ◌+◌, ◌-◌, ℤ, List, length, slice_set, Contains, Some, None, Ok}
 use Rattle.c_tree.specs.Plain as plain
 use Rattle.c_check.specs.Columns.{columns_of}
-use Rattle.transition_formula.specs.Program.{Edge, Thread, numbered}
+use Rattle.transition_formula.specs.Program.{Edge, Thread, at_number}
 use Rattle.transition_formula.specs.Step.{Steps}
 use Rattle.thread_cfg.specs.Source.{Frame}
 use Rattle.thread_cfg.specs.Happen.{Happen}
@@ -19,7 +19,7 @@ abbrev pub EdgesHappen : Type 0
 EdgesHappen = (n k i at : ℕ) (frame : Frame) (a : Alternative) (edge : Edge) (thread : Thread) (values after : List ℤ) (locations : List ℕ) (inputs : List ℤ)
     → EventsWithin n frame a.events → alternative_edge (n + k) frame at a ≡ Ok (Some edge)
     → thread.counter ≡ n + (i - 1) → 1 ≤ i → i ≤ k
-    → length values ≡ n → length locations ≡ k → numbered locations i ≡ Some at
+    → length values ≡ n → length locations ≡ k → at_number locations i ≡ Some at
     → Steps thread edge (state_of values locations) inputs (state_of after (slice_set locations (i - 1) a.to)) ↔ Happen frame values a.events inputs after
 
 -- The events of a way on that has no edge happen nowhere.
@@ -35,8 +35,8 @@ pub record IsEdgeOfAction (tree : plain.Tree) (i : ℕ) (thread : Thread) (edge 
   pub action : Action
   pub alternative : Alternative
   pub n : ℕ
-  pub running_is : numbered (threads_running tree) i ≡ Some running
-  pub action_is : numbered (actions_of running) edge.from ≡ Some action
+  pub running_is : at_number (threads_running tree) i ≡ Some running
+  pub action_is : at_number (actions_of running) edge.from ≡ Some action
   pub alternative_is : Contains action.alternatives alternative
   pub leads : edge.to ≡ alternative.to
   pub columns_are : n + length (threads_running tree) ≡ length (columns_of tree)

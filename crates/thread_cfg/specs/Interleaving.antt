@@ -4,7 +4,7 @@ use Rattle.c_tree.specs.Plain as plain
 use Rattle.c_check.specs.declared.plan.Column.{Column}
 use Rattle.c_check.specs.Check.{function_items}
 use Rattle.c_check.specs.Columns.{columns_of}
-use Rattle.transition_formula.specs.Program.{IsThreadOf, Program, Thread, numbered}
+use Rattle.transition_formula.specs.Program.{IsThreadOf, Program, Thread, at_number}
 use Rattle.transition_formula.specs.Step.{MayStart}
 use Rattle.transition_formula.specs.Run.{Fails, IsRun, Run}
 use Rattle.thread_cfg.specs.Source.{SourceSteps, Standing}
@@ -37,8 +37,8 @@ pub record Interleaves (tree : plain.Tree) (before after : Configuration) : Type
   pub running : Running
   pub standing : Standing
   pub next : Standing
-  pub thread_is : numbered (threads_running tree) i ≡ Some running
-  pub stands : numbered before.standings i ≡ Some standing
+  pub thread_is : at_number (threads_running tree) i ≡ Some running
+  pub stands : at_number before.standings i ≡ Some standing
   pub steps : SourceSteps running.frame before.values standing after.values next
   pub leads : after.standings ≡ slice_set before.standings (i - 1) next
 
@@ -50,7 +50,7 @@ pub data ComesTo (tree : plain.Tree) : Configuration → Type 0 where
 -- The i-th thread has failed.
 pub record HasFailed (configuration : Configuration) : Type 0 where
   pub i : ℕ
-  pub failed : numbered configuration.standings i ≡ Some Standing.Failed
+  pub failed : at_number configuration.standings i ≡ Some Standing.Failed
 
 -- Some interleaving of the text's threads makes one of them fail.
 pub record TextFails (tree : plain.Tree) : Type 0 where
@@ -69,7 +69,7 @@ pub record ProgramFails (program : Program) : Type 0 where
 pub record ThreadFails (tree : plain.Tree) (i : ℕ) : Type 0 where
   pub configuration : Configuration
   pub comes : ComesTo tree configuration
-  pub failed : numbered configuration.standings i ≡ Some Standing.Failed
+  pub failed : at_number configuration.standings i ≡ Some Standing.Failed
 
 -- Some run of the program ends where its i-th thread is at location 0.
 pub record ThreadReachesFailure (program : Program) (i : ℕ) : Type 0 where

@@ -2,7 +2,7 @@
 use Rattle.std.specs.Prelude.{◌≡◌, ◌↔◌, ◌≤◌, ℕ, ◌+◌, ◌-◌, ℤ, List, length, slice_set, Contains, Some, None, Ok}
 use Rattle.c_check.specs.Plan.{Stmts}
 use Rattle.c_check.specs.Items.{Grain, items}
-use Rattle.transition_formula.specs.Program.{Edge, Thread, numbered}
+use Rattle.transition_formula.specs.Program.{Edge, Thread, at_number}
 use Rattle.transition_formula.specs.Step.{Steps}
 use Rattle.thread_cfg.specs.Source.{Frame, WayEnd}
 use Rattle.thread_cfg.specs.Happen.{end_of}
@@ -21,7 +21,7 @@ PathEdgesTellWays = (n k i at next : ℕ) (frame : Frame) (inner : Stmts) (p : P
     → Contains (block_picked inner) p → EventsWithin n frame p.path.events
     → alternative_edge (n + k) frame at (path_alternative next p.path) ≡ Ok (Some edge)
     → thread.counter ≡ n + (i - 1) → 1 ≤ i → i ≤ k
-    → length values ≡ n → length locations ≡ k → numbered locations i ≡ Some at
+    → length values ≡ n → length locations ≡ k → at_number locations i ≡ Some at
     → Steps thread edge (state_of values locations) inputs (state_of after (slice_set locations (i - 1) (path_target next p.path.fails)))
     ↔ Takes frame values (items Grain.Whole inner) p.picks inputs (arrived after) (end_of p.path)
 

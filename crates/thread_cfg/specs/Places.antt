@@ -1,7 +1,7 @@
 -- Where the actions of a thread stand in the text.
 use Rattle.std.specs.Prelude.{◌≡◌, ℕ, ◌+◌, List, length, map, Some}
 use Rattle.c_tree.specs.Plain as plain
-use Rattle.transition_formula.specs.Program.{numbered}
+use Rattle.transition_formula.specs.Program.{at_number}
 use Rattle.thread_cfg.specs.Action.{Action}
 use Rattle.thread_cfg.specs.Threads.{Running, threads_running}
 use Rattle.thread_cfg.specs.Graph.{actions_of, locations_of}
@@ -14,6 +14,6 @@ location_places t = map (λ action. action.from) (actions_of t)
 -- that of the first token of the action at its location.
 pub record ArePlacesOf (tree : plain.Tree) (i : ℕ) (places : List ℕ) : Type 0 where
   pub running : Running
-  pub running_is : numbered (threads_running tree) i ≡ Some running
+  pub running_is : at_number (threads_running tree) i ≡ Some running
   pub one_each : length places + 2 ≡ locations_of running
-  pub at_each : (l : ℕ) (action : Action) → numbered (actions_of running) l ≡ Some action → numbered places l ≡ Some action.from
+  pub at_each : (l : ℕ) (action : Action) → at_number (actions_of running) l ≡ Some action → at_number places l ≡ Some action.from

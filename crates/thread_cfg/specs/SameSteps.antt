@@ -5,7 +5,7 @@ use Rattle.c_check.specs.Items.{Items}
 use Rattle.c_check.specs.Program.{created_of}
 use Rattle.c_check.specs.Check.{function_items}
 use Rattle.c_check.specs.Columns.{columns_of}
-use Rattle.transition_formula.specs.Program.{Edge, IsEdgeOf, IsThreadOf, Program, Thread, numbered}
+use Rattle.transition_formula.specs.Program.{Edge, IsEdgeOf, IsThreadOf, Program, Thread, at_number}
 use Rattle.transition_formula.specs.Step.{Steps}
 use Rattle.thread_cfg.specs.Source.{Frame, SourceSteps, Standing, read_as}
 use Rattle.thread_cfg.specs.Threads.{Running, threads_running}
@@ -63,11 +63,11 @@ pub record HasSameSteps (program : Program) (columns threads : ℕ) (frame : Fra
   pub at_each : (l : ℕ) → IsSome (left l) ↔ (l < thread.locations)
   pub by_edges : (values : List ℤ) (locations : List ℕ) (from : ℕ) (standing : Standing) (after : List ℤ) (next : Standing)
       → length values ≡ columns → length locations ≡ threads
-      → numbered locations frame.thread ≡ Some from → left from ≡ Some standing → SourceSteps frame values standing after next
+      → at_number locations frame.thread ≡ Some from → left from ≡ Some standing → SourceSteps frame values standing after next
       → (to : ℕ) × (left to ≡ Some (standing_as next)) × EdgeSteps program frame.thread values locations after to
   pub by_source : (values : List ℤ) (locations : List ℕ) (from e : ℕ) (edge : Edge) (inputs state : List ℤ)
       → length values ≡ columns → length locations ≡ threads
-      → numbered locations frame.thread ≡ Some from → IsEdgeOf program frame.thread e thread edge
+      → at_number locations frame.thread ≡ Some from → IsEdgeOf program frame.thread e thread edge
       → Steps thread edge (state_of values locations) inputs state
       → SourceStepsTo frame left locations from values state
 
@@ -78,6 +78,6 @@ pub record SameSteps (tree : plain.Tree) (program : Program) : Type 0 where
   pub columns_are : length program.columns ≡ length (columns_of tree)
   pub threads_are : length program.threads ≡ length (threads_running tree)
   pub created : length program.threads ≡ length (created_of tree)
-  pub numbered_so : (i : ℕ) (t : Running) → numbered (threads_running tree) i ≡ Some t → t.frame.thread ≡ i
-  pub steps_are : (i : ℕ) (t : Running) → numbered (threads_running tree) i ≡ Some t
+  pub numbered_so : (i : ℕ) (t : Running) → at_number (threads_running tree) i ≡ Some t → t.frame.thread ≡ i
+  pub steps_are : (i : ℕ) (t : Running) → at_number (threads_running tree) i ≡ Some t
       → HasSameSteps program (length (columns_of tree) - length (threads_running tree)) (length (threads_running tree)) t.frame (function_items t.function)

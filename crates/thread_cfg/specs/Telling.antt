@@ -3,7 +3,7 @@ use Rattle.std.specs.Prelude.{◌≡◌, ◌↔◌, ℕ, ◌-◌, ℤ, List, len
 use Rattle.c_tree.specs.Plain as plain
 use Rattle.c_check.specs.Check.{function_items}
 use Rattle.c_check.specs.Columns.{columns_of}
-use Rattle.transition_formula.specs.Program.{Program, numbered}
+use Rattle.transition_formula.specs.Program.{Program, at_number}
 use Rattle.transition_formula.specs.Run.{Reaches}
 use Rattle.thread_cfg.specs.Source.{Standing}
 use Rattle.thread_cfg.specs.Threads.{Running, threads_running}
@@ -18,7 +18,7 @@ pub record Tells (tree : plain.Tree) (left : ℕ → Lefts) (configuration : Con
   pub locations_length : length locations ≡ length (threads_running tree)
   pub standings_length : length configuration.standings ≡ length (threads_running tree)
   pub state_is : state ≡ state_of configuration.values locations
-  pub stand : (i l : ℕ) (standing : Standing) → numbered locations i ≡ Some l → numbered configuration.standings i ≡ Some standing
+  pub stand : (i l : ℕ) (standing : Standing) → at_number locations i ≡ Some l → at_number configuration.standings i ≡ Some standing
       → left i l ≡ Some (standing_as standing)
 
 -- What is left at each location of the thread is what makes it step as its source does.
@@ -43,8 +43,8 @@ pub record IsReached (tree : plain.Tree) (program : Program) (left : ℕ → Lef
 -- a thread has failed exactly where it is at location 0.
 pub record StatesTellConfigurations (tree : plain.Tree) (program : Program) : Type 0 where
   pub left : ℕ → Lefts
-  pub steps : (i : ℕ) (t : Running) → numbered (threads_running tree) i ≡ Some t → StepsBy tree program (left i) t
+  pub steps : (i : ℕ) (t : Running) → at_number (threads_running tree) i ≡ Some t → StepsBy tree program (left i) t
   pub told : (state : List ℤ) → Reaches program state → IsTold tree left state
   pub reached : (configuration : Configuration) → ComesTo tree configuration → IsReached tree program left configuration
-  pub failed : (configuration : Configuration) (state : List ℤ) (tells : Tells tree left configuration state) (i l : ℕ) → numbered tells.locations i ≡ Some l
-      → (l ≡ 0) ↔ (numbered configuration.standings i ≡ Some Standing.Failed)
+  pub failed : (configuration : Configuration) (state : List ℤ) (tells : Tells tree left configuration state) (i l : ℕ) → at_number tells.locations i ≡ Some l
+      → (l ≡ 0) ↔ (at_number configuration.standings i ≡ Some Standing.Failed)

@@ -3,7 +3,7 @@
 ghost use Rattle.std.specs.Prelude.{◌≡◌, ◌<◌, negsuc, pos, ◌+ℤ◌, ◌*ℤ◌, neg_ℤ, length, slice_index_or, option_map, IfOk};
 ghost use Rattle.thr_base.specs.Number.{fits};
 ghost use Rattle.lin_rows.specs.Exact.{fitting};
-ghost use Rattle.lin_rows.specs.Row.{scaled, sum_of};
+ghost use Rattle.lin_rows.specs.Row.{multiple_of, sum_of};
 ghost use Rattle.transition_formula.specs.Forms.{constant_form, fitting_form};
 ghost use Rattle.transition_formula.specs.Stored.{form_of};
 ghost use Rattle.transition_formula.specs.inside.FormParts.{fitting_list, form_of_both};
@@ -31,7 +31,7 @@ pub(crate) fn difference_if_fits(a: i128, b: i128) -> Option<i128>
 fn difference_at(one: &[i128], other: &[i128], place: usize) -> Option<i128>
     requires lengths { length one.now ≡ length other.now }
     requires within { place < length one.now }
-    ensures { result ≡ fitting (slice_index_or (sum_of one.now (scaled (negsuc 0) other.now)) place (pos 0)) }
+    ensures { result ≡ fitting (slice_index_or (sum_of one.now (multiple_of (negsuc 0) other.now)) place (pos 0)) }
 {
     difference_if_fits(one[place], other[place])
 }
@@ -43,7 +43,7 @@ fn differences_of(
     other: &[i128],
 ) -> Result<Option<Vec<i128>>, AllocError>
     requires { length one.now ≡ length other.now }
-    ensures { IfOk result (λ made. option_map (λ numbers. numbers.items) made ≡ fitting_list (sum_of one.now (scaled (negsuc 0) other.now))) }
+    ensures { IfOk result (λ made. option_map (λ numbers. numbers.items) made ≡ fitting_list (sum_of one.now (multiple_of (negsuc 0) other.now))) }
 {
     let mut differences = Vec::with_capacity(alloc, one.len())?;
     'places: for place in 0..one.len() {

@@ -12,7 +12,7 @@ use Rattle.thr_base.specs.declared.names.RuleName.TheVariants.{Rg}
 use Rattle.thr_base.specs.declared.stops.ReadStop.{ReadStop}
 use Rattle.thr_base.specs.declared.stops.ReadStop.TheVariants.{Fault, TooLong, Memory}
 use Rattle.lin_rows.specs.Row.{Row}
-use Rattle.transition_formula.specs.Program.{Program, numbered}
+use Rattle.transition_formula.specs.Program.{Program, at_number}
 use Rattle.predicate_sets.specs.Sets.{set_at}
 use Rattle.horn_rules.specs.Home.{Home, homes}
 use Rattle.horn_rules.specs.Stored.{facts_of, sets_of, AreStoredSetsOf}
@@ -109,7 +109,7 @@ AnswersProgramText-earlier before kept (accepted tree program status text is ans
 -- ---- predicates
 
 -- each home has its list where a list is made of each home
-mapped-at : (give : Home → List Row) (hs : List Home) (n : ℕ) (home : Home) → numbered hs n ≡ Some home → set_at (map give hs) n ≡ give home
+mapped-at : (give : Home → List Row) (hs : List Home) (n : ℕ) (home : Home) → at_number hs n ≡ Some home → set_at (map give hs) n ≡ give home
 mapped-at give hs zero home is = cc
 mapped-at give hs (suc k) home is =
     let same : suc k - 1 ≡ k = omega arith in

@@ -59,7 +59,7 @@ struct Answer {
     text: Vec<u8>,
 }
 
-fn said(alloc: Global, status: u8, text: &[u8]) -> Result<Answer, AllocError>
+fn text_answer(alloc: Global, status: u8, text: &[u8]) -> Result<Answer, AllocError>
     ensures { IfOk result (λ answer. (answer.status ≡ status) × (answer.text.items ≡ text.now)) }
 {
     let text = Vec::from_slice(alloc, text)?;
@@ -85,7 +85,7 @@ fn read_text<S: Store>(
 {
     match read_all(alloc, store, name, limit) {
         Ok(bytes) => Ok(Text::Whole(bytes)),
-        Err(ReadStop::Fault) => Ok(Text::Unread(said(alloc, 5, b"read fault\n")?)),
+        Err(ReadStop::Fault) => Ok(Text::Unread(text_answer(alloc, 5, b"read fault\n")?)),
         Err(ReadStop::TooLong) => Ok(Text::Unread(too_long(alloc, label)?)),
         Err(ReadStop::Memory) => Err(AllocError),
     }
@@ -132,7 +132,7 @@ fn answer_program<S: Store>(
             tables_tell_safety();
             answer_tables(alloc, &program, predicates, limits, store)
         }
-        Err(Stop::Refused(refusal)) => refused(alloc, refusal),
+        Err(Stop::Refused(refusal)) => refusal_answer(alloc, refusal),
         Err(Stop::Memory) => Err(AllocError),
     }
 }
@@ -145,7 +145,7 @@ fn tables_tell_safety()
     texts_fail_alike();
 }
 
-fn refused(alloc: Global, refusal: Refusal) -> Result<Answer, AllocError>
+fn refusal_answer(alloc: Global, refusal: Refusal) -> Result<Answer, AllocError>
     ensures { IfOk result (λ answer. (answer.status ≡ 3) × (answer.text.items ≡ specs.refusal_text refusal)) }
 {
     let mut text = Vec::from_slice(alloc, b"program E")?;
@@ -241,7 +241,7 @@ fn tables(
             status: 0,
             text: table(alloc, program, &facts)?,
         }),
-        LeastAnswer::Leaves => said(alloc, 4, b"UNKNOWN leaves\n"),
+        LeastAnswer::Leaves => text_answer(alloc, 4, b"UNKNOWN leaves\n"),
         LeastAnswer::TooManyFacts => too_low(alloc, "facts", limits.facts),
         LeastAnswer::TooManyJobs => too_low(alloc, "jobs", limits.jobs),
     }

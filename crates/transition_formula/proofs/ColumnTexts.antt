@@ -8,7 +8,7 @@ use Rattle.std.proofs.lemmas.List.{length-map, get_or-map, get_or-append_right, 
 use Rattle.lin_rows.proofs.Lists.{AllByRecursion-append, AllByRecursion-map, AllByRecursion-at, AllByRecursion-weaken}
 use Rattle.thr_base.specs.Number.{Fits, number_text}
 use Rattle.thr_base.proofs.Numbers.{IsTextOf-number_text}
-use Rattle.thr_base.specs.ColumnText.{is_name_start, is_c_name, IsSharedText, variable, started, done, IsOwnName, local, declared_again, temporary, counter, own_text, IsTextOf}
+use Rattle.thr_base.specs.ColumnText.{is_name_start, is_c_name, IsSharedText, variable, started, done, IsOwnName, local, declared_again, temporary, counter, own_text, IsColumnText}
 use Rattle.transition_formula.specs.Program.{Column, IsColumn, IsProgram, Program}
 use Rattle.transition_formula.specs.AtomText.{column_texts}
 use Rattle.transition_formula.specs.inside.AtomReading.{IsPlain, IsWord, is_text_byte}
@@ -73,7 +73,7 @@ own_text-bytes : (i : ℕ) (name : List ℕ) → Fits (pos i) → AllByRecursion
 own_text-bytes i name fits all = (refl, AllByRecursion-append IsTextByte (number_text (pos i)) (codes "." ++ name) (number-bytes i fits) (refl, all))
 
 -- the text of a column has letters, digits and _ . $ # alone
-pub text-bytes : (threads : ℕ) (owner : Option ℕ) (text : List ℕ) → Fits (pos threads) → IsTextOf threads owner text → AllByRecursion IsTextByte text
+pub text-bytes : (threads : ℕ) (owner : Option ℕ) (text : List ℕ) → Fits (pos threads) → IsColumnText threads owner text → AllByRecursion IsTextByte text
 text-bytes threads None text few is = shared-bytes threads text few is
 text-bytes threads (Some i) text few is =
     rw is.text_is (own_text-bytes i is.name (omega (arith, few, is.thread_is.1)) (own-bytes is.name is.name_is))
@@ -84,7 +84,7 @@ shared-some threads _ (started i at) = omega arith
 shared-some threads _ (done i at) = omega arith
 
 -- and at least one of these
-pub text-some : (threads : ℕ) (owner : Option ℕ) (text : List ℕ) → IsTextOf threads owner text → 0 < length text
+pub text-some : (threads : ℕ) (owner : Option ℕ) (text : List ℕ) → IsColumnText threads owner text → 0 < length text
 text-some threads None text is = shared-some threads text is
 text-some threads (Some i) text is = rw is.text_is (omega arith)
 

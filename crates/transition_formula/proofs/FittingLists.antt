@@ -6,7 +6,7 @@ use Rattle.std.proofs.lemmas.List.{take_more}
 use Rattle.std.proofs.lemmas.List.Folds.{list_all-append}
 use Rattle.thr_base.specs.Number.{fits}
 use Rattle.lin_rows.specs.Exact.{fitting}
-use Rattle.lin_rows.specs.Row.{sum_of, scaled}
+use Rattle.lin_rows.specs.Row.{sum_of, multiple_of}
 use Rattle.transition_formula.specs.Program.{Form}
 use Rattle.transition_formula.specs.Forms.{fitting_form}
 use Rattle.transition_formula.specs.inside.FormParts.{fitting_list, form_of_both}
@@ -83,7 +83,7 @@ length-sum_of [] (y ∷ ys) same = absurd (omega arith)
 length-sum_of (x ∷ xs) [] same = absurd (omega arith)
 length-sum_of (x ∷ xs) (y ∷ ys) same = ap suc (length-sum_of xs ys (omega arith))
 
-pub get_or-scaled : (k : ℤ) (xs : List ℤ) (i : ℕ) → i < length xs → get_or (scaled k xs) i (pos 0) ≡ k *ℤ get_or xs i (pos 0)
+pub get_or-scaled : (k : ℤ) (xs : List ℤ) (i : ℕ) → i < length xs → get_or (multiple_of k xs) i (pos 0) ≡ k *ℤ get_or xs i (pos 0)
 get_or-scaled k [] i within = absurd (omega arith)
 get_or-scaled k (x ∷ xs) zero within = refl
 get_or-scaled k (x ∷ xs) (suc i) within = get_or-scaled k xs i (omega arith)

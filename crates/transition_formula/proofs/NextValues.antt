@@ -6,7 +6,7 @@ use Rattle.std.proofs.lemmas.List.{length-set, get_or-set_same, get_or-set_other
 use Rattle.std.proofs.lemmas.Bool.Decides.{eqb_tells}
 use Rattle.std.proofs.lemmas.Bool.{eq-eqb}
 use Rattle.transition_formula.specs.Program.{Form}
-use Rattle.transition_formula.specs.Step.{value_of, assigned}
+use Rattle.transition_formula.specs.Step.{value_of, after_sets}
 
 -- the number that column c has after the sets
 abbrev pub next_value : List (ℕ × Form) → List ℤ → List ℤ → ℕ → ℤ
@@ -23,14 +23,14 @@ get_or-set xs d c v h = elim (eqb_tells d c) [
   | inr (miss, other) ↦ rw miss (get_or-set_other xs d c v (pos 0) (λ e. other (sym e)))
 ]
 
-pub length-assigned : (sets : List (ℕ × Form)) (w state : List ℤ) → length (assigned sets w state) ≡ length state
+pub length-assigned : (sets : List (ℕ × Form)) (w state : List ℤ) → length (after_sets sets w state) ≡ length state
 length-assigned [] w state = refl
-length-assigned ((d, form) ∷ sets) w state = length-set (assigned sets w state) d (value_of form w) ∙ length-assigned sets w state
+length-assigned ((d, form) ∷ sets) w state = length-set (after_sets sets w state) d (value_of form w) ∙ length-assigned sets w state
 
-pub get_or-assigned : (sets : List (ℕ × Form)) (w state : List ℤ) (c : ℕ) → c < length state → get_or (assigned sets w state) c (pos 0) ≡ next_value sets w state c
+pub get_or-assigned : (sets : List (ℕ × Form)) (w state : List ℤ) (c : ℕ) → c < length state → get_or (after_sets sets w state) c (pos 0) ≡ next_value sets w state c
 get_or-assigned [] w state c h = refl
 get_or-assigned ((d, form) ∷ sets) w state c h =
-    get_or-set (assigned sets w state) d c (value_of form w) (omega (arith, length-assigned sets w state))
+    get_or-set (after_sets sets w state) d c (value_of form w) (omega (arith, length-assigned sets w state))
     ∙ ap (λ v. cond (d == c) (value_of form w) v) (get_or-assigned sets w state c h)
 
 -- each set column has its form's value

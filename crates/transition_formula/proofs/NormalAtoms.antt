@@ -3,11 +3,11 @@ use Rattle.std.proofs.Common.{◌≡◌, ℤ, pos, negsuc, List, [], ◌∷◌, 
 use Rattle.std.specs.Int.{int_div_euclid}
 use Rattle.lin_rows.specs.Row.{Row}
 use Rattle.lin_rows.specs.Atom.{IsAtom, inequality}
-use Rattle.lin_rows.specs.Normal.{IsConstant, reduced}
+use Rattle.lin_rows.specs.Normal.{IsConstant, reduced_row}
 use Rattle.lin_rows.proofs.Atoms.{gcd_of-positive}
 use Rattle.lin_rows.proofs.Integers.{over_one, map-over_one}
 
-pub reduced-IsAtom : (xs : List ℤ) (b : ℤ) → IsAtom (inequality xs b) → reduced (inequality xs b) ≡ inequality xs b
+pub reduced-IsAtom : (xs : List ℤ) (b : ℤ) → IsAtom (inequality xs b) → reduced_row (inequality xs b) ≡ inequality xs b
 reduced-IsAtom xs b atom = rw atom.reduced (ap₂ inequality (map-over_one xs) (over_one b))
 
 pub IsAtom-not_constant : (row : Row) → IsAtom row → ¬ IsConstant row

@@ -6,7 +6,7 @@ use Rattle.std.proofs.lemmas.Bool.Decides.{eqb_tells}
 use Rattle.std.proofs.lemmas.List.{length-map}
 use Rattle.std.proofs.lemmas.Map.Steps.{length-le_from_distinct_below}
 use Rattle.lin_rows.proofs.Lists.{AllByRecursion-weaken}
-use Rattle.transition_formula.specs.Program.{Form, Edge, Thread, Program, IsThreadOf, IsEdge, IsProgram, numbered, first_counter}
+use Rattle.transition_formula.specs.Program.{Form, Edge, Thread, Program, IsThreadOf, IsEdge, IsProgram, at_number, first_counter}
 use Rattle.transition_formula.proofs.Lookups.{AllByRecursion-numbered, numbered-within}
 
 pub counter-within : (program : Program) (i : ℕ) (thread : Thread) → IsProgram program → IsThreadOf program i thread → (first_counter program ≤ thread.counter) × (thread.counter < length program.columns)
@@ -15,7 +15,7 @@ counter-within program i thread is at =
     let k = numbered-within program.threads i thread at in
     (omega (arith, h.in_order, is.has_counters), omega (arith, h.in_order, is.has_counters))
 
-pub edge-is : (program : Program) (i e : ℕ) (thread : Thread) (edge : Edge) → IsProgram program → IsThreadOf program i thread → numbered thread.edges e ≡ Some edge → IsEdge program thread edge
+pub edge-is : (program : Program) (i e : ℕ) (thread : Thread) (edge : Edge) → IsProgram program → IsThreadOf program i thread → at_number thread.edges e ≡ Some edge → IsEdge program thread edge
 edge-is program i e thread edge is at found = AllByRecursion-numbered (IsEdge program thread) thread.edges e edge (is.threads_are i thread at).edges_are found
 
 pub sets-within : (program : Program) (sets : List (ℕ × Form)) → AllByRecursion (λ set. set.0 < first_counter program) sets → AllByRecursion (λ set. set.0 < length program.columns) sets

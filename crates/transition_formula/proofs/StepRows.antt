@@ -10,7 +10,7 @@ use Rattle.std.proofs.lemmas.Bool.{ne_eqb, eq-eqb}
 use Rattle.lin_rows.specs.Row.{Row, product_of, Meets}
 use Rattle.lin_rows.specs.System.{IsRowOver}
 use Rattle.transition_formula.specs.Program.{Form, Edge, Thread, IsFormOver, first_counter}
-use Rattle.transition_formula.specs.Step.{assigned, after_step, Steps}
+use Rattle.transition_formula.specs.Step.{after_sets, after_step, Steps}
 use Rattle.transition_formula.specs.Rows.{unit, is_kept, kept_row, test_row, set_row, edge_width, kept_columns, edge_rows}
 use Rattle.transition_formula.specs.Laws.{MeetsAll, EdgeRowsAreExact}
 use Rattle.transition_formula.proofs.ProductLemmas.{product_of-one, kept_product, test_product, set_product}
@@ -129,12 +129,12 @@ after_step-value : (thread : Thread) (edge : Edge) (before inputs : List ℤ) (c
     → get_or (after_step thread edge before inputs) c (pos 0) ≡ cond (thread.counter == c) (pos edge.to) (next_value edge.sets (before ++ inputs) before c)
 after_step-value thread edge before inputs c h =
     let w = before ++ inputs in
-    get_or-set (assigned edge.sets w before) thread.counter c (pos edge.to) (omega (arith, length-assigned edge.sets w before))
+    get_or-set (after_sets edge.sets w before) thread.counter c (pos edge.to) (omega (arith, length-assigned edge.sets w before))
     ∙ ap (λ v. cond (thread.counter == c) (pos edge.to) v) (get_or-assigned edge.sets w before c h)
 
 pub length-after_step : (thread : Thread) (edge : Edge) (before inputs : List ℤ) → length (after_step thread edge before inputs) ≡ length before
 length-after_step thread edge before inputs =
-    length-set (assigned edge.sets (before ++ inputs) before) thread.counter (pos edge.to) ∙ length-assigned edge.sets (before ++ inputs) before
+    length-set (after_sets edge.sets (before ++ inputs) before) thread.counter (pos edge.to) ∙ length-assigned edge.sets (before ++ inputs) before
 
 after-value : (thread : Thread) (edge : Edge) (before after inputs : List ℤ) (c : ℕ) → get_or after thread.counter (pos 0) ≡ pos edge.to → AreSet edge.sets (before ++ inputs) after
     → (is_kept thread.counter edge c ≡ true → get_or after c (pos 0) ≡ get_or before c (pos 0))

@@ -3,7 +3,7 @@ use Rattle.std.specs.Prelude.{ℕ, ℤ, pos, ◌+ℤ◌, ◌*ℤ◌, Bool, ◌&&
 use Rattle.std.specs.List.{list_all}
 use Rattle.thr_base.specs.Number.{fits}
 use Rattle.lin_rows.specs.Exact.{fitting}
-use Rattle.lin_rows.specs.Row.{scaled, sum_of}
+use Rattle.lin_rows.specs.Row.{multiple_of, sum_of}
 use Rattle.lin_rows.specs.Sum.{sum_in_order}
 use Rattle.transition_formula.specs.Program.{Form}
 use Rattle.transition_formula.specs.Rows.{zeros, unit}
@@ -36,7 +36,7 @@ form_sum one other = record { coefficients = sum_of one.coefficients other.coeff
 
 -- the form times k, over unbounded integers
 abbrev pub form_multiple : ℤ → Form → Form
-form_multiple k form = record { coefficients = scaled k form.coefficients; constant = k *ℤ form.constant }
+form_multiple k form = record { coefficients = multiple_of k form.coefficients; constant = k *ℤ form.constant }
 
 -- the sum, where each of its numbers fits
 abbrev pub fitting_sum : Form → Form → Option Form

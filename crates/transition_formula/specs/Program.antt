@@ -6,7 +6,7 @@ use Rattle.thr_base.specs.Limits.{most_threads, most_columns, most_locations, mo
 use Rattle.thr_base.specs.Number.{Fits}
 use Rattle.lin_rows.specs.Row.{Row}
 use Rattle.lin_rows.specs.System.{IsRowOver}
-use Rattle.thr_base.specs.ColumnText.{IsTextOf, counter_text}
+use Rattle.thr_base.specs.ColumnText.{IsColumnText, counter_text}
 
 -- coefficients . z + constant
 pub record Form : Type 0 where
@@ -40,18 +40,18 @@ pub record Program : Type 0 where
   pub threads : List Thread
 
 -- the element of a number from 1
-abbrev pub numbered : {X : Type 0} → List X → ℕ → Option X
-numbered xs zero = None
-numbered xs (suc k) = slice_get xs k
+abbrev pub at_number : {X : Type 0} → List X → ℕ → Option X
+at_number xs zero = None
+at_number xs (suc k) = slice_get xs k
 
 -- The program has thread i, and this is it.
 abbrev pub IsThreadOf : Program → ℕ → Thread → Type 0
-IsThreadOf program i thread = numbered program.threads i ≡ Some thread
+IsThreadOf program i thread = at_number program.threads i ≡ Some thread
 
 -- Thread i of the program, which is this one, has edge e, and this is it.
 pub record IsEdgeOf (program : Program) (i e : ℕ) (thread : Thread) (edge : Edge) : Type 0 where
   pub thread_is : IsThreadOf program i thread
-  pub edge_is : numbered thread.edges e ≡ Some edge
+  pub edge_is : at_number thread.edges e ≡ Some edge
 
 -- ---- the programs that there are
 
@@ -66,7 +66,7 @@ StartFits (Some v) = Fits v
 
 -- What is asked of a column of a program of so many threads.
 pub record IsColumn (threads : ℕ) (column : Column) : Type 0 where
-  pub text_is : IsTextOf threads column.owner column.text
+  pub text_is : IsColumnText threads column.owner column.text
   pub start_fits : StartFits column.start
 
 -- A column that is no counter has a value initially exactly where it is shared.

@@ -9,14 +9,14 @@ abbrev pub value_of : Form → List ℤ → ℤ
 value_of form z = product_of form.coefficients z +ℤ form.constant
 
 -- the state with each set column at its form's value at z
-abbrev pub assigned : List (ℕ × Form) → List ℤ → List ℤ → List ℤ
-assigned [] z state = state
-assigned ((c, form) ∷ sets) z state = slice_set (assigned sets z state) c (value_of form z)
+abbrev pub after_sets : List (ℕ × Form) → List ℤ → List ℤ → List ℤ
+after_sets [] z state = state
+after_sets ((c, form) ∷ sets) z state = slice_set (after_sets sets z state) c (value_of form z)
 
 -- The state after a step: the set columns have the values of their forms at the state before and the inputs, and the counter
 -- is at the target. All else stays.
 abbrev pub after_step : Thread → Edge → List ℤ → List ℤ → List ℤ
-after_step thread edge before inputs = slice_set (assigned edge.sets (before ++ inputs) before) thread.counter (pos edge.to)
+after_step thread edge before inputs = slice_set (after_sets edge.sets (before ++ inputs) before) thread.counter (pos edge.to)
 
 -- The thread steps by its edge with these inputs, from the state before to the state after.
 pub record Steps (thread : Thread) (edge : Edge) (before inputs after : List ℤ) : Type 0 where

@@ -2,7 +2,7 @@
 use Rattle.std.specs.Prelude.{◌≡◌, ◌≢◌, ℕ, ◌<◌, ◌≤◌, Bool, List, length, Option}
 use Rattle.std.specs.List.{AllByRecursion}
 use Rattle.thr_base.specs.Limits.{most_threads}
-use Rattle.thr_base.specs.ColumnText.{IsTextOf}
+use Rattle.thr_base.specs.ColumnText.{IsColumnText}
 use Rattle.lin_rows.specs.Row.{Row}
 use Rattle.transition_formula.specs.Program.{Program, IsProgram}
 use Rattle.transition_formula.specs.AtomText.{IsAtomText}
@@ -26,7 +26,7 @@ pub record IsColumnWord (text : List ℕ) : Type 0 where
   pub bytes : AllByRecursion IsOfName text
 
 abbrev pub ColumnTextsAreWords : Type 0
-ColumnTextsAreWords = (threads : ℕ) (owner : Option ℕ) (text : List ℕ) → threads ≤ most_threads → IsTextOf threads owner text → IsColumnWord text
+ColumnTextsAreWords = (threads : ℕ) (owner : Option ℕ) (text : List ℕ) → threads ≤ most_threads → IsColumnText threads owner text → IsColumnWord text
 
 -- A text is that of one atom at most.
 abbrev pub AtomTextsTellAtoms : Type 0

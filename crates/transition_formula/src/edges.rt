@@ -3,7 +3,7 @@ ghost use Rattle.std.specs.List.{AllByRecursion, list_any};
 ghost use Rattle.thr_base.specs.Number.{Fits};
 ghost use Rattle.lin_rows.specs.System.{IsRowOver, with_row, with_rows};
 ghost use Rattle.lin_rows.specs.View.{row_of, system_of};
-ghost use Rattle.transition_formula.specs.Program.{IsProgram, Thread, IsEdge, IsThreadOf, IsFormOver, numbered};
+ghost use Rattle.transition_formula.specs.Program.{IsProgram, Thread, IsEdge, IsThreadOf, IsFormOver, at_number};
 ghost use Rattle.transition_formula.specs.Rows.{column_is, edge_width, is_kept, kept_row, kept_columns, test_row, set_row, edge_system, AreEdgeRows, seen_system, AreSeenRows};
 ghost use Rattle.transition_formula.specs.Stored.{edge_of, form_of, set_of, thread_of};
 
@@ -225,8 +225,8 @@ fn rows_of(
 }
 
 pub(crate) fn edge_at(thread: &ThreadGraph, e: EdgeNo) -> &Edge
-    requires { IsSome (numbered (thread_of thread.now).edges e.0) }
-    ensures { numbered (thread_of thread.now).edges e.0 ≡ Some (edge_of result.now) }
+    requires { IsSome (at_number (thread_of thread.now).edges e.0) }
+    ensures { at_number (thread_of thread.now).edges e.0 ≡ Some (edge_of result.now) }
 {
     &thread.edges[e.0 as usize - 1]
 }
@@ -239,8 +239,8 @@ pub fn edge_rows(
     i: ThreadNo,
     e: EdgeNo,
 ) -> Result<Rows, AllocError>
-    requires thread { IsSome (numbered program.now.threads i.0) }
-    requires edge { (thread : Thread) → IsThreadOf program.now i.0 thread → IsSome (numbered thread.edges e.0) }
+    requires thread { IsSome (at_number program.now.threads i.0) }
+    requires edge { (thread : Thread) → IsThreadOf program.now i.0 thread → IsSome (at_number thread.edges e.0) }
     ensures { IfOk result (AreEdgeRows program.now i.0 e.0) }
 {
     let thread = program.thread(i);
@@ -280,8 +280,8 @@ pub fn seen_rows(
     i: ThreadNo,
     e: EdgeNo,
 ) -> Result<Rows, AllocError>
-    requires thread { IsSome (numbered program.now.threads i.0) }
-    requires edge { (thread : Thread) → IsThreadOf program.now i.0 thread → IsSome (numbered thread.edges e.0) }
+    requires thread { IsSome (at_number program.now.threads i.0) }
+    requires edge { (thread : Thread) → IsThreadOf program.now i.0 thread → IsSome (at_number thread.edges e.0) }
     ensures { IfOk result (AreSeenRows program.now i.0 e.0) }
 {
     let thread = program.thread(i);

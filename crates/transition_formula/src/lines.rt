@@ -1,8 +1,8 @@
 ghost use Rattle.std.specs.Prelude.{◌≡◌, ◌<◌, ◌+◌, ◌*ℤ◌, ◌++◌, pos, length, map, slice_index_or, option_map, IfOk, IfSome};
 ghost use Rattle.std.specs.List.{AllByRecursion};
 ghost use Rattle.lin_rows.specs.Exact.{fitting};
-ghost use Rattle.lin_rows.specs.Row.{scaled, sum_of};
-ghost use Rattle.lin_rows.specs.Sum.{summed, sum_in_order};
+ghost use Rattle.lin_rows.specs.Row.{multiple_of, sum_of};
+ghost use Rattle.lin_rows.specs.Sum.{sum_with_product, sum_in_order};
 ghost use Rattle.transition_formula.specs.Forms.{fitting_sum, column_form, fitting_composition, constant_form, fitting_multiple, value_if_fits, with_multiple, with_multiples};
 ghost use Rattle.transition_formula.specs.Stored.{form_of};
 ghost use Rattle.transition_formula.specs.inside.FormParts.{fitting_list, form_of_both};
@@ -58,7 +58,7 @@ fn plus_product(
 ) -> Option<i128>
     requires lengths { length coefficients.now ≡ length state.now + length inputs.now }
     requires within { place < length coefficients.now }
-    ensures { result ≡ summed sum (slice_index_or coefficients.now place (pos 0) *ℤ slice_index_or (state.now ++ inputs.now) place (pos 0)) }
+    ensures { result ≡ sum_with_product sum (slice_index_or coefficients.now place (pos 0) *ℤ slice_index_or (state.now ++ inputs.now) place (pos 0)) }
 {
     let product = product_if_fits(coefficients[place], number_at(state, inputs, place))?;
     sum_if_fits(sum, product)
@@ -83,14 +83,14 @@ pub fn sum_at(coefficients: &[i128], state: &[i128], inputs: &[i128]) -> Option<
 /// A number times the one at a place, where it fits.
 fn product_at(k: i128, numbers: &[i128], place: usize) -> Option<i128>
     requires { place < length numbers.now }
-    ensures { result ≡ fitting (slice_index_or (scaled k numbers.now) place (pos 0)) }
+    ensures { result ≡ fitting (slice_index_or (multiple_of k numbers.now) place (pos 0)) }
 {
     product_if_fits(k, numbers[place])
 }
 
 /// A number times each number of a list, where each product fits.
 fn products_of(alloc: Global, k: i128, numbers: &[i128]) -> Result<Option<Vec<i128>>, AllocError>
-    ensures { IfOk result (λ made. option_map (λ products. products.items) made ≡ fitting_list (scaled k numbers.now)) }
+    ensures { IfOk result (λ made. option_map (λ products. products.items) made ≡ fitting_list (multiple_of k numbers.now)) }
 {
     let mut products = Vec::with_capacity(alloc, numbers.len())?;
     'places: for place in 0..numbers.len() {

@@ -1,5 +1,5 @@
 ghost use Rattle.std.specs.Prelude.{◌≡◌, ◌<◌, ◌≤◌, Some, length, map, option_map, slice_get, IsSome};
-ghost use Rattle.transition_formula.specs.Program.{Thread, IsProgram, IsThreadOf, numbered};
+ghost use Rattle.transition_formula.specs.Program.{Thread, IsProgram, IsThreadOf, at_number};
 ghost use Rattle.transition_formula.specs.Rows.{is_kept};
 ghost use Rattle.transition_formula.specs.Stored.{column_of, edge_of, program_of, thread_of};
 
@@ -67,8 +67,8 @@ impl Program {
     }
 
     pub(crate) fn thread(&self, i: ThreadNo) -> &ThreadGraph
-        requires { IsSome (numbered self.now.threads i.0) }
-        ensures thread { numbered self.now.threads i.0 ≡ Some (thread_of result.now) }
+        requires { IsSome (at_number self.now.threads i.0) }
+        ensures thread { at_number self.now.threads i.0 ≡ Some (thread_of result.now) }
         ensures program { IsProgram self.now }
     {
         &self.threads[i.0 as usize - 1]
@@ -76,8 +76,8 @@ impl Program {
 
     /// The column of a thread's counter.
     pub fn counter(&self, i: ThreadNo) -> u32
-        requires { IsSome (numbered self.now.threads i.0) }
-        ensures counter { option_map (λ thread. thread.counter) (numbered self.now.threads i.0) ≡ Some result }
+        requires { IsSome (at_number self.now.threads i.0) }
+        ensures counter { option_map (λ thread. thread.counter) (at_number self.now.threads i.0) ≡ Some result }
         ensures within { result < length self.now.columns }
     {
         self.thread(i).counter
@@ -85,34 +85,34 @@ impl Program {
 
     /// How many locations a thread has, the failing one and the exit among them.
     pub fn locations(&self, i: ThreadNo) -> u32
-        requires { IsSome (numbered self.now.threads i.0) }
-        ensures { option_map (λ thread. thread.locations) (numbered self.now.threads i.0) ≡ Some result }
+        requires { IsSome (at_number self.now.threads i.0) }
+        ensures { option_map (λ thread. thread.locations) (at_number self.now.threads i.0) ≡ Some result }
     {
         self.thread(i).locations
     }
 
     /// The edges of a thread, in the order of their numbers.
     pub fn edges(&self, i: ThreadNo) -> &[Edge]
-        requires { IsSome (numbered self.now.threads i.0) }
-        ensures { option_map (λ thread. thread.edges) (numbered self.now.threads i.0) ≡ Some (map edge_of result.now) }
+        requires { IsSome (at_number self.now.threads i.0) }
+        ensures { option_map (λ thread. thread.edges) (at_number self.now.threads i.0) ≡ Some (map edge_of result.now) }
     {
         self.thread(i).edges.as_slice()
     }
 
     /// An edge of a thread.
     pub fn edge(&self, i: ThreadNo, e: EdgeNo) -> &Edge
-        requires thread { IsSome (numbered self.now.threads i.0) }
-        requires edge { (thread : Thread) → IsThreadOf self.now i.0 thread → IsSome (numbered thread.edges e.0) }
-        ensures { (thread : Thread) → IsThreadOf self.now i.0 thread → numbered thread.edges e.0 ≡ Some (edge_of result.now) }
+        requires thread { IsSome (at_number self.now.threads i.0) }
+        requires edge { (thread : Thread) → IsThreadOf self.now i.0 thread → IsSome (at_number thread.edges e.0) }
+        ensures { (thread : Thread) → IsThreadOf self.now i.0 thread → at_number thread.edges e.0 ≡ Some (edge_of result.now) }
     {
         edge_at(self.thread(i), e)
     }
 
     /// Whether each step by an edge keeps a column: it is not the thread's counter, and the edge does not set it.
     pub fn keeps(&self, i: ThreadNo, e: EdgeNo, column: u32) -> bool
-        requires thread { IsSome (numbered self.now.threads i.0) }
-        requires edge { (thread : Thread) → IsThreadOf self.now i.0 thread → IsSome (numbered thread.edges e.0) }
-        ensures { (thread : Thread) → IsThreadOf self.now i.0 thread → option_map (λ edge. is_kept thread.counter edge column) (numbered thread.edges e.0) ≡ Some result }
+        requires thread { IsSome (at_number self.now.threads i.0) }
+        requires edge { (thread : Thread) → IsThreadOf self.now i.0 thread → IsSome (at_number thread.edges e.0) }
+        ensures { (thread : Thread) → IsThreadOf self.now i.0 thread → option_map (λ edge. is_kept thread.counter edge column) (at_number thread.edges e.0) ≡ Some result }
     {
         is_kept(self.counter(i), self.edge(i, e), column)
     }

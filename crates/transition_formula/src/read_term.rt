@@ -77,7 +77,7 @@ fn read_joint(text: &[u8], first: bool) -> (bool, usize)
     (false, 0)
 }
 
-fn signed(negative: bool, size: i128) -> i128
+fn with_sign(negative: bool, size: i128) -> i128
     requires { Fits size }
     ensures fits { Fits result }
     ensures value { (k : ℤ) → negative ≡ is_negative k → size ≡ pos (unsigned_abs k) → result ≡ k }
@@ -106,7 +106,7 @@ pub(crate) fn read_term(text: &[u8], first: bool, name: &[u8]) -> (i128, usize)
     let word = &tail[..length];
     let (size, name_start) = read_factor(word);
     if is_same(behind(word, name_start), name) {
-        (signed(negative, size), start + length)
+        (with_sign(negative, size), start + length)
     } else {
         (0, 0)
     }

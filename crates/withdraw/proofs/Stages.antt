@@ -5,7 +5,7 @@ use Rattle.std.specs.List.{Contains}
 use Rattle.thr_base.specs.Held.{Rise}
 use Rattle.thr_base.specs.declared.names.FactId.{FactId}
 use Rattle.fact_table.specs.declared.live_fact.LiveFact.{LiveFact}
-use Rattle.fact_table.specs.Live.{NoneIsMarked, is_marked, live_at, unmarked, with_mark}
+use Rattle.fact_table.specs.Live.{NoneIsMarked, is_marked, live_at, unmarked_facts, with_mark}
 use Rattle.withdraw.specs.Withdrawal.{IsWithout}
 use Rattle.withdraw.specs.inside.Stage.{IsStage, with_its_mark}
 
@@ -73,27 +73,27 @@ IsStage-left P (suc n) (f ∷ live) now d is lt stays = (is.0, is.1, is.2, is.3,
 
 -- ---- what the sweep leaves
 
-unmarked-none : (live : List LiveFact) → NoneIsMarked live → unmarked live ≡ live
+unmarked-none : (live : List LiveFact) → NoneIsMarked live → unmarked_facts live ≡ live
 unmarked-none [] none = refl
 unmarked-none (f ∷ live) none =
     let rest = unmarked-none live none.1 in
-    ap (λ (b : Bool). cond (not b) (f ∷ unmarked live) (unmarked live)) none.0 ∙ ap (λ (xs : List LiveFact). f ∷ xs) rest
+    ap (λ (b : Bool). cond (not b) (f ∷ unmarked_facts live) (unmarked_facts live)) none.0 ∙ ap (λ (xs : List LiveFact). f ∷ xs) rest
 
-pub IsWithout-stage : (P : LiveFact → Type 0) (n : ℕ) (live now : List LiveFact) → IsStage P n live now → length live ≤ n → NoneIsMarked live → IsWithout P live (unmarked now)
-IsWithout-stage P n [] now is le none = ap unmarked is
+pub IsWithout-stage : (P : LiveFact → Type 0) (n : ℕ) (live now : List LiveFact) → IsStage P n live now → length live ≤ n → NoneIsMarked live → IsWithout P live (unmarked_facts now)
+IsWithout-stage P n [] now is le none = ap unmarked_facts is
 IsWithout-stage P zero (f ∷ live) now is le none = absurd (omega arith)
 IsWithout-stage P (suc n) (f ∷ live) now is le none =
     let rest = IsWithout-stage P n live is.1 is.4 (omega arith) none.1 in
     elim is.3 [
       | inl goes ↦
-          let head : LiveFact → List LiveFact = λ g. cond (not g.marked) (g ∷ unmarked is.1) (unmarked is.1) in
-          let left : unmarked now ≡ unmarked is.1 = ap unmarked is.2 ∙ ap head goes.1 in
+          let head : LiveFact → List LiveFact = λ g. cond (not g.marked) (g ∷ unmarked_facts is.1) (unmarked_facts is.1) in
+          let left : unmarked_facts now ≡ unmarked_facts is.1 = ap unmarked_facts is.2 ∙ ap head goes.1 in
           let Left : List LiveFact → Type 0 = λ xs. IsWithout P live xs in
           inl (goes.0, subst Left (sym left) rest)
       | inr stays ↦
-          let head : LiveFact → List LiveFact = λ g. cond (not g.marked) (g ∷ unmarked is.1) (unmarked is.1) in
-          let left : unmarked now ≡ f ∷ unmarked is.1 = ap unmarked is.2 ∙ (ap head stays.1 ∙ ap (λ (b : Bool). cond (not b) (f ∷ unmarked is.1) (unmarked is.1)) none.0) in
-          inr (stays.0, unmarked is.1, left, rest)
+          let head : LiveFact → List LiveFact = λ g. cond (not g.marked) (g ∷ unmarked_facts is.1) (unmarked_facts is.1) in
+          let left : unmarked_facts now ≡ f ∷ unmarked_facts is.1 = ap unmarked_facts is.2 ∙ (ap head stays.1 ∙ ap (λ (b : Bool). cond (not b) (f ∷ unmarked_facts is.1) (unmarked_facts is.1)) none.0) in
+          inr (stays.0, unmarked_facts is.1, left, rest)
     ]
 
 -- ---- what marks say

@@ -19,8 +19,8 @@ AreEnds count from [] = Unit {0}
 AreEnds count from (end ∷ ends) = (from ≤ end) × (end ≤ count) × AreEnds count end ends
 
 -- the ends from place n on, one more each
-abbrev pub raised : ℕ → List ℕ → List ℕ
-raised n ends = take n ends ++ map (λ end. end + 1) (drop n ends)
+abbrev pub raised_ends : ℕ → List ℕ → List ℕ
+raised_ends n ends = take n ends ++ map (λ end. end + 1) (drop n ends)
 
 -- the lists with one more id at the end of that of a home, which has this place
 abbrev pub with_id : List (List FactId) → ℕ → FactId → List (List FactId)

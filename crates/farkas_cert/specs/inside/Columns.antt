@@ -5,12 +5,12 @@ use Rattle.thr_base.specs.Number.{fits}
 use Rattle.lin_rows.specs.Row.{Row}
 use Rattle.lin_rows.specs.System.{System}
 use Rattle.lin_rows.specs.Atom.{IsAtom}
-use Rattle.farkas_cert.specs.Proof.{numbers_of, denying}
+use Rattle.farkas_cert.specs.Proof.{numbers_of, with_denial}
 
 -- the system, with an atom's negation as its last row where there is one
 abbrev pub perhaps_denying : System → Option Row → System
 perhaps_denying system None = system
-perhaps_denying system (Some atom) = denying system atom
+perhaps_denying system (Some atom) = with_denial system atom
 
 -- It is an atom, with one coefficient per column of the system.
 pub record CanBeDenied (system : System) (atom : Row) : Type 0 where

@@ -5,7 +5,7 @@ use Rattle.std.specs.Option.{option_map}
 use Rattle.std.specs.Global.{Vec}
 use Rattle.lin_rows.specs.System.{System}
 use Rattle.farkas_cert.specs.Cert.{Pairs}
-use Rattle.farkas_cert.specs.Line.{Line, is_false, refuting, nonzero_pairs}
+use Rattle.farkas_cert.specs.Line.{Line, is_false, refuting_multipliers, nonzero_pairs}
 use Rattle.farkas_cert.specs.Elimination.{Work, Next, Goes, Ends, every, paired_line, negatives, are_too_many}
 use Rattle.plain_elim.specs.declared.kept.Kept.{Kept as HeldKept}
 use Rattle.plain_elim.specs.inside.Held.{kept_of, BoundsItsColumn}
@@ -20,7 +20,7 @@ lines_in lines = option_map (λ v. v.items) lines
 
 -- the certificate of the first false line, where there is one
 abbrev pub refutation_of : System → List Line → Option Pairs
-refutation_of system lines = option_map (λ line. nonzero_pairs 1 (refuting system.columns line)) (find (is_false system.columns) lines)
+refutation_of system lines = option_map (λ line. nonzero_pairs 1 (refuting_multipliers system.columns line)) (find (is_false system.columns) lines)
 
 -- what a stage starts from, for the definitions that look at what was kept alone
 abbrev pub after_stages : List HeldKept → Work

@@ -6,7 +6,7 @@ use Rattle.thr_base.specs.declared.names.EdgeNo.{EdgeNo}
 use Rattle.thr_base.specs.declared.names.FactId.{FactId}
 use Rattle.thr_base.specs.declared.names.Instance.{Instance}
 use Rattle.thr_base.specs.declared.names.Instance.TheVariants.{Init, Own, Guar, Env as Environment}
-use Rattle.transition_formula.specs.Program.{Program, Thread, Edge, numbered, IsThreadOf, IsEdgeOf}
+use Rattle.transition_formula.specs.Program.{Program, Thread, Edge, at_number, IsThreadOf, IsEdgeOf}
 use Rattle.horn_rules.specs.declared.job.Premise.{Premise}
 use Rattle.horn_rules.specs.Home.{State, Env, IsLocationOf, homes}
 use Rattle.horn_rules.specs.Fact.{Sets, Fact}
@@ -17,7 +17,7 @@ use Rattle.serial_fix.specs.inside.Cases.{own_case, guar_case, env_case}
 -- The premise has this id and says what the fact does, where homes have these predicates.
 pub record Says (program : Program) (sets : Sets) (id : FactId) (premise : Premise) (fact : Fact) : Type 0 where
   pub id_is : premise.id ≡ id
-  pub home_is : numbered (homes program) premise.fact.home.0 ≡ Some fact.home
+  pub home_is : at_number (homes program) premise.fact.home.0 ≡ Some fact.home
   pub set_is : sets fact.home ≡ premise.set.value
   pub held_is : fact.held ≡ positions premise.fact.held
 

@@ -4,7 +4,7 @@ use Rattle.std.specs.List.{AllByRecursion}
 use Rattle.thr_base.specs.declared.names.RuleName.TheVariants.{Rg}
 use Rattle.thr_base.specs.declared.names.Fact.{Fact as StoredFact}
 use Rattle.lin_rows.specs.Row.{Row}
-use Rattle.transition_formula.specs.Program.{Program, numbered}
+use Rattle.transition_formula.specs.Program.{Program, at_number}
 use Rattle.horn_rules.specs.declared.job.Premise.{Premise}
 use Rattle.horn_rules.specs.Fact.{Fact, statement_of}
 use Rattle.horn_rules.specs.Instance.{Instance, Init, Own, Guar, Env as Environment, Inter, HasKind, map_instance}
@@ -37,13 +37,13 @@ place_in_run (Inter n m e) = 0
 
 -- The fact stands at its number, and its home is this one.
 pub record IsKnown (program : Program) (facts : List StoredFact) (known : Known) : Type 0 where
-  pub at : numbered facts known.id.0 ≡ Some known.fact
-  pub home_is : numbered (homes program) known.fact.home.0 ≡ Some (home_of known.home)
+  pub at : at_number facts known.id.0 ≡ Some known.fact
+  pub home_is : at_number (homes program) known.fact.home.0 ≡ Some (home_of known.home)
 
 -- So does that of the premise, if it is there.
 abbrev pub IsNumbered : List StoredFact → Option Premise → Type 0
 IsNumbered facts None = Unit {0}
-IsNumbered facts (Some premise) = numbered facts premise.id.0 ≡ Some premise.fact
+IsNumbered facts (Some premise) = at_number facts premise.id.0 ≡ Some premise.fact
 
 -- The instance is one of the rule over facts that are there, and comes to a case.
 pub record IsOver (program : Program) (lists : List (List Row)) (facts : List StoredFact) (numbers : Instance ℕ) : Type 0 where

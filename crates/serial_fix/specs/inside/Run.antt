@@ -8,7 +8,7 @@ use Rattle.thr_base.specs.declared.limits.Limits.{Limits}
 use Rattle.lin_rows.specs.Row.{Row}
 use Rattle.lin_rows.specs.System.{IsPoint}
 use Rattle.predicate_sets.specs.Sets.{set_at}
-use Rattle.transition_formula.specs.Program.{Program, Thread, Edge, numbered, IsProgram, IsThreadOf, IsEdgeOf}
+use Rattle.transition_formula.specs.Program.{Program, Thread, Edge, at_number, IsProgram, IsThreadOf, IsEdgeOf}
 use Rattle.horn_rules.specs.declared.job.Premise.{Premise}
 use Rattle.horn_rules.specs.Home.{State, Env, IsLocationOf, homes}
 use Rattle.horn_rules.specs.Fact.{Fact}
@@ -58,7 +58,7 @@ pub record IsInstance (program : Program) (lists : List (List Row)) (found : Lis
   pub premises : List Fact
   pub given : Case
   pub is_case : IsJobCase program (sets_of program lists) instance first second premises given
-  pub home_is : numbered (homes program) home ≡ Some given.target
+  pub home_is : at_number (homes program) home ≡ Some given.target
   pub stand : AllByRecursion (Contains (facts_of program found)) premises
   pub first_is : ArePremises program first
   pub second_is : ArePremises program second
@@ -91,7 +91,7 @@ IsStep program lists limits old new upto Says (Stopped ending) = IsEnding progra
 abbrev pub InstanceIsSettled : Program → List (List Row) → Instance → Option Premise → Option Premise → ℕ → List StoredFact → Type 0
 InstanceIsSettled program lists instance first second home found =
     (premises : List Fact) (given : Case) → IsJobCase program (sets_of program lists) instance first second premises given
-    → numbered (homes program) home ≡ Some given.target → IsSettled program lists found given
+    → at_number (homes program) home ≡ Some given.target → IsSettled program lists found given
 
 -- the start of thread i
 abbrev pub StartIsSettled : Program → List (List Row) → ℕ → List StoredFact → Type 0

@@ -1,13 +1,13 @@
 use Rattle.std.proofs.Common.{◌-◌, length, refl, ap, sym, ◌∙◌, arith}
-use Rattle.transition_formula.specs.Program.{numbered}
-use Rattle.horn_rules.specs.Case.{widened}
+use Rattle.transition_formula.specs.Program.{at_number}
+use Rattle.horn_rules.specs.Case.{wider_row}
 use Rattle.thr_base.specs.Held.{holds}
 use Rattle.horn_rules.proofs.Premises.{held-start, held-next, held-room}
 use Rattle.horn_rules.proofs.premise.push_held.Goals as goal
 
 pub positions-init : goal.positions-init
 positions-init c = record {
-  made = held-start (widened (c.args.rows.now.columns - c.args.columns)) c.args.atoms.now c.args.rows.now.rows c.args.held;
+  made = held-start (wider_row (c.args.rows.now.columns - c.args.columns)) c.args.atoms.now c.args.rows.now.rows c.args.held;
   width = refl;
   room = omega arith;
   from_1 = omega arith;
@@ -15,8 +15,8 @@ positions-init c = record {
 
 pub positions-preserved : goal.positions-preserved
 positions-preserved c =
-    let row = widened (c.args.rows.now.columns - c.args.columns) in
-    let atom = numbered c.args.atoms.now in
+    let row = wider_row (c.args.rows.now.columns - c.args.columns) in
+    let atom = at_number c.args.atoms.now in
     let held = holds c.args.held in
     let width = c.positions.invariant.width in
     let more = ap (λ system. system.rows) c.in_ok-push_if_held.ensures in

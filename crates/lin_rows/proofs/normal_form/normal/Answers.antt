@@ -5,7 +5,7 @@ use Rattle.lin_rows.specs.Row.{Row, RowFits, Meets}
 use Rattle.lin_rows.specs.View.{row_of}
 use Rattle.lin_rows.specs.Gcd.{gcd_of}
 use Rattle.lin_rows.specs.Atom.{IsAtom, inequality, greatest}
-use Rattle.lin_rows.specs.Normal.{reduced}
+use Rattle.lin_rows.specs.Normal.{reduced_row}
 use Rattle.lin_rows.proofs.Numbers.{read_back}
 use Rattle.lin_rows.proofs.Atoms.{IsAtom-reduced, Meets-reduced, reduced-parts, IsConstant-from_gcd_of, gcd_of-positive, HoldsAlike-constant, IsNormalForm-constant}
 use Rattle.lin_rows.proofs.normal_form.normal.Goals as goal
@@ -22,11 +22,11 @@ back : (d : ℤ) (g : ℕ) → mag d < 2 ^ 127 → d ≡ pos g → to_z w128 (of
 back d g fits e = to_z-of_z {w = w128} record { sfits = fits } ∙ e
 
 floor_is : (row : Row) (d f : ℤ) → RowFits row → mag d < 2 ^ 127 → d ≡ pos (gcd_of row.coefficients)
-    → f ≡ int_div_euclid (to_z w128 (of_z w128 row.bound)) (to_z w128 (of_z w128 d)) → f ≡ (reduced row).bound
+    → f ≡ int_div_euclid (to_z w128 (of_z w128 row.bound)) (to_z w128 (of_z w128 d)) → f ≡ (reduced_row row).bound
 floor_is row d f fits small e h = h ∙ ap₂ int_div_euclid (read_back row.bound fits.bound) (back d (gcd_of row.coefficients) small e)
 
 floors_are : (row : Row) (d : ℤ) (xs : List ℤ) → mag d < 2 ^ 127 → d ≡ pos (gcd_of row.coefficients)
-    → xs ≡ map (λ x. int_div_euclid x (to_z w128 (of_z w128 d))) row.coefficients → xs ≡ (reduced row).coefficients
+    → xs ≡ map (λ x. int_div_euclid x (to_z w128 (of_z w128 d))) row.coefficients → xs ≡ (reduced_row row).coefficients
 floors_are row d xs small e h = h ∙ ap (λ g. map (λ x. int_div_euclid x g) row.coefficients) (back d (gcd_of row.coefficients) small e)
 
 greatest_by_bits : (f : ℤ) → mag f < 2 ^ 127 → of_z w128 f ≡ 170141183460469231731687303715884105727 → f ≡ greatest
@@ -55,7 +55,7 @@ returns-then-bound-eq170141183460469231731687303715884105727-clause-form c =
     let floor = floor_is row _ _ c.requires.fits c.divisor_of-divisor.type_inv c.divisor_of-divisor.ensures c.floor_of-bound.ensures in
     (gcd_of-positive row (λ none. omega arith), sym floor ∙ greatest_by_bits _ c.floor_of-bound.type_inv c.if-bound-eq170141183460469231731687303715884105727.true)
 
-parts : (row : Row) (xs : List ℤ) (f : ℤ) → xs ≡ (reduced row).coefficients → mag f < 2 ^ 127 → f ≡ (reduced row).bound → inequality xs (to_z w128 (of_z w128 f)) ≡ reduced row
+parts : (row : Row) (xs : List ℤ) (f : ℤ) → xs ≡ (reduced_row row).coefficients → mag f < 2 ^ 127 → f ≡ (reduced_row row).bound → inequality xs (to_z w128 (of_z w128 f)) ≡ reduced_row row
 parts row xs f p small e = reduced-parts row xs _ p (to_z-of_z {w = w128} record { sfits = small } ∙ e)
 
 pub of-requires : goal.of-requires
@@ -67,7 +67,7 @@ of-requires c =
     let room = below_greatest _ _ floor c.if-bound-eq170141183460469231731687303715884105727.false in
     subst IsAtom (sym (parts row _ _ floors c.floor_of-bound.type_inv floor)) (IsAtom-reduced row c.requires.fits some room)
 
-is_reduced : (c : goal.After-of) → c.of.result ≡ reduced (row_of c.args.row.now)
+is_reduced : (c : goal.After-of) → c.of.result ≡ reduced_row (row_of c.args.row.now)
 is_reduced c =
     let row = row_of c.args.row.now in
     let floor = floor_is row _ _ c.requires.fits c.divisor_of-divisor.type_inv c.divisor_of-divisor.ensures c.floor_of-bound.ensures in

@@ -2,7 +2,7 @@ use Rattle.std.proofs.Common.{◌≡◌, ◌*ℤ◌, get_or, pos, ap, subst, ◌
 use Rattle.std.specs.Prelude.{slice_set, ◌&&◌}
 use Rattle.std.specs.Int.{w128}
 use Rattle.thr_base.specs.Number.{Fits}
-use Rattle.lin_rows.specs.Row.{scaled}
+use Rattle.lin_rows.specs.Row.{multiple_of}
 use Rattle.lin_rows.proofs.Numbers.{read_back, true-fits}
 use Rattle.farkas_cert.specs.Line.{all_fit}
 use Rattle.plain_elim.proofs.PointFractions.{fitting_is}
@@ -23,7 +23,7 @@ numbers-preserved c =
     record {
       made = rw (read_back c.in-Some.product is.1, product) (ap (λ ys. slice_set ys i (k *ℤ get_or xs i (pos 0))) made ∙ set-scaled_to k xs i c.numbers-test.true);
       fit =
-          let before : all_fit (scaled k xs) ≡ all_fit (scaled k (drop i xs)) = rw scale at c.numbers.invariant.fit in
+          let before : all_fit (multiple_of k xs) ≡ all_fit (multiple_of k (drop i xs)) = rw scale at c.numbers.invariant.fit in
           let more = fit-scaled_from k xs i c.numbers-test.true in
-          before ∙ more ∙ ap (λ b. b && all_fit (scaled k (drop (suc i) xs))) (true-fits (k *ℤ get_or xs i (pos 0)) (subst Fits product is.1));
+          before ∙ more ∙ ap (λ b. b && all_fit (multiple_of k (drop (suc i) xs))) (true-fits (k *ℤ get_or xs i (pos 0)) (subst Fits product is.1));
     }

@@ -3,7 +3,7 @@ use Rattle.std.specs.Prelude.{ℤ}
 use Rattle.std.specs.List.{AllByRecursion}
 use Rattle.std.proofs.lemmas.List.{with_items_is}
 use Rattle.thr_base.specs.Number.{Fits}
-use Rattle.farkas_cert.specs.Divided.{divided}
+use Rattle.farkas_cert.specs.Divided.{divided_numbers}
 use Rattle.farkas_cert.specs.Line.{nonzero_pairs}
 use Rattle.tableau_elim.specs.Rounds.{multipliers}
 use Rattle.tableau_elim.specs.inside.Held.{tableau_of, line_at}
@@ -44,5 +44,5 @@ returns c =
     let long : length c.weigh.new.multipliers ≡ c.in_ok-multipliers.multipliers.len = c.weigh.auto.multipliers ∙ c.deref_mut.ensures.len in
     let count : c.in_ok-multipliers.multipliers.len ≡ c.args.rows = search rules in
     let rows = c.deref_mut.ensures.len ∙ count in
-    let made = c.as_slice.ensures.value ∙ with_items_is c.in_ok-multipliers.multipliers c.weigh.new.multipliers long ∙ c.weigh.ensures ∙ ap (λ n. divided (multipliers c.args.side n places line)) rows in
+    let made = c.as_slice.ensures.value ∙ with_items_is c.in_ok-multipliers.multipliers c.weigh.new.multipliers long ∙ c.weigh.ensures ∙ ap (λ n. divided_numbers (multipliers c.args.side n places line)) rows in
     c.in_ok-cert.ensures ∙ ap (nonzero_pairs 1) made

@@ -1,7 +1,7 @@
 use Rattle.std.proofs.Common.{◌≡◌, ◌⊎◌, ℕ, inl, inr, sym, ◌∙◌, ap, subst}
 use Rattle.std.specs.Bool.{⊤}
 use Rattle.farkas_cert.specs.Line.{nonzero_pairs}
-use Rattle.farkas_cert.specs.Divided.{divided}
+use Rattle.farkas_cert.specs.Divided.{divided_numbers}
 use Rattle.farkas_cert.specs.Proof.{Proves}
 use Rattle.farkas_cert.specs.declared.answers.CertAnswer.{CertAnswer}
 use Rattle.farkas_cert.specs.declared.answers.CertAnswer.TheVariants as answers
@@ -23,7 +23,7 @@ returns-in-Proves c =
     let rows = c.args.rows.now in
     let places = c.args.tableau.now.places.items in
     let line = line_at c.args.line (tableau_of c.args.tableau.now) in
-    let cert = c.in_ok-cert.ensures ∙ ap (λ n. nonzero_pairs 1 (divided (multipliers c.args.side n places line))) c.count.ensures.count in
+    let cert = c.in_ok-cert.ensures ∙ ap (λ n. nonzero_pairs 1 (divided_numbers (multipliers c.args.side n places line))) c.count.ensures.count in
     proved_is rows c.args.side places line c.in_ok-cert.cert cert (subst (Proves rows) c.pairs.ensures c.in-Proves.ensures.answer) ∙ sym c.requires.leads
 
 pub returns-in-Fails : goal.returns-in-Fails
@@ -31,6 +31,6 @@ returns-in-Fails c =
     let rows = c.args.rows.now in
     let places = c.args.tableau.now.places.items in
     let line = line_at c.args.line (tableau_of c.args.tableau.now) in
-    let cert = c.in_ok-cert.ensures ∙ ap (λ n. nonzero_pairs 1 (divided (multipliers c.args.side n places line))) c.count.ensures.count in
+    let cert = c.in_ok-cert.ensures ∙ ap (λ n. nonzero_pairs 1 (divided_numbers (multipliers c.args.side n places line))) c.count.ensures.count in
     unproved_is rows c.args.side places line c.in_ok-cert.cert c.requires.widths cert c.requires.leads
     (λ proves. no_proof c.check_named.result c.in-Fails.is (c.check_named.ensures.proves.1 (subst (Proves rows) (sym c.pairs.ensures) proves)))

@@ -1,7 +1,7 @@
 use Rattle.std.proofs.Common.{◌≡◌, ◌∙◌, sym, ap, subst}
 use Rattle.std.specs.Prelude.{IfOk}
 use Rattle.std.specs.Option.{option_map}
-use Rattle.tableau_elim.specs.Rounds.{Found, Ends, refuted, point_of}
+use Rattle.tableau_elim.specs.Rounds.{Found, Ends, refuted_outcome, point_of}
 use Rattle.tableau_elim.specs.inside.Held.{tableau_of, line_at, found_of}
 use Rattle.tableau_elim.proofs.Outcomes.{found_refutes, found_line, found_point}
 use Rattle.tableau_elim.proofs.round.round.Goals as goal
@@ -12,7 +12,7 @@ mended_by_standing-requires-clause-leads c = λ side out none.
     let tableau = tableau_of c.args.tableau.now in
     let line = line_at c.in-Some.line tableau in
     let first = sym c.first_out.ensures.line ∙ ap (option_map (λ k. line_at k tableau)) c.in-Some.is in
-    c.requires.leads (refuted system side tableau.places line) (found_refutes system tableau line side first (sym c.standing_of-standing.ensures ∙ out) none)
+    c.requires.leads (refuted_outcome system side tableau.places line) (found_refutes system tableau line side first (sym c.standing_of-standing.ensures ∙ out) none)
 
 pub returns-in-Some-clause-found : goal.returns-in-Some-clause-found
 returns-in-Some-clause-found c =

@@ -1,5 +1,5 @@
 use Rattle.std.proofs.Common.{◌≡◌, ◌<◌, ◌+◌, ◌*◌, sym, ◌∙◌, ap, subst, arith, length, List, None, Some}
-use Rattle.tableau_elim.specs.Tableau.{Line, changed}
+use Rattle.tableau_elim.specs.Tableau.{Line, line_after_pivot}
 use Rattle.tableau_elim.specs.declared.variable.Variable.TheVariants.{Column}
 use Rattle.tableau_elim.specs.inside.Held.{pivot_of, lines_of, IsSound}
 use Rattle.tableau_elim.proofs.Lines.{no_line, length-lines, line_here, line_set, part_long}
@@ -26,7 +26,7 @@ returns-then-not-change c =
     let given = lines_of w c.args.basics.now c.args.numbers.now in
     let now = lines_of w c.lines.basics c.lines.numbers in
     let many = length-lines w c.args.basics.now c.args.numbers.now in
-    let none : changed (pivot_of c.args.pivot.now) _ ≡ None = c.if-not-change.ensures in
+    let none : line_after_pivot (pivot_of c.args.pivot.now) _ ≡ None = c.if-not-change.ensures in
     changing_stops (pivot_of c.args.pivot.now) given now k _ (omega (arith, c.lines-test.true))
     (line_here w c.lines.basics c.lines.numbers k _ no_line (omega (arith, c.lines-test.true, c.lines.auto.basics))) none c.lines.invariant
 
@@ -38,7 +38,7 @@ lines-preserved c =
     let now = lines_of w c.lines.basics c.lines.numbers in
     let many = length-lines w c.args.basics.now c.args.numbers.now in
     let many_now = length-lines w c.lines.basics c.lines.numbers in
-    let made : changed (pivot_of c.args.pivot.now) _ ≡ Some (record { basic = c.change.new.basic; numbers = c.change.new.numbers }) = c.if-not-change.ensures in
+    let made : line_after_pivot (pivot_of c.args.pivot.now) _ ≡ Some (record { basic = c.change.new.basic; numbers = c.change.new.numbers }) = c.if-not-change.ensures in
     let size = c.lines.auto.numbers ∙ c.requires.size ∙ ap (λ n. n * w) (sym c.lines.auto.basics) in
     let within : k < length c.lines.basics = omega (arith, c.lines-test.true, c.lines.auto.basics) in
     let wide : length c.change.new.numbers ≡ w = c.change.auto.numbers ∙ part_long w (length c.lines.basics) k c.lines.numbers within size in

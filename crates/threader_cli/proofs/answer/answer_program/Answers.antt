@@ -19,6 +19,6 @@ returns-in-Ok-clause-answer g c =
 pub returns-in-Err-Refused-clause-answer : goal.returns-in-Err-Refused-clause-answer
 returns-in-Err-Refused-clause-answer g c =
     let why = subst (λ (stop : Stop). IsReadAnswer c.args.bytes.now (Err stop)) c.in-Err-Refused.field-0-is c.in-Err-Refused.ensures in
-    let told : IfOk c.refused.result (λ answer. (answer.status ≡ 3) × (answer.text.items ≡ refusal_text c.in-Err-Refused.refusal)) = search rules in
-    said (AnswersProgramText (AnswersTables c.args.limits (g.S.Store.meaning c.args.store.now) (g.S.Store.meaning c.args.store.now) (names c.args.predicates)) c.args.bytes.now) c.refused.result 3
+    let told : IfOk c.refusal_answer.result (λ answer. (answer.status ≡ 3) × (answer.text.items ≡ refusal_text c.in-Err-Refused.refusal)) = search rules in
+    said (AnswersProgramText (AnswersTables c.args.limits (g.S.Store.meaning c.args.store.now) (g.S.Store.meaning c.args.store.now) (names c.args.predicates)) c.args.bytes.now) c.refusal_answer.result 3
     (refusal_text c.in-Err-Refused.refusal) told (refused c.in-Err-Refused.refusal why)

@@ -13,7 +13,7 @@ returns-in_ok-table-in-Facts c =
 pub returns-in-Leaves : goal.returns-in-Leaves
 returns-in-Leaves c =
     let undecided = subst (IsLeastAnswer c.args.program.now c.args.sets.now c.args.limits) c.in-Leaves.is c.in_ok-facts.ensures in
-    said (AnswersProgram c.args.limits c.args.program.now c.args.sets.now) c.said.result 4 _ c.said.ensures (leaves undecided)
+    said (AnswersProgram c.args.limits c.args.program.now c.args.sets.now) c.text_answer.result 4 _ c.text_answer.ensures (leaves undecided)
 
 pub returns-in-TooManyFacts : goal.returns-in-TooManyFacts
 returns-in-TooManyFacts c =

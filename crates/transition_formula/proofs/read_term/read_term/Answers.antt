@@ -8,8 +8,8 @@ use Rattle.transition_formula.proofs.read_term.read_term.Goals as goal
 pub returns-then-is_same-clause-read : goal.returns-then-is_same-clause-read
 returns-then-is_same-clause-read c k rest other fits text-is =
     let parts = parts-of_term c.args.text.now c.args.first k c.args.name.now rest _ _ _ _ _ _ _ other fits c.requires text-is c.behind-tail.ensures c.behind.ensures c.read_joint-negative.ensures.read c.until-length.ensures.marked c.read_factor-size.ensures.read in
-    let value : c.signed.result ≡ k = c.signed.ensures.value k parts.sign (read_back c.read_factor-size.result.0 c.read_factor-size.ensures.fits ∙ parts.size_is) in
-    (read_back c.signed.result c.signed.ensures.fits ∙ value, parts.end_is)
+    let value : c.with_sign.result ≡ k = c.with_sign.ensures.value k parts.sign (read_back c.read_factor-size.result.0 c.read_factor-size.ensures.fits ∙ parts.size_is) in
+    (read_back c.with_sign.result c.with_sign.ensures.fits ∙ value, parts.end_is)
 
 pub returns-then-is_same-clause-other : goal.returns-then-is_same-clause-other
 returns-then-is_same-clause-other c k other rest some fits is differs text-is =

@@ -3,7 +3,7 @@ use Rattle.std.specs.Prelude.{slice_set}
 use Rattle.std.specs.Vec.{with_items}
 use Rattle.std.proofs.lemmas.List.{with_items_is}
 use Rattle.lin_rows.specs.Exact.{fitting}
-use Rattle.lin_rows.specs.Row.{scaled}
+use Rattle.lin_rows.specs.Row.{multiple_of}
 use Rattle.lin_rows.proofs.Numbers.{read_back}
 use Rattle.farkas_cert.specs.Line.{all_fit}
 use Rattle.plain_elim.proofs.PointFractions.{fitting_is}
@@ -21,13 +21,13 @@ invariant_of-result c =
     let point = c.args.self in
     let denominator : Some c.in_ok-denominator.denominator ≡ fitting (point.denominator *ℤ c.args.scale) = search rules in
     let product = fitting_is (point.denominator *ℤ c.args.scale) c.in_ok-denominator.denominator denominator in
-    let made : c.set_over.new.numbers ≡ slice_set (scaled c.args.scale point.numerators) c.args.column c.in_ok-number.number = search rules in
-    let fit : all_fit (slice_set (scaled c.args.scale point.numerators) c.args.column c.in_ok-number.number) ≡ true = search rules in
+    let made : c.set_over.new.numbers ≡ slice_set (multiple_of c.args.scale point.numerators) c.args.column c.in_ok-number.number = search rules in
+    let fit : all_fit (slice_set (multiple_of c.args.scale point.numerators) c.args.column c.in_ok-number.number) ≡ true = search rules in
     let whole : length c.set_over.new.numbers ≡ c.self.inside.numerators.len = omega (arith, c.self.inside.numerators.ok.0) in
     let items = with_items_is c.self.inside.numerators c.set_over.new.numbers whole in
     let positive : pos 0 <ℤ point.denominator = search rules in
     rw (read_back c.in_ok-denominator.denominator product.1)
-    (IsPoint-set (slice_set (scaled c.args.scale point.numerators) c.args.column c.in_ok-number.number) (with_items c.self.inside.numerators c.set_over.new.numbers).items c.in_ok-denominator.denominator point.denominator c.args.scale
+    (IsPoint-set (slice_set (multiple_of c.args.scale point.numerators) c.args.column c.in_ok-number.number) (with_items c.self.inside.numerators c.set_over.new.numbers).items c.in_ok-denominator.denominator point.denominator c.args.scale
     (items ∙ made) fit positive c.requires.positive denominator)
 
 pub returns-clause-point : goal.returns-clause-point
@@ -36,8 +36,8 @@ returns-clause-point c =
     let number : Some c.in_ok-number.number ≡ fitting (c.args.value *ℤ c.args.share) = search rules in
     let denominator : Some c.in_ok-denominator.denominator ≡ fitting (point.denominator *ℤ c.args.scale) = search rules in
     let product = fitting_is (point.denominator *ℤ c.args.scale) c.in_ok-denominator.denominator denominator in
-    let made : c.set_over.new.numbers ≡ slice_set (scaled c.args.scale point.numerators) c.args.column c.in_ok-number.number = search rules in
-    let fit : all_fit (slice_set (scaled c.args.scale point.numerators) c.args.column c.in_ok-number.number) ≡ true = search rules in
+    let made : c.set_over.new.numbers ≡ slice_set (multiple_of c.args.scale point.numerators) c.args.column c.in_ok-number.number = search rules in
+    let fit : all_fit (slice_set (multiple_of c.args.scale point.numerators) c.args.column c.in_ok-number.number) ≡ true = search rules in
     let whole : length c.set_over.new.numbers ≡ c.self.inside.numerators.len = omega (arith, c.self.inside.numerators.ok.0) in
     let items = with_items_is c.self.inside.numerators c.set_over.new.numbers whole in
     rw (read_back c.in_ok-denominator.denominator product.1)

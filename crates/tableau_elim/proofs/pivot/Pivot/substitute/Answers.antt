@@ -4,7 +4,7 @@ use Rattle.std.specs.Int.{int_signum}
 use Rattle.std.specs.List.{AllByRecursion}
 use Rattle.std.proofs.Math.ListN.{length-set}
 use Rattle.thr_base.specs.Number.{Fits}
-use Rattle.farkas_cert.specs.Divided.{divided}
+use Rattle.farkas_cert.specs.Divided.{divided_numbers}
 use Rattle.farkas_cert.specs.Combination.{combined_numbers}
 use Rattle.tableau_elim.proofs.Combinations.{made_by, combination_all_fit}
 use Rattle.tableau_elim.proofs.Pivots.{substituted_made, substituted_none}
@@ -30,7 +30,7 @@ returns c = λ basic.
     let b : ℤ = neg_ℤ (int_signum pivot.number) *ℤ get_or numbers (pivot.place + 1) (pos 0) in
     let rest = slice_set numbers (pivot.place + 1) (pos 0) in
     let made : combined_numbers a rest b pivot.moved.items ≡ Some c.combine.new.numbers = search rules in
-    let is : c.divide.new.numbers ≡ divided c.combine.new.numbers = search rules in
+    let is : c.divide.new.numbers ≡ divided_numbers c.combine.new.numbers = search rules in
     rw is (substituted_made _ basic numbers c.combine.new.numbers a b (sym c.requires.known.size) refl refl made)
 
 pub returns-then-not-combine : goal.returns-then-not-combine

@@ -1,5 +1,5 @@
 use Rattle.std.proofs.Common.{◌≡◌, ◌∙◌, ap, sym, Some, option_map}
-use Rattle.transition_formula.specs.Program.{Thread, Edge, numbered}
+use Rattle.transition_formula.specs.Program.{Thread, Edge, at_number}
 use Rattle.transition_formula.specs.Rows.{is_kept}
 use Rattle.transition_formula.specs.Stored.{edge_of}
 use Rattle.transition_formula.proofs.program.Program.keeps.Goals as goal

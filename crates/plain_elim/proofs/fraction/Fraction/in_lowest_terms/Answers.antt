@@ -1,6 +1,6 @@
 use Rattle.std.proofs.Common.{rules}
 use Rattle.plain_elim.proofs.PointFractions.{fraction-parts, IsFraction-parts}
-use Rattle.plain_elim.proofs.fraction.Fraction.reduced.Goals as goal
+use Rattle.plain_elim.proofs.fraction.Fraction.in_lowest_terms.Goals as goal
 
 pub invariant_of-result : goal.invariant_of-result
 invariant_of-result c =

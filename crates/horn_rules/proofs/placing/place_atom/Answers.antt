@@ -1,7 +1,7 @@
 use Rattle.std.proofs.Common.{◌∙◌, rules}
 use Rattle.lin_rows.specs.Atom.{IsAtom, inequality}
 use Rattle.horn_rules.proofs.PlacedAtoms.{IsAtom-placed}
-use Rattle.horn_rules.proofs.placing.placed.Goals as goal
+use Rattle.horn_rules.proofs.placing.place_atom.Goals as goal
 
 pub atom_of-requires : goal.atom_of-requires
 atom_of-requires c =
