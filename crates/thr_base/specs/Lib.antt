@@ -2,6 +2,7 @@ pub mod ColumnText
 pub mod Held
 pub mod InMemory
 pub mod inside
+pub mod Instances
 pub mod Limits
 pub mod Number
 pub mod Outside

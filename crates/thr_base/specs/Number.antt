@@ -1,5 +1,5 @@
 -- Numbers: which of them fit, and the one text of each.
-use Rattle.std.specs.Prelude.{◌≡◌, ℕ, suc, ◌+◌, ◌-◌, ◌*◌, ◌^◌, ◌<◌, ℤ, pos, negsuc, List, ◌∷◌, length, fold, slice_index, EachIndex, Bool, nat_lt}
+use Rattle.std.specs.Prelude.{◌≡◌, ℕ, suc, ◌+◌, ◌-◌, ◌*◌, ◌^◌, ◌<◌, ℤ, pos, negsuc, List, ◌∷◌, length, fold, slice_index, EachIndex, Bool, nat_lt, Option, None, Some}
 use Rattle.std.specs.Char.{IsAsciiDigit}
 use Rattle.std.specs.Fmt.{signed_decimal}
 
@@ -7,6 +7,11 @@ use Rattle.std.specs.Fmt.{signed_decimal}
 abbrev pub Fits : ℤ → Type 0
 Fits (pos n) = n < 2 ^ 127
 Fits (negsuc n) = suc n < 2 ^ 127
+
+-- The value that a column starts with, where it has one, fits.
+abbrev pub StartFits : Option ℤ → Type 0
+StartFits None = Unit {0}
+StartFits (Some value) = Fits value
 
 -- the test of `Fits`
 abbrev pub fits : ℤ → Bool

@@ -1,5 +1,5 @@
 -- Refusals of program texts: the codes of the rules, which of two refusals comes first, and how answers name them.
-use Rattle.std.specs.Prelude.{◌≡◌, ℕ, ◌<◌, ◌⊎◌, Result, Ok, Err}
+use Rattle.std.specs.Prelude.{◌≡◌, ◌==◌, ◌||◌, ◌&&◌, ◌<◌, ◌⊎◌, ◌↔◌, ℕ, Bool, true, nat_lt, Result, Ok, Err}
 use Rattle.thr_base.specs.declared.stops.Refusal.{Refusal}
 use Rattle.thr_base.specs.declared.stops.Stop.{Stop}
 use Rattle.thr_base.specs.declared.stops.Stop.TheVariants as stop
@@ -65,6 +65,14 @@ coefficient = 13
 -- The refusal at the lower place comes first, at one place that with the lower code.
 abbrev pub Precedes : Refusal → Refusal → Type 0
 Precedes one other = (one.place < other.place) ⊎ ((one.place ≡ other.place) × (one.code < other.code))
+
+-- the test of `Precedes`
+abbrev pub comes_before : Refusal → Refusal → Bool
+comes_before one other = nat_lt one.place other.place || (one.place == other.place && nat_lt one.code other.code)
+
+-- It tests that.
+abbrev pub OrderIsTested : Type 0
+OrderIsTested = (one other : Refusal) → (comes_before one other ≡ true) ↔ Precedes one other
 
 -- Of the rules and places where this is said, the refusal is the first.
 pub record IsFirst (IsBroken : Refusal → Type 0) (refusal : Refusal) : Type 0 where

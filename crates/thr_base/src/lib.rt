@@ -44,6 +44,7 @@ pub use recorded::Recorded;
 pub use refusals::{
     ATOMIC_BODY, BAD_BYTE, BAD_MAIN, BAD_NUMBER, COEFFICIENT, EXPECTED, NO_THREAD, NOT_IN_PROFILE,
     NOT_LINEAR, NOT_TEXT, TOO_MANY, TWICE_NAMED, UNKNOWN_NAME, codes_are_as_defined, is_earlier,
+    order_is_tested,
 };
 pub use room_sink::RoomSink;
 pub use stops::{LineStop, ReadStop, Refusal, Stop};

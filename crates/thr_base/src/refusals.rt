@@ -1,5 +1,5 @@
 ghost use Rattle.std.specs.Prelude.{◌≡◌, ◌↔◌, IsTrue};
-ghost use Rattle.thr_base.specs.Refusals.{Precedes, not_text, bad_byte, bad_number, expected, not_in_profile, unknown_name, twice_named, not_linear, bad_main, no_thread, too_many, atomic_body, coefficient};
+ghost use Rattle.thr_base.specs.Refusals.{OrderIsTested, Precedes, not_text, bad_byte, bad_number, expected, not_in_profile, unknown_name, twice_named, not_linear, bad_main, no_thread, too_many, atomic_body, coefficient};
 
 use crate::stops::Refusal;
 
@@ -48,6 +48,11 @@ pub fn is_earlier(one: Refusal, other: Refusal) -> bool
 {
     (one.place, one.code) < (other.place, other.code)
 }
+
+/// The test of the order on refusals tests that order.
+pub fn order_is_tested()
+    ensures { OrderIsTested }
+{}
 
 /// The codes of the rules are those that definitions cite.
 pub fn codes_are_as_defined()
