@@ -6,7 +6,8 @@ use Rattle.thr_base.specs.Number.{Fits}
 use Rattle.lin_rows.specs.Row.{Row, RowFits, Meets, product_of, multiple_of}
 use Rattle.lin_rows.specs.Gcd.{gcd_of}
 use Rattle.lin_rows.specs.Atom.{IsAtom, greatest, inequality, negation}
-use Rattle.lin_rows.specs.Normal.{reduced_row, IsConstant, HoldsAlike, IsConstantForm, IsNormalForm}
+use Rattle.lin_rows.specs.Normal.{reduced_row, IsConstant, HoldsAlike, IsNormalForm}
+use Rattle.lin_rows.specs.inside.Constant.{IsConstantForm}
 use Rattle.lin_rows.specs.declared.normal_form.NormalForm.{NormalForm}
 use Rattle.lin_rows.specs.declared.normal_form.NormalForm.TheVariants.{Always, Never, Atom}
 use borrow.Author.Differences.{up, down}

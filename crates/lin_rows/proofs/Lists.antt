@@ -1,6 +1,6 @@
 -- Facts of each element of a list.
 use Rattle.std.proofs.Common.{◌≡◌, ℕ, zero, suc, ◌+◌, ◌-◌, ◌<◌, ◌≤◌, List, [], ◌∷◌, ◌++◌, map, length, take, drop, get_or, ap, ap₂, ◌∙◌, refl, subst, sym, arith}
-use Rattle.std.specs.Prelude.{Some}
+use Rattle.std.specs.Prelude.{Some, slice_set}
 use Rattle.std.specs.List.{AllByRecursion, slice_range, slice_get}
 use Rattle.std.proofs.lemmas.List.{take-take, drop-drop, drop-take, length-take-le, length-drop}
 
@@ -29,6 +29,12 @@ pub AllByRecursion-at : {A : Type 0} (P : A → Type 0) (xs : List A) (n : ℕ) 
 AllByRecursion-at P [] n d all h = absurd (omega arith)
 AllByRecursion-at P (x ∷ xs) zero d all h = all.0
 AllByRecursion-at P (x ∷ xs) (suc n) d all h = AllByRecursion-at P xs n d all.1 (omega arith)
+
+-- where one is replaced
+pub AllByRecursion-set : {A : Type 0} (P : A → Type 0) (xs : List A) (i : ℕ) (y : A) → P y → AllByRecursion P xs → AllByRecursion P (slice_set xs i y)
+AllByRecursion-set P [] i y h all = tt
+AllByRecursion-set P (x ∷ xs) zero y h all = (h, all.1)
+AllByRecursion-set P (x ∷ xs) (suc i) y h all = (all.0, AllByRecursion-set P xs i y h all.1)
 
 -- the first elements, and those behind them
 pub AllByRecursion-take : {A : Type 0} (P : A → Type 0) (n : ℕ) (xs : List A) → AllByRecursion P xs → AllByRecursion P (take n xs)

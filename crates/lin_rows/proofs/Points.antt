@@ -16,7 +16,7 @@ product_of-scaled k (x ∷ xs) (y ∷ z) =
     ap₂ ◌+ℤ◌ (mul_assoc_ℤ k x y) (product_of-scaled k xs z) ∙ sym (mul-add_ℤ k (x *ℤ y) (product_of xs z))
 
 -- the sum of two sums, taken the other way
-regroup : (a b c d : ℤ) → (a +ℤ b) +ℤ (c +ℤ d) ≡ (a +ℤ c) +ℤ (b +ℤ d)
+pub regroup : (a b c d : ℤ) → (a +ℤ b) +ℤ (c +ℤ d) ≡ (a +ℤ c) +ℤ (b +ℤ d)
 regroup a b c d = omega (arith, ints)
 
 pub product_of-sum_of : (xs ys z : List ℤ) → product_of (sum_of xs ys) z ≡ product_of xs z +ℤ product_of ys z

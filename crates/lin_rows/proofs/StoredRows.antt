@@ -6,7 +6,8 @@ use Rattle.std.proofs.Math.Nat.{suc-mul, zero-mul, mul-sub, mul-le-mul_right}
 use Rattle.std.proofs.lemmas.List.{take-take, drop-drop, drop-take, take-append-le, drop-append-le, length-take-le, length-drop, length-append}
 use Rattle.thr_base.specs.Number.{Fits}
 use Rattle.lin_rows.specs.System.{System, IsRowOver, IsWellFormed, with_rows}
-use Rattle.lin_rows.specs.inside.Stored.{stored_row, rows_of, stored_system, BoundFits, IsStored}
+use Rattle.lin_rows.specs.Buffer.{stored_row, rows_of, stored_system}
+use Rattle.lin_rows.specs.inside.Stored.{BoundFits, IsStored}
 use Rattle.lin_rows.specs.declared.stored.RightSide.{RightSide}
 use Rattle.lin_rows.proofs.Lists.{AllByRecursion-append, AllByRecursion-take, AllByRecursion-drop, AllByRecursion-slice_range, length-slice_range}
 
@@ -16,7 +17,7 @@ length-rows_of c [] xs = refl
 length-rows_of c (side ∷ sides) xs = ap suc (length-rows_of c sides (drop c xs))
 
 -- ---- products with the number of columns
-row_end : (n c : ℕ) → suc n * c ≡ c + n * c
+pub row_end : (n c : ℕ) → suc n * c ≡ c + n * c
 row_end n c = omega (arith, suc-mul n c)
 
 mul_comm_ℕ : (m n : ℕ) → m * n ≡ n * m

@@ -7,7 +7,8 @@ use Rattle.std.proofs.lemmas.Option.{slice_get-get_or}
 use Rattle.thr_base.specs.Number.{Fits}
 use Rattle.lin_rows.specs.Row.{Row}
 use Rattle.lin_rows.specs.System.{IsRowOver, IsWellFormed, part_of}
-use Rattle.lin_rows.specs.inside.Stored.{stored_row, rows_of, stored_system, BoundFits, IsStored}
+use Rattle.lin_rows.specs.Buffer.{stored_row, rows_of, stored_system}
+use Rattle.lin_rows.specs.inside.Stored.{BoundFits, IsStored}
 use Rattle.lin_rows.specs.View.{row_of, system_of}
 use Rattle.lin_rows.specs.declared.stored.RightSide.{RightSide}
 use Rattle.lin_rows.specs.declared.row.RowView.{RowView}

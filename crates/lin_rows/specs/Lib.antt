@@ -5,5 +5,6 @@ pub mod Atom
 pub mod Exact
 pub mod Sum
 pub mod Normal
+pub mod Buffer
 pub mod View
 pub mod inside

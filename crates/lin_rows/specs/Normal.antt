@@ -20,12 +20,6 @@ reduced_row row =
     let g = pos (gcd_of row.coefficients) in
     inequality (map (λ a. int_div_euclid a g) row.coefficients) (int_div_euclid row.bound g)
 
--- What a row says whose coefficients are all 0.
-abbrev pub IsConstantForm : ℤ → NormalForm → Type 0
-IsConstantForm bound Always = pos 0 ≤ℤ bound
-IsConstantForm bound Never = bound <ℤ pos 0
-IsConstantForm bound (Atom atom) = ⊥
-
 -- When each answer comes.
 abbrev pub IsNormalForm : Row → Result NormalForm NormalStop → Type 0
 IsNormalForm row (Ok Always) = IsConstant row × (pos 0 ≤ℤ row.bound)

@@ -1,7 +1,7 @@
 -- What stands for rows in a program.
 use Rattle.lin_rows.specs.Row.{Row}
 use Rattle.lin_rows.specs.System.{System}
-use Rattle.lin_rows.specs.inside.Stored.{stored_system}
+use Rattle.lin_rows.specs.Buffer.{stored_system}
 use Rattle.lin_rows.specs.declared.row.RowView.{RowView}
 use Rattle.lin_rows.specs.declared.rows_view.RowsView.{RowsView}
 

@@ -17,7 +17,7 @@ mod sum;
 
 pub use atom::{Atom, negate, opposite, opposites_of, push_opposites};
 pub use divisor::{divisor_of, floor_of, multiple_if_fits};
-pub use exact::{product_if_fits, sum_if_fits};
+pub use exact::{difference_if_fits, product_if_fits, sum_if_fits};
 pub use laws::{
     divisors_are_greatest, multiples_are_least, parts_of_systems, sums_are_given_where_they_fit,
 };

@@ -2,7 +2,8 @@ ghost use Rattle.std.specs.Prelude.{◌≡◌, IfOk, false, map, pos, ◌<ℤ◌
 ghost use Rattle.std.specs.Int.{int_div_euclid};
 ghost use Rattle.lin_rows.specs.Row.{RowFits};
 ghost use Rattle.lin_rows.specs.View.{row_of};
-ghost use Rattle.lin_rows.specs.Normal.{IsNormalForm, HoldsAlike, IsConstantForm};
+ghost use Rattle.lin_rows.specs.Normal.{IsNormalForm, HoldsAlike};
+ghost use Rattle.lin_rows.specs.inside.Constant.{IsConstantForm};
 
 use crate::atom::Atom;
 use crate::divisor::{divisor_of, floor_of};

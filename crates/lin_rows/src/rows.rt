@@ -2,7 +2,8 @@ ghost use Rattle.std.specs.Prelude.{◌≡◌, ◌+◌, ◌-◌, ◌^◌, ◌<�
 ghost use Rattle.std.specs.List.{AllByRecursion};
 ghost use Rattle.thr_base.specs.Number.{Fits};
 ghost use Rattle.lin_rows.specs.Row.{Row};
-ghost use Rattle.lin_rows.specs.inside.Stored.{IsStored, rows_of};
+ghost use Rattle.lin_rows.specs.Buffer.{rows_of};
+ghost use Rattle.lin_rows.specs.inside.Stored.{IsStored};
 ghost use Rattle.lin_rows.specs.System.{IsRowOver, with_row, with_rows};
 ghost use Rattle.lin_rows.specs.View.{row_of, system_of};
 
@@ -26,7 +27,8 @@ impl Model for Rows {
 
     ghost Value = { System };
 
-    ghost use Rattle.lin_rows.specs.inside.Stored.{stored_system, IsHeld};
+    ghost use Rattle.lin_rows.specs.Buffer.{stored_system};
+    ghost use Rattle.lin_rows.specs.inside.Stored.{IsHeld};
 
     ghost view = { λ inside. stored_system inside.columns inside.sides.items inside.numbers.items };
 

@@ -109,6 +109,8 @@ fn sums_and_products_that_fit(rt: HostRuntime) {
     assert_eq!(rt; sum_if_fits(greatest, -1), Some(greatest - 1));
     assert_eq!(rt; sum_if_fits(greatest, 1), None);
     assert_eq!(rt; sum_if_fits(-greatest, -1), None);
+    assert_eq!(rt; difference_if_fits(-greatest, -1), Some(1 - greatest));
+    assert_eq!(rt; difference_if_fits(-greatest, 1), None);
     assert_eq!(rt; product_if_fits(-greatest, -1), Some(greatest));
     assert_eq!(rt; product_if_fits(1 << 64, -(1 << 63)), None);
 }

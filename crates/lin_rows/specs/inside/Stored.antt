@@ -1,24 +1,9 @@
--- The rows that a program holds: what stands behind the coefficients of each, and the coefficients of all, one row behind the
--- other.
-use Rattle.std.specs.Prelude.{◌≡◌, ◌<◌, ◌-◌, ◌*◌, ◌^◌, ℕ, ℤ, pos, negsuc, List, [], ◌∷◌, length, take, drop}
+-- What is known of the rows that a program holds.
+use Rattle.std.specs.Prelude.{◌≡◌, ◌<◌, ◌-◌, ◌*◌, ◌^◌, ℕ, ℤ, pos, negsuc, List, [], ◌∷◌, length}
 use Rattle.std.specs.List.{AllByRecursion}
 use Rattle.std.specs.Coded.{×_prop, Unit-prop, le_prop}
 use Rattle.thr_base.specs.Number.{Fits}
-use Rattle.lin_rows.specs.Row.{Row}
-use Rattle.lin_rows.specs.System.{System}
 use Rattle.lin_rows.specs.declared.stored.RightSide.{RightSide}
-
--- a row of these coefficients
-abbrev pub stored_row : List ℤ → RightSide → Row
-stored_row coefficients side = record { equal = side.equal; coefficients = coefficients; bound = side.bound }
-
--- rows of which each has the next so many numbers of a list
-abbrev pub rows_of : ℕ → List RightSide → List ℤ → List Row
-rows_of columns [] numbers = []
-rows_of columns (side ∷ sides) numbers = stored_row (take columns numbers) side ∷ rows_of columns sides (drop columns numbers)
-
-abbrev pub stored_system : ℕ → List RightSide → List ℤ → System
-stored_system columns sides numbers = record { columns = columns; rows = rows_of columns sides numbers }
 
 abbrev pub BoundFits : RightSide → Type 0
 BoundFits side = Fits side.bound
