@@ -14,7 +14,7 @@ use Rattle.farkas_cert.proofs.Integers.{linear, eq_of_mul_right_ℤ}
 
 -- ---- signs
 
-sign_self : (p : ℤ) → int_signum p *ℤ p ≡ pos (unsigned_abs p)
+pub sign_self : (p : ℤ) → int_signum p *ℤ p ≡ pos (unsigned_abs p)
 sign_self (pos zero) = refl
 sign_self (pos (suc n)) = let m : min (suc n) 1 ≡ 1 = omega arith in rw m (omega (arith, ints))
 sign_self (negsuc n) = omega (arith, ints)

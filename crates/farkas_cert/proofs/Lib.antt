@@ -24,6 +24,10 @@ pub mod Bounds
 pub mod Between
 pub mod Points
 pub mod Combinations
+pub mod Checks
+pub mod Lengths
+pub mod NumberedRows
+pub mod Reduced
 mod ListedPairs
 mod Orders
 mod WorkedSystems
