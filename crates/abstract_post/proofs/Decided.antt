@@ -8,11 +8,12 @@ use Rattle.std.proofs.lemmas.Nat.Bits.{bit_at_above}
 use Rattle.thr_base.specs.Held.{holds}
 use Rattle.lin_rows.specs.Row.{Row}
 use Rattle.lin_rows.specs.System.{System}
+use Rattle.farkas_cert.specs.Cert.{IsRefuted}
 use Rattle.farkas_cert.specs.Proof.{with_denial}
 use Rattle.farkas_cert.specs.declared.answers.LeaveKind.{LeaveKind}
 use Rattle.rational_entail.specs.Entailment.{leave_of}
 use Rattle.transition_formula.specs.Program.{at_number}
-use Rattle.abstract_post.specs.Left.{first_leave}
+use Rattle.abstract_post.specs.Left.{first_leave, LeavesWith}
 use Rattle.abstract_post.specs.inside.Found.{Tells, IsDecidedAt, AreDecided}
 
 -- a word holds no position above all of its own
@@ -76,9 +77,7 @@ first-leave-at system place (x ∷ xs) (suc p) atom kind at leaves earlier =
     ap (λ o. option_or o (first_leave (map (λ a. with_denial system (place a)) xs))) (earlier 0 x (omega arith) refl)
     ∙ first-leave-at system place xs p atom kind at leaves (λ k other below there. earlier (suc k) other (omega arith) there)
 
-pub left-at : (system : System) (place : Row → Row) (atoms : List Row) (held p : ℕ) (atom : Row) (kind : LeaveKind) → leave_of system ≡ None → AreDecided system place atoms held p
-    → slice_get atoms p ≡ Some atom → Tells system (place atom) (Err kind)
-    → first_leave (system ∷ map (λ a. with_denial system (place a)) atoms) ≡ Some kind
-left-at system place atoms held p atom kind decided are at tells =
-    ap (λ o. option_or o (first_leave (map (λ a. with_denial system (place a)) atoms))) decided
-    ∙ first-leave-at system place atoms p atom kind at tells (λ k other below there. (are.each (suc k) other (omega arith) there).decides)
+pub left-at : (system : System) (place : Row → Row) (atoms : List Row) (held p : ℕ) (atom : Row) (kind : LeaveKind) → leave_of system ≡ None → (¬ IsRefuted system)
+    → AreDecided system place atoms held p → slice_get atoms p ≡ Some atom → Tells system (place atom) (Err kind) → LeavesWith system place atoms kind
+left-at system place atoms held p atom kind decided point are at tells =
+    inr (decided, point, first-leave-at system place atoms p atom kind at tells (λ k other below there. (are.each (suc k) other (omega arith) there).decides))

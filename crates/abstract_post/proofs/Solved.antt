@@ -1,5 +1,5 @@
 -- What is found of the rows of a job, as the post of its case.
-use Rattle.std.proofs.Common.{◌≡◌, ℕ, zero, suc, ◌+◌, ◌<◌, ◌≤◌, ◌^◌, List, [], ◌∷◌, map, length, Some, refl, sym, ap, ap₂, subst, ◌∙◌, arith}
+use Rattle.std.proofs.Common.{◌≡◌, ℕ, zero, suc, ◌+◌, ◌<◌, ◌≤◌, ◌^◌, List, [], ◌∷◌, map, length, Some, refl, sym, ap, ap₂, subst, ◌∙◌, arith, inl, inr}
 use Rattle.std.specs.Prelude.{option_map}
 use Rattle.std.specs.List.{AllByRecursion, Contains}
 use Rattle.std.proofs.lemmas.Option.{slice_get_within}
@@ -83,7 +83,9 @@ found-alike system one other atoms (found.Held held) alike is = (
   is.0,
   record { no_more = is.1.no_more; each = λ k atom below at. subst (IsDecidedAt system held k) (alike-at one other atoms k atom alike at) (is.1.each k atom below at) },
 )
-found-alike system one other atoms (found.Left kind) alike is = ap (λ systems. first_leave (system ∷ systems)) (sym (denied-alike system one other atoms alike)) ∙ is
+found-alike system one other atoms (found.Left kind) alike (inl leaves) = inl leaves
+found-alike system one other atoms (found.Left kind) alike (inr (decided, point, leaves)) =
+    inr (decided, point, ap first_leave (sym (denied-alike system one other atoms alike)) ∙ leaves)
 
 pub found-of_case : AtomsArePlaced → (program : Program) (job : Job) (given : Case) (rows view : System) (n before : ℕ) (atoms : List Row) (what : Found) → ComesTo program job given → rows ≡ given.system
     → view ≡ rows → n ≡ length program.columns → before ≡ in_front n (instance_of job.instance) → atoms ≡ job.target.value → IsFound view (placed_at before view.columns) atoms what

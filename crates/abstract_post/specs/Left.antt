@@ -1,10 +1,11 @@
 -- When a job is left undecided, and what an answer says of a job.
-use Rattle.std.specs.Prelude.{◌≡◌, List, [], ◌∷◌, map, Option, Some, None}
+use Rattle.std.specs.Prelude.{◌≡◌, ◌⊎◌, List, [], ◌∷◌, map, Option, Some, None}
 use Rattle.std.specs.Option.{option_or}
 use Rattle.std.specs.List.{AllByRecursion}
 use Rattle.thr_base.specs.declared.names.RuleName.{RuleName}
 use Rattle.lin_rows.specs.Row.{Row}
 use Rattle.lin_rows.specs.System.{System}
+use Rattle.farkas_cert.specs.Cert.{IsRefuted}
 use Rattle.farkas_cert.specs.Proof.{with_denial}
 use Rattle.farkas_cert.specs.declared.answers.LeaveKind.{LeaveKind}
 use Rattle.rational_entail.specs.Entailment.{leave_of}
@@ -22,13 +23,16 @@ abbrev pub first_leave : List System → Option LeaveKind
 first_leave [] = None
 first_leave (system ∷ systems) = option_or (leave_of system) (first_leave systems)
 
--- what a post is decided by: the system of its case, and for each atom of the target, in their order, it with the atom's negation
-abbrev pub systems_of : Case → List Row → List System
-systems_of given atoms = given.system ∷ map (λ atom. with_denial given.system (given.place atom)) atoms
+-- A post is decided by a system, and where that is not refuted, by it with the negation of each atom, as the atoms are placed, in their
+-- order. The first of these that is left undecided is left with this kind.
+abbrev pub LeavesWith : System → (Row → Row) → List Row → LeaveKind → Type 0
+LeavesWith system place atoms kind =
+    (leave_of system ≡ Some kind)
+    ⊎ ((leave_of system ≡ None) × (¬ IsRefuted system) × (first_leave (map (λ atom. with_denial system (place atom)) atoms) ≡ Some kind))
 
--- Some of these is left undecided, and the first one with this kind.
+-- So it is with the case.
 abbrev pub IsLeft : Case → List Row → LeaveKind → Type 0
-IsLeft given atoms kind = first_leave (systems_of given atoms) ≡ Some kind
+IsLeft given atoms kind = LeavesWith given.system given.place atoms kind
 
 -- An instance of the rule leaves, over facts of which this is said: some system that decides it is left undecided, and the first one with
 -- this kind.

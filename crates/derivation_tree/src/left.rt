@@ -74,10 +74,3 @@ impl<'p> Left<'p> {
         }
     }
 }
-
-/// What comes of a job: its post, or that it is left.
-#[derive(Drop)]
-pub enum PostAnswer<'p> {
-    Posted(Posted<'p>),
-    Left(Left<'p>),
-}

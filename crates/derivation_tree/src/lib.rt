@@ -8,6 +8,6 @@ mod refutation;
 mod scope;
 
 pub use kept::Kept;
-pub use left::{Left, LeftCause, PostAnswer};
+pub use left::{Left, LeftCause};
 pub use refutation::Refutation;
 pub use scope::{Scope, System, TreeLeft};

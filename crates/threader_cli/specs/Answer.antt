@@ -1,9 +1,10 @@
 -- What the program answers: what its words ask for, the files that they name, and the status and text that follow from both.
-use Rattle.std.specs.Prelude.{◌≡◌, ◌≤◌, ℕ, List, [], ◌++◌, length, replicate, Option, Some, None, codes, decimal}
+use Rattle.std.specs.Prelude.{◌≡◌, ◌≤◌, ℕ, Bool, true, false, List, [], ◌++◌, length, replicate, Option, Some, None, codes, decimal}
 use Rattle.thr_base.specs.Limits.{text_limit}
 use Rattle.thr_base.specs.Outside.{StoreMeaning, SinkMeaning, Appends, WritesFront}
 use Rattle.thr_base.specs.Reading.{IsFileNamed, StopsReading, KeepsFiles}
 use Rattle.thr_base.specs.declared.limits.Limits.{Limits}
+use Rattle.thr_base.specs.declared.names.RuleName.{RuleName}
 use Rattle.thr_base.specs.declared.names.RuleName.TheVariants.{Rg}
 use Rattle.thr_base.specs.declared.stops.ReadStop.TheVariants.{Fault, TooLong}
 use Rattle.thr_base.specs.declared.stops.Refusal.{Refusal}
@@ -22,9 +23,18 @@ use Rattle.annotation_form.specs.Predicates.{IsReadAs, IsTextOfPredicates}
 use Rattle.serial_fix.specs.Least.{LeastLeaves, HasMoreFacts, HasMoreInstances}
 use Rattle.thread_cfg.specs.Read.{IsProgramText, Refuses}
 use Rattle.thread_cfg.specs.Interleaving.{TextFails}
-use Rattle.command_line.specs.Request.{Asks, Request, Tables}
+use Rattle.command_line.specs.Request.{Asks, Request, Work, Tables}
 
 -- ---- what is built of what words can ask for
+
+-- what is built by now: the tables by rely-guarantee
+abbrev pub is_built : Work → RuleName → Bool
+is_built (Tables program predicates) Rg = true
+is_built work rule = false
+
+-- Words that the grammar takes ask for nothing that is built.
+abbrev pub AskForNothingBuilt : List (List ℕ) → Type 0
+AskForNothingBuilt words = (request : Request) → Asks words request → is_built request.work request.options.rule ≡ false
 
 -- The words ask for the tables by rely-guarantee of this program, with the predicates of that file if one is named, within these limits.
 pub record AsksTables (words : List (List ℕ)) (program : List ℕ) (predicates : Option (List ℕ)) (limits : Limits) : Type 0 where
@@ -145,7 +155,7 @@ AnswersFiles limits before after program predicates =
 -- The status and the text that follow from the words and the store.
 pub data Answers (words : List (List ℕ)) (before after : StoreMeaning) : ℕ → List ℕ → Type 0 where
   -- The words are refused, or ask for what is not built.
-  usage : ((program : List ℕ) (predicates : Option (List ℕ)) (limits : Limits) → ¬ (AsksTables words program predicates limits)) → Answers words before after 2 usage_text
+  usage : AskForNothingBuilt words → Answers words before after 2 usage_text
   tables : (program : List ℕ) (predicates : Option (List ℕ)) (limits : Limits) (status : ℕ) (text : List ℕ) → AsksTables words program predicates limits
       → AnswersFiles limits before after program predicates status text → Answers words before after status text
 

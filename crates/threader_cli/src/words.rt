@@ -1,6 +1,5 @@
-ghost use Rattle.std.specs.Prelude.{ℕ, List, Option, map, string_bytes, option_map, IfSome, IfNone};
-ghost use Rattle.thr_base.specs.declared.limits.Limits.{Limits as SpecLimits};
-ghost use Rattle.threader_cli.specs.Answer.{AsksTables};
+ghost use Rattle.std.specs.Prelude.{map, string_bytes, option_map, IfSome, IfNone};
+ghost use Rattle.threader_cli.specs.Answer.{AskForNothingBuilt, AsksTables};
 
 use command_line::{Work, read_words, words_ask_for_one};
 use thr_base::{Limits, RuleName};
@@ -16,7 +15,7 @@ pub struct Asked<'a> {
 /// What the words ask of the tables by rely-guarantee. All else that words can ask for is not built.
 pub fn tables_asked(words: &[String]) -> Option<Asked<'_>>
     ensures asked { IfSome result (λ asked. AsksTables (map string_bytes words.now) asked.program.now (option_map (λ name. name.now) asked.predicates) asked.limits) }
-    ensures refused { IfNone result ((program : List ℕ) (predicates : Option (List ℕ)) (limits : SpecLimits) → AsksTables (map string_bytes words.now) program predicates limits → ⊥) }
+    ensures refused { IfNone result (AskForNothingBuilt (map string_bytes words.now)) }
 {
     words_ask_for_one();
     let request = read_words(words)?;

@@ -10,7 +10,7 @@ use Rattle.rational_entail.specs.Entailment.{leave_of}
 use Rattle.transition_formula.specs.Program.{at_number}
 use Rattle.abstract_post.specs.declared.deciding.Found.{Found}
 use Rattle.abstract_post.specs.declared.deciding.Found.TheVariants as found
-use Rattle.abstract_post.specs.Left.{first_leave}
+use Rattle.abstract_post.specs.Left.{LeavesWith}
 
 -- Whether the system entails the row, or the kind with which that is left undecided.
 abbrev pub Tells : System → Row → Result Bool LeaveKind → Type 0
@@ -31,4 +31,4 @@ pub record AreDecided (system : System) (place : Row → Row) (atoms : List Row)
 abbrev pub IsFound : System → (Row → Row) → List Row → Found → Type 0
 IsFound system place atoms found.Refuted = IsRefuted system
 IsFound system place atoms (found.Held held) = (¬ IsRefuted system) × AreDecided system place atoms held (length atoms)
-IsFound system place atoms (found.Left kind) = first_leave (system ∷ map (λ atom. with_denial system (place atom)) atoms) ≡ Some kind
+IsFound system place atoms (found.Left kind) = LeavesWith system place atoms kind

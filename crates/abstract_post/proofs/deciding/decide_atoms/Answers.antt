@@ -17,7 +17,7 @@ returns-in-Err c =
     let atom = c.index-atoms-place.result in
     let at : slice_get atoms c.atoms.place ≡ Some atom = slice_get-get_or atoms c.atoms.place atom (omega arith) ∙ ap (λ a. Some a) (sym c.index-atoms-place.is) in
     let tells : Tells rows (placed_at c.args.before rows.columns atom) (Err c.in-Err.kind) = rw c.in-Err.is at c.in_ok-entailed.ensures in
-    left-at rows (placed_at c.args.before rows.columns) atoms c.atoms.held c.atoms.place atom c.in-Err.kind c.requires.decided c.atoms.invariant at tells
+    left-at rows (placed_at c.args.before rows.columns) atoms c.atoms.held c.atoms.place atom c.in-Err.kind c.requires.decided c.requires.has_point c.atoms.invariant at tells
 
 pub atoms-preserved : goal.atoms-preserved
 atoms-preserved c =
