@@ -34,10 +34,10 @@ use Rattle.core_steps.proofs.Keeps.{IsAimed, WasTaken, Keeps, target-home, over-
 -- ---- a take
 
 -- what leads to a home among live facts has live premises
-record Found (live : List KeptFact) (instance : Instance ℕ) : Type 0 where
-  premises : Instance KeptFact
-  ids : map_instance (λ (f : KeptFact). f.id) premises ≡ instance
-  are_live : AllByRecursion (Contains live) (premises_of premises)
+pub record Found (live : List KeptFact) (instance : Instance ℕ) : Type 0 where
+  pub premises : Instance KeptFact
+  pub ids : map_instance (λ (f : KeptFact). f.id) premises ≡ instance
+  pub are_live : AllByRecursion (Contains live) (premises_of premises)
 
 record FoundFact (live : List KeptFact) (id : ℕ) : Type 0 where
   f : KeptFact
@@ -62,7 +62,7 @@ found-home live id target k none is = by-fact (fact_at live id) refl
           home_is = ap (option_map (λ fact. Fact.home fact)) e ∙ ap (λ fact. Some (Fact.home fact)) (sym same);
         }
 
-leads-found : (program : Program) (live : List KeptFact) (instance : Instance ℕ) (target : Home) → target_among program live instance ≡ Some target → Found live instance
+pub leads-found : (program : Program) (live : List KeptFact) (instance : Instance ℕ) (target : Home) → target_among program live instance ≡ Some target → Found live instance
 leads-found program live (Init i) target is = record { premises = Init i; ids = refl; are_live = tt }
 leads-found program live (Own f e) target is =
     let one = found-home live f target (λ o. target_at program (Own f e) o None) refl is in

@@ -7,3 +7,6 @@ pub mod Refines
 pub mod Histories
 pub mod Safe
 pub mod Withdrawals
+pub mod Workers
+pub mod Counts
+pub mod Reserve

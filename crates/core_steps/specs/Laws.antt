@@ -1,6 +1,7 @@
 -- What holds after every legal history.
-use Rattle.std.specs.Prelude.{◌≡◌, ◌≢◌, ◌↔◌, ◌⊎◌, ◌<◌, ℕ, Bool, true, List, length, map, AllPairs, Some}
+use Rattle.std.specs.Prelude.{◌≡◌, ◌≢◌, ◌↔◌, ◌⊎◌, ◌<◌, ◌≤◌, ◌+◌, ◌*◌, ℕ, Bool, true, List, length, map, AllPairs, Some}
 use Rattle.std.specs.List.{AllByRecursion, Contains}
+use Rattle.thr_base.specs.declared.limits.Limits.{Limits}
 use Rattle.farkas_cert.specs.Cert.{IsRefuted}
 use Rattle.horn_rules.specs.Home.{Home}
 use Rattle.horn_rules.specs.Fact.{Fact}
@@ -76,6 +77,19 @@ ClearStatesAreSafe = (opening : Opening) (history : History) → IsOpening openi
 abbrev pub NoJobIsPublishedTwice : Type 0
 NoJobIsPublishedTwice = (opening : Opening) (history : History) → IsLegal opening history
     → AllPairs (λ one other. one ≢ other) (after opening history).published
+
+-- There are as many publishes that were not stale as may be, and one more for each worker, at most.
+abbrev pub PublishesAreFew : Type 0
+PublishesAreFew = (opening : Opening) (history : History) → IsLegal opening history
+    → length (after opening history).published ≤ opening.limits.jobs + opening.workers
+
+-- how many events a history has at most: a take and a publish for each job, a claim and a refine for each refinement, what is dropped by each
+-- worker after a refinement or a stop, with the take or claim of it, and the stop
+abbrev pub most_events : Limits → ℕ → ℕ
+most_events limits workers = 2 * (limits.jobs + workers) + workers + 2 * limits.refinements + 6 * (workers * (limits.refinements + 1)) + 3
+
+abbrev pub HistoriesAreShort : Type 0
+HistoriesAreShort = (opening : Opening) (history : History) → IsLegal opening history → length history ≤ most_events opening.limits opening.workers
 
 -- ---- what a refine withdraws
 

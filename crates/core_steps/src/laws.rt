@@ -1,4 +1,4 @@
-ghost use Rattle.core_steps.specs.Laws.{LiveFactsArePosts, LiveFactsAreLeast, DoneInstancesArePosted, InstancesAreDoneHeldOrPending, QuietStatesHaveTheLeastSet, ClearStatesAreSafe, NoJobIsPublishedTwice, WhatRemainsIsNotWithdrawn};
+ghost use Rattle.core_steps.specs.Laws.{LiveFactsArePosts, LiveFactsAreLeast, DoneInstancesArePosted, InstancesAreDoneHeldOrPending, QuietStatesHaveTheLeastSet, ClearStatesAreSafe, NoJobIsPublishedTwice, PublishesAreFew, HistoriesAreShort, WhatRemainsIsNotWithdrawn};
 
 /// After a legal history each live fact is the post of its kept instance, and in the least set of the predicates that homes have: a
 /// law, and no code.
@@ -26,6 +26,16 @@ pub fn quiet_states_have_the_least_set()
 /// No job is published twice: a law, and no code.
 pub fn no_job_is_published_twice()
     ensures { NoJobIsPublishedTwice }
+{}
+
+/// There are few publishes: a law, and no code.
+pub fn publishes_are_few()
+    ensures { PublishesAreFew }
+{}
+
+/// Histories are short, so that room for all events can be reserved: a law, and no code.
+pub fn histories_are_short()
+    ensures { HistoriesAreShort }
 {}
 
 /// Where homes change, the facts that remain are exactly those that are not withdrawn: a law, and no code.

@@ -5,6 +5,7 @@
 mod laws;
 
 pub use laws::{
-    done_instances_are_posted, instances_are_done_held_or_pending, live_facts_are_derived,
-    no_job_is_published_twice, quiet_states_have_the_least_set, what_remains_is_not_withdrawn,
+    done_instances_are_posted, histories_are_short, instances_are_done_held_or_pending,
+    live_facts_are_derived, no_job_is_published_twice, publishes_are_few,
+    quiet_states_have_the_least_set, what_remains_is_not_withdrawn,
 };
