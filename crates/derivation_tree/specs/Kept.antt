@@ -1,6 +1,5 @@
 -- What is handed from layer to layer of a failing fact: its derivation, what it teaches, or why it is left.
 use Rattle.std.specs.Prelude.{◌≡◌, ℕ, List, map, reverse, Some}
-use Rattle.std.specs.List.{AllByRecursion}
 use Rattle.thr_base.specs.declared.names.FactId.{FactId}
 use Rattle.thr_base.specs.declared.names.HomeNo.{HomeNo}
 use Rattle.thr_base.specs.declared.names.Fact.{Fact as StoredFact}
@@ -9,7 +8,7 @@ use Rattle.lin_rows.specs.Row.{Row}
 use Rattle.farkas_cert.specs.declared.answers.LeaveKind.{LeaveKind}
 use Rattle.transition_formula.specs.Program.{Program}
 use Rattle.horn_rules.specs.declared.job.Job.{Job}
-use Rattle.horn_rules.specs.Home.{Home, State}
+use Rattle.horn_rules.specs.Home.{State}
 use Rattle.horn_rules.specs.Predicate.{Predicate}
 use Rattle.horn_rules.specs.Stored.{fact_of, instance_of, home_numbered}
 use Rattle.abstract_post.specs.Left.{IsJobLeft}

@@ -1,6 +1,6 @@
 -- When a tree is left. It is looked at in this order: its size, the width of its cut system, the decision of that, and the sums of its
 -- certificate where it is refuted; otherwise the same of its full system; otherwise its chain.
-use Rattle.std.specs.Prelude.{◌≡◌, ◌≢◌, ◌⊎◌, ◌<◌, ◌-◌, ℕ, ℤ, pos, ◌*ℤ◌, false, List, length, take, Some, None, option_map}
+use Rattle.std.specs.Prelude.{◌≡◌, ◌≢◌, ◌⊎◌, ◌<◌, ◌-◌, ℕ, ℤ, ◌*ℤ◌, false, List, length, take, Some, None, option_map}
 use Rattle.std.specs.List.{Contains}
 use Rattle.lin_rows.specs.System.{System}
 use Rattle.lin_rows.specs.Atom.{greatest}
@@ -11,6 +11,7 @@ use Rattle.farkas_cert.specs.Proof.{overflow_of}
 use Rattle.farkas_cert.specs.Elimination.{outcome_of, left_by, Refuted, Point}
 use Rattle.farkas_cert.specs.declared.answers.LeaveKind.{LeaveKind}
 use Rattle.farkas_cert.specs.declared.answers.LeaveKind.TheVariants.{Overflow, Rows}
+use Rattle.rational_entail.specs.Entailment.{leave_of}
 use Rattle.transition_formula.specs.Program.{Program, at_number}
 use Rattle.derivation_tree.specs.declared.scope.TreeLeft.{TreeLeft}
 use Rattle.derivation_tree.specs.declared.scope.TreeLeft.TheVariants as left
@@ -23,7 +24,11 @@ use Rattle.derivation_tree.specs.Sums.{pairs_within, sum_at, is_constant, HasRat
 use Rattle.derivation_tree.specs.Replay.{OverflowAt, IsReplay}
 use Rattle.derivation_tree.specs.Chain.{chain_run}
 
--- The elimination of the system leaves with this kind.
+-- The solver leaves the system with this kind.
+abbrev pub SolverLeaves : System → LeaveKind → Type 0
+SolverLeaves system kind = leave_of system ≡ Some kind
+
+-- The elimination of the system leaves with this kind, whatever the tableau does.
 abbrev pub EliminationLeaves : System → LeaveKind → Type 0
 EliminationLeaves system kind = option_map (λ left. left.1) (left_by (outcome_of system)) ≡ Some kind
 
@@ -90,8 +95,8 @@ IsTreeLeft program tree (left.Tree n) = n < size_of tree
 IsTreeLeft program tree (left.Wide Cut) = ¬ IsWithin (cut_system program tree)
 IsTreeLeft program tree (left.Wide Full) = ReachesCut program tree × HasRationalPoint (cut_system program tree) × (¬ IsWithin (full_system program tree))
 IsTreeLeft program tree (left.Wide Chain) = ⊥
-IsTreeLeft program tree (left.Leaves Cut kind) = ReachesCut program tree × EliminationLeaves (cut_system program tree) kind
-IsTreeLeft program tree (left.Leaves Full kind) = ReachesFull program tree × EliminationLeaves (full_system program tree) kind
+IsTreeLeft program tree (left.Leaves Cut kind) = ReachesCut program tree × SolverLeaves (cut_system program tree) kind
+IsTreeLeft program tree (left.Leaves Full kind) = ReachesFull program tree × SolverLeaves (full_system program tree) kind
 IsTreeLeft program tree (left.Leaves Chain Overflow) = ReachesChain program tree × (EliminationLeaves (chain_system program tree) Overflow ⊎ ChainOverflows program tree)
 IsTreeLeft program tree (left.Leaves Chain Rows) = ReachesChain program tree × EliminationLeaves (chain_system program tree) Rows
 IsTreeLeft program tree (left.Interpolant Cut k cert) =

@@ -10,3 +10,4 @@ pub mod Chain
 pub mod Left
 pub mod Kept
 pub mod LeftCause
+pub mod Laws

@@ -1,12 +1,14 @@
 -- The nodes of a tree with their variables and rows. A node has variables for the columns before its step and after it; a node that stands
 -- at a location is over those after it. What a premise shares with the node above, where that has variables of its own, is left open
 -- here.
-use Rattle.std.specs.Prelude.{◌==◌, ℕ, suc, ◌+◌, pos, Bool, if◌then◌else◌, List, [], ◌∷◌, ◌++◌, length, map, flat_map, Option}
+use Rattle.std.specs.Prelude.{ℕ, suc, ◌+◌, Bool, if◌then◌else◌, List, [], ◌∷◌, ◌++◌, length, map, take, drop, flat_map, Option}
 use Rattle.std.specs.List.{range_with_len}
 use Rattle.lin_rows.specs.Row.{Row}
 use Rattle.transition_formula.specs.Program.{Program, Column, Thread, Edge}
-use Rattle.transition_formula.specs.Rows.{column_is, is_kept, test_row, set_row, edge_width, init_rows}
+use Rattle.transition_formula.specs.Rows.{is_kept, kept_columns}
 use Rattle.horn_rules.specs.Home.{Home}
+use Rattle.horn_rules.specs.Fact.{Statement}
+use Rattle.horn_rules.specs.Case.{init_case, own_case, guar_case, env_case, inter_case}
 use Rattle.derivation_tree.specs.Tree.{Tree, Init, Own, Guar, Env, Inter, size_of, thread_at, edge_at, thread_of, place_of, root_home, step_thread, step_edge}
 use Rattle.derivation_tree.specs.Variable.{Variable, After, Before, Input, NamedRow, row_named}
 
@@ -41,66 +43,66 @@ abbrev pub own_after : Program → ℕ → List Variable
 own_after program n = map (After n) (range_with_len 0 (length program.columns))
 
 -- the variables of node n, which is the root of the tree, by those of the node above
-abbrev pub moments_of : Program → Sharing → ℕ → Tree → Moments → Moments
-moments_of program share n tree above =
+abbrev pub state_moments : Program → Sharing → ℕ → Tree → Moments → Moments
+state_moments program share n tree above =
     let thread = thread_at program (step_thread program tree) in
     let edge = edge_at program (step_thread program tree) (step_edge program tree) in
-    let home = root_home program tree in
-    let after = shared share home program.columns above.after (own_after program n) in
+    let after = shared share (root_home program tree) program.columns above.after (own_after program n) in
     record { before = before_step n thread edge 0 after; after = after }
 
 -- a step as other threads see it shares what is before it too
-abbrev pub told_moments : Program → Sharing → ℕ → Tree → Moments → Moments
-told_moments program share n tree above =
-    let moments = moments_of program share n tree above in
-    record moments { before = shared share (root_home program tree) program.columns above.before moments.before }
+abbrev pub moments_of : Program → Sharing → ℕ → Tree → Moments → Moments
+moments_of program share n (Guar f e) above =
+    let moments = state_moments program share n (Guar f e) above in
+    record moments { before = shared share (root_home program (Guar f e)) program.columns above.before moments.before }
+moments_of program share n tree above = state_moments program share n tree above
 
 -- ---- rows
 
--- over a state: thread i is at location l
-abbrev pub place_row : Program → Home → List Variable → NamedRow
-place_row program home state = row_named state (column_is (length program.columns) (thread_at program (thread_of home)).counter (pos (place_of home)))
+-- what a fact that holds nothing says
+abbrev pub bare : Home → Statement
+bare home = record { home = home; atoms = [] }
 
--- a step of a thread by an edge: the counter before and after, the tests and the sets. A column that is kept has one variable, and no row.
-abbrev pub step_rows : Program → ℕ → ℕ → Moments → List Variable → List NamedRow
-step_rows program i e moments inputs =
-    let n = length program.columns in
-    let thread = thread_at program i in
-    let edge = edge_at program i e in
-    let width = edge_width n edge.inputs in
-    map (row_named (moments.before ++ (moments.after ++ inputs)))
-    (column_is width thread.counter (pos edge.from) ∷ column_is width (n + thread.counter) (pos edge.to) ∷ (map (test_row n) edge.tests ++ map (set_row n) edge.sets))
+-- rows of which k stand before those of a step by the edge: without the rows of the columns that the edge keeps, which have one variable
+abbrev pub without_kept : Program → Thread → Edge → ℕ → List Row → List Row
+without_kept program thread edge k rows =
+    take (k + 2) rows ++ drop (k + 2 + length (kept_columns (length program.columns) thread.counter edge)) rows
 
--- what all threads see of it: the counter
-abbrev pub seen_rows : Program → ℕ → ℕ → Moments → List NamedRow
-seen_rows program i e moments =
-    let n = length program.columns in
-    let thread = thread_at program i in
-    let edge = edge_at program i e in
-    map (row_named (moments.before ++ moments.after))
-    (column_is (n + n) thread.counter (pos edge.from) ∷ column_is (n + n) (n + thread.counter) (pos edge.to) ∷ [])
+-- such rows over the variables before and after the step by edge e of thread i, and the inputs
+abbrev pub step_rows : Program → ℕ → ℕ → Moments → List Variable → ℕ → List Row → List NamedRow
+step_rows program i e moments inputs k rows =
+    map (row_named (moments.before ++ (moments.after ++ inputs))) (without_kept program (thread_at program i) (edge_at program i e) k rows)
 
 -- the inputs of node n, whose step is by edge e of thread i
 abbrev pub inputs_of : Program → ℕ → ℕ → ℕ → List Variable
 inputs_of program n i e = map (Input n) (range_with_len 0 (edge_at program i e).inputs)
 
--- a node's own rows: those of its instance, where its premises hold nothing
+-- a node's own rows: those of its instance over premises that hold nothing
 abbrev pub own_rows : Program → ℕ → Tree → Moments → List NamedRow
-own_rows program n (Init i) moments = map (row_named moments.after) (init_rows program)
+own_rows program n (Init i) moments = map (row_named moments.after) (init_case program i).system.rows
 own_rows program n (Own f e) moments =
-    let i = thread_of (root_home program f) in
-    place_row program (root_home program f) moments.before ∷ step_rows program i e moments (inputs_of program n i e)
+    let home = root_home program f in
+    let i = thread_of home in
+    let given = own_case program i (thread_at program i) (edge_at program i e) (bare home) in
+    step_rows program i e moments (inputs_of program n i e) 1 given.system.rows
 own_rows program n (Guar f e) moments =
-    let i = thread_of (root_home program f) in
-    place_row program (root_home program f) moments.before ∷ step_rows program i e moments (inputs_of program n i e)
+    let home = root_home program f in
+    let i = thread_of home in
+    let given = guar_case program i e (thread_at program i) (edge_at program i e) (bare home) in
+    step_rows program i e moments (inputs_of program n i e) 1 given.system.rows
 own_rows program n (Env f t) moments =
+    let home = root_home program f in
     let told = root_home program t in
-    place_row program (root_home program f) moments.before ∷ seen_rows program (thread_of told) (place_of told) moments
+    let i = thread_of told in
+    let e = place_of told in
+    let given = env_case program (thread_of home) (place_of home) (thread_at program (thread_of home)) (thread_at program i) (edge_at program i e) (bare home) (bare told) in
+    step_rows program i e moments [] 1 given.system.rows
 own_rows program n (Inter f g e) moments =
-    let i = thread_of (root_home program g) in
-    place_row program (root_home program f) moments.before
-    ∷ place_row program (root_home program g) moments.before
-    ∷ step_rows program i e moments (inputs_of program n i e)
+    let home = root_home program f in
+    let other = root_home program g in
+    let i = thread_of other in
+    let given = inter_case program (thread_of home) (place_of home) (thread_at program (thread_of home)) (thread_at program i) (edge_at program i e) (bare home) (bare other) in
+    step_rows program i e moments (inputs_of program n i e) 2 given.system.rows
 
 -- ---- all nodes
 
@@ -123,7 +125,7 @@ nodes_of program share first (Own f e) above =
     nodes_of program share first f (at_before moments) ++ node_at program n (Own f e) moments ∷ []
 nodes_of program share first (Guar f e) above =
     let n = first + size_of (Guar f e) in
-    let moments = told_moments program share n (Guar f e) above in
+    let moments = moments_of program share n (Guar f e) above in
     nodes_of program share first f (at_before moments) ++ node_at program n (Guar f e) moments ∷ []
 nodes_of program share first (Env f t) above =
     let n = first + size_of (Env f t) in

@@ -1,5 +1,5 @@
 -- The solution of a certificate: at each node the weighted sum of its subtree's rows, and the predicates that these sums teach.
-use Rattle.std.specs.Prelude.{◌≡◌, nat_lt, nat_le, ℕ, ◌-◌, ℤ, pos, not, ◌&&◌, Bool, if◌then◌else◌, List, [], ◌∷◌, ◌++◌, length, map, filter, take}
+use Rattle.std.specs.Prelude.{◌≡◌, nat_lt, nat_le, ℕ, ◌-◌, ℤ, pos, not, ◌&&◌, Bool, if◌then◌else◌, List, [], ◌∷◌, ◌++◌, length, map, filter, flat_map, take}
 use Rattle.std.specs.List.{AllByRecursion, list_any}
 use Rattle.std.specs.Ordering.{int_eq}
 use Rattle.lin_rows.specs.Row.{Row}
@@ -15,7 +15,8 @@ use Rattle.derivation_tree.specs.declared.scope.Scope.{Scope}
 use Rattle.derivation_tree.specs.declared.scope.Scope.TheVariants.{Modular, Full}
 use Rattle.derivation_tree.specs.Tree.{Tree}
 use Rattle.derivation_tree.specs.Variable.{Variable, same_variable, variables_of, system_over}
-use Rattle.derivation_tree.specs.Nodes.{Sharing, Moments, Node, tree_nodes, rows_of}
+use Rattle.derivation_tree.specs.Nodes.{Moments, Node, tree_nodes, rows_of}
+use Rattle.derivation_tree.specs.Solution.{NodeRow}
 use Rattle.derivation_tree.specs.System.{cut_system, full_system, share_scope, share_all, IsWithin}
 
 -- ---- sums
@@ -51,6 +52,10 @@ sum_at nodes pairs n node =
     let sum = weighted_sum (system_over rows).rows (pairs_within from to pairs) in
     inequality (home_coefficients (coefficient_at (variables_of rows) sum.coefficients) node.home node.moments) sum.bound
 
+-- the rows that the sums are, at the nodes in their order
+abbrev pub sums_of : List Node → Pairs → List NodeRow
+sums_of nodes pairs = by_number (λ n node. record { home = node.home; row = sum_at nodes pairs n node } ∷ []) 1 nodes
+
 -- ---- predicates
 
 -- all coefficients are 0
@@ -63,7 +68,7 @@ predicate_at home row = if is_constant row then [] else record { home = home; at
 
 -- the predicates of the nodes in their order, which may be the same at several nodes
 abbrev pub predicates_of : List Node → Pairs → List Predicate
-predicates_of nodes pairs = by_number (λ n node. predicate_at node.home (sum_at nodes pairs n node)) 1 nodes
+predicates_of nodes pairs = flat_map (λ at. predicate_at at.home at.row) (sums_of nodes pairs)
 
 -- The predicates are those of a reduced certificate that refutes the nodes' system, and each is one of the program.
 pub record AreTaughtBy (program : Program) (nodes : List Node) (predicates : List Predicate) : Type 0 where

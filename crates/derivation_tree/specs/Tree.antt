@@ -5,7 +5,7 @@ use Rattle.transition_formula.specs.Program.{Program, Thread, Edge, at_number}
 use Rattle.horn_rules.specs.Home.{Home, State, Env as AtEdge}
 use Rattle.horn_rules.specs.Instance.{Instance, map_instance}
 use Rattle.horn_rules.specs.Instance as instance
-use Rattle.horn_rules.specs.Target.{location_beside, edge_beside}
+use Rattle.horn_rules.specs.Target.{target_at}
 use Rattle.derivation_tree.specs.Facts.{KeptFact}
 
 pub data Tree : Type 0 where
@@ -45,7 +45,23 @@ tree_of (f ∷ earlier) id = if f.id == id then tree_over (map_instance (tree_of
 
 -- ---- homes of nodes
 
--- thread i, and edge e of it; where there is none, one with nothing in it, which no node names
+-- the home of a tree's root; nothing where some node is no instance of the program
+abbrev pub home_of : Program → Tree → Option Home
+home_of program (Init i) = target_at {F = Tree} program (instance.Init i) None None
+home_of program (Own f e) = target_at program (instance.Own f e) (home_of program f) None
+home_of program (Guar f e) = target_at program (instance.Guar f e) (home_of program f) None
+home_of program (Env f t) = target_at program (instance.Env f t) (home_of program f) (home_of program t)
+home_of program (Inter f g e) = target_at program (instance.Inter f g e) (home_of program f) (home_of program g)
+
+-- Each node is an instance of the program, and the root gives a fact of this home.
+abbrev pub IsTreeOf : Program → Tree → Home → Type 0
+IsTreeOf program tree home = home_of program tree ≡ Some home
+
+-- Below the home of a root, its thread and its edges are named where they are there, as in a tree of the program each is; elsewhere what
+-- is named has nothing in it.
+abbrev pub root_home : Program → Tree → Home
+root_home program tree = unwrap_or (home_of program tree) (State 0 0)
+
 abbrev pub thread_at : Program → ℕ → Thread
 thread_at program i = unwrap_or (at_number program.threads i) (record { counter = 0; locations = 0; edges = [] })
 
@@ -60,14 +76,6 @@ thread_of (AtEdge i e) = i
 abbrev pub place_of : Home → ℕ
 place_of (State i l) = l
 place_of (AtEdge i e) = e
-
--- the home of a tree's root
-abbrev pub root_home : Program → Tree → Home
-root_home program (Init i) = State i 1
-root_home program (Own f e) = let home = root_home program f in location_beside home (edge_at program (thread_of home) e).to
-root_home program (Guar f e) = edge_beside (root_home program f) e
-root_home program (Env f t) = root_home program f
-root_home program (Inter f g e) = root_home program f
 
 -- the thread and the edge of a node's step: its own, that of which its second premise tells, or that of its second premise's thread
 abbrev pub step_thread : Program → Tree → ℕ

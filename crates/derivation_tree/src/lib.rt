@@ -3,11 +3,13 @@
 #![tactic(auto)]
 
 mod kept;
+mod laws;
 mod left;
 mod refutation;
 mod scope;
 
 pub use kept::Kept;
+pub use laws::{cut_points_have_no_modular_solution, full_points_give_chain_points};
 pub use left::{Left, LeftCause};
 pub use refutation::Refutation;
 pub use scope::{Scope, System, TreeLeft};
