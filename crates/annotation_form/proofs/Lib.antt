@@ -9,5 +9,6 @@ pub mod LineTexts
 pub mod ReadLines
 pub mod TextsTold
 pub mod Passing
+pub mod WholeLaws
 pub mod Places
 pub mod Listed

@@ -41,7 +41,7 @@ taken-out (Guar f e) = refl
 taken-out (Environment f t) = refl
 taken-out (Inter f g e) = refl
 
-resolved-one : (statements : List Statement) (numbers : Instance ℕ) (one other : Instance Statement) → IsResolved statements numbers one → IsResolved statements numbers other → one ≡ other
+pub resolved-one : (statements : List Statement) (numbers : Instance ℕ) (one other : Instance Statement) → IsResolved statements numbers one → IsResolved statements numbers other → one ≡ other
 resolved-one statements numbers one other a b =
     sym (taken-out one) ∙ ap (map_instance (λ o. unwrap_or o nothing)) (sym a ∙ b) ∙ taken-out other
 
@@ -77,7 +77,7 @@ home-there : (program : Program) (n : ℕ) (found : Option Home) → at_number (
 home-there program n None at there = cc
 home-there program n (Some home) at there = home-numbered program n home at
 
-statements-home : (program : Program) (annotation : Annotation) (facts : List StoredFact) → AllByRecursion (HasItsHome program) facts
+pub statements-home : (program : Program) (annotation : Annotation) (facts : List StoredFact) → AllByRecursion (HasItsHome program) facts
     → AllByRecursion (λ statement. IsHomeOf program statement.home) (map (λ fact. statement_of (sets_of program annotation.sets) (fact_of program fact)) facts)
 statements-home program annotation [] all = tt
 statements-home program annotation (fact ∷ facts) all = (

@@ -10,8 +10,8 @@ use Rattle.lin_rows.proofs.Lists.{AllByRecursion-append}
 use Rattle.horn_rules.proofs.ByNumber.{Contains-append}
 use Rattle.horn_rules.proofs.Lists.{Contains-first, first-or-later, contains-nothing, slice_get-Contains}
 use Rattle.farkas_cert.specs.Cert.{Pairs}
-use Rattle.annotation_form.specs.Certificates.{AreListed}
-use Rattle.annotation_form.specs.inside.Places.{at_place, kept_at, NoneTwice, IsPlace, AreKept}
+use Rattle.annotation_form.specs.Certificates.{AreListed, NoneTwice}
+use Rattle.annotation_form.specs.inside.Places.{at_place, kept_at, IsPlace, AreKept}
 use Rattle.annotation_form.specs.declared.certificates.Place.{Place}
 
 -- ---- parts of a longer buffer

@@ -16,3 +16,8 @@ abbrev pub IsKept : List Pairs → Pairs → ℕ → List Pairs → Type 0
 IsKept before pairs n later =
     ((at_number before n ≡ Some pairs) × (later ≡ before))
     ⊎ ((¬ Contains before pairs) × (n ≡ length before + 1) × (later ≡ before ++ pairs ∷ []))
+
+-- No certificate stands twice.
+abbrev pub NoneTwice : List Pairs → Type 0
+NoneTwice [] = Unit {0}
+NoneTwice (pairs ∷ rest) = (¬ Contains rest pairs) × NoneTwice rest

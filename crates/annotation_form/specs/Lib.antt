@@ -5,4 +5,5 @@ pub mod Laws
 pub mod Certificates
 pub mod Annotation
 pub mod Passes
+pub mod Whole
 pub mod inside

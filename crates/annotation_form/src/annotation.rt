@@ -1,7 +1,8 @@
 ghost use Rattle.std.specs.Prelude.{◌≡◌, ◌-◌, ◌^◌, ◌<◌, ◌≤◌, ◌++◌, ◌∷◌, [], Some, length, map, IfOk, OnErr, OnOk};
+ghost use Rattle.std.specs.List.{AllByRecursion};
 ghost use Rattle.transition_formula.specs.Program.{at_number};
 ghost use Rattle.annotation_form.specs.Annotation.{group_of};
-ghost use Rattle.annotation_form.specs.Certificates.{AreListed, IsKept};
+ghost use Rattle.annotation_form.specs.Certificates.{AreListed, IsKept, NoneTwice};
 
 use crate::certificates::Certificates;
 use predicate_sets::Sets;
@@ -31,12 +32,13 @@ pub struct Annotation {
 impl Model for Annotation {
     ghost use Rattle.std.specs.Prelude.{◌<◌, ◌-◌, ◌^◌, length, map};
     ghost use Rattle.annotation_form.specs.Annotation as specs;
+    ghost use Rattle.annotation_form.specs.inside.Places.{IsFew};
 
     ghost Value = { specs.Annotation };
 
     ghost view = { λ inside. record { rule = inside.rule; sets = inside.sets; facts = inside.facts.items; certificates = inside.certificates; groups = map specs.group_of inside.groups.items } };
 
-    ghost invariant = { λ inside. length inside.facts.items < 2 ^ 32 - 1 };
+    ghost invariant = { λ inside. IsFew (length inside.facts.items) (length inside.groups.items) };
 }
 
 impl Annotation {
@@ -74,14 +76,17 @@ impl Annotation {
     }
 
     pub fn groups(&self) -> &[Group]
-        ensures { map group_of result.now ≡ self.now.groups }
+        ensures groups { map group_of result.now ≡ self.now.groups }
+        ensures few { length self.now.groups < 2 ^ 32 - 1 }
     {
         self.groups.as_slice()
     }
 
     /// How many certificates there are.
     pub fn certificates(&self) -> usize
-        ensures { result ≡ length self.now.certificates }
+        ensures count { result ≡ length self.now.certificates }
+        ensures listed { AllByRecursion (AreListed 0) self.now.certificates }
+        ensures none_alike { NoneTwice self.now.certificates }
     {
         self.certificates.count()
     }

@@ -1,6 +1,6 @@
 ghost use Rattle.std.specs.Prelude.{◌≡◌, ◌↔◌, ◌+◌, ◌-◌, ◌^◌, ◌<◌, ◌≤◌, ◌++◌, ◌∷◌, [], Some, length, slice_get, slice_range, IfNone, IfSome, IsTrue, OnErr, OnOk, IfOk};
-ghost use Rattle.std.specs.List.{Contains};
-ghost use Rattle.annotation_form.specs.Certificates.{AreListed, IsKept};
+ghost use Rattle.std.specs.List.{AllByRecursion, Contains};
+ghost use Rattle.annotation_form.specs.Certificates.{AreListed, IsKept, NoneTwice};
 
 use std::alloc::{AllocError, Global};
 use std::marker::Model;
@@ -57,7 +57,9 @@ impl Certificates {
     }
 
     pub(crate) fn count(&self) -> usize
-        ensures { result ≡ length self.now }
+        ensures count { result ≡ length self.now }
+        ensures listed { AllByRecursion (AreListed 0) self.now }
+        ensures none_alike { NoneTwice self.now }
     {
         self.places.len()
     }

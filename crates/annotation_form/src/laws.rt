@@ -1,4 +1,5 @@
 ghost use Rattle.annotation_form.specs.Passes.{PassingAnnotationsAreSafe, PassingAnnotationsCover};
+ghost use Rattle.annotation_form.specs.Whole.{NamedCertificatesAreThere, WholeAnnotationsAreOfTheirProgram};
 ghost use Rattle.annotation_form.specs.Laws.{OneLineIsBad, TextsHaveNoBadLine, TextsTellPredicates};
 
 use transition_formula::{atom_texts_tell_atoms, runs_end_in_reached_states};
@@ -27,3 +28,9 @@ pub fn passing_annotations_are_safe()
 {
     runs_end_in_reached_states();
 }
+
+/// A whole annotation speaks of its program, and the certificates that its groups name are there: laws, and no code.
+pub fn whole_annotations_are_of_their_program()
+    ensures of_program { WholeAnnotationsAreOfTheirProgram }
+    ensures named { NamedCertificatesAreThere }
+{}

@@ -14,7 +14,7 @@ mod predicates;
 pub use annotation::{Annotation, Group};
 pub use laws::{
     one_line_is_bad_at_most, passing_annotations_are_safe, passing_annotations_cover,
-    texts_tell_predicates,
+    texts_tell_predicates, whole_annotations_are_of_their_program,
 };
 pub use listing::instances;
 pub use predicates::read_predicates;

@@ -227,4 +227,5 @@ fn laws_are_called() {
     passing_annotations_cover();
     one_line_is_bad_at_most();
     texts_tell_predicates();
+    whole_annotations_are_of_their_program();
 }
