@@ -1,7 +1,7 @@
-use Rattle.std.proofs.Common.{map, string_bytes, ap, refl, ◌∙◌}
+use Rattle.std.proofs.Common.{map, string_bytes, ap}
 use Rattle.command_line.specs.Seen.{request_of, work_of}
 use Rattle.threader_cli.specs.Answer.{is_built}
-use Rattle.threader_cli.proofs.WordsLemmas.{if_none, nothing_asked, nothing_built}
+use Rattle.threader_cli.proofs.WordsLemmas.{if_none, nothing_asked, nothing_built, og_is_not_built}
 use Rattle.threader_cli.proofs.words.tables_asked.Goals as goal
 
 pub returns-in_err-request-clause-refused : goal.returns-in_err-request-clause-refused
@@ -40,4 +40,4 @@ returns-in-Help-clause-refused c =
 pub returns-in-Og-clause-refused : goal.returns-in-Og-clause-refused
 returns-in-Og-clause-refused c =
     let held = request_of c.in_ok-request.request in
-    nothing_built _ held (c.words_ask_for_one.ensures _) c.in_ok-request.ensures.asked (ap (λ w. is_built (work_of w) held.options.rule) c.in-Tables.is ∙ ap (is_built (work_of _)) c.in-Og.is)
+    nothing_built _ held (c.words_ask_for_one.ensures _) c.in_ok-request.ensures.asked (og_is_not_built held.work held.options.rule c.in-Og.is)
