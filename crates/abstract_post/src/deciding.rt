@@ -1,6 +1,7 @@
 ghost use Rattle.std.specs.Prelude.{◌≡◌, ◌≢◌, ℕ, ◌+◌, ◌-◌, ◌^◌, ◌<◌, ◌≤◌, None, length, IfOk};
 ghost use Rattle.std.specs.List.{AllByRecursion};
 ghost use Rattle.thr_base.specs.Held.{holds};
+ghost use Rattle.thr_base.specs.Limits.{most_predicates};
 ghost use Rattle.lin_rows.specs.View.{system_of};
 ghost use Rattle.farkas_cert.specs.Cert.{IsRefuted};
 ghost use Rattle.rational_entail.specs.Entailment.{leave_of};
@@ -46,7 +47,7 @@ fn entails_placed(
 fn with_next(held: u128, position: u32, entailed: bool) -> u128
     requires before { held < 2 ^ (position - 1) }
     requires from_1 { 0 < position }
-    requires to_128 { position ≤ 128 }
+    requires to_128 { position ≤ most_predicates }
     ensures within { result < 2 ^ position }
     ensures there { holds result position ≡ entailed }
     ensures others { (k : ℕ) → 0 < k → k ≢ position → holds result k ≡ holds held k }
@@ -65,7 +66,7 @@ fn decide_atoms(
     before: u32,
     atoms: &[Atom],
 ) -> Result<Found, AllocError>
-    requires few { length atoms.now ≤ 128 }
+    requires few { length atoms.now ≤ most_predicates }
     requires within { AllByRecursion (λ atom. before + length atom.coefficients ≤ (system_of rows.now).columns) atoms.now }
     requires has_point { ¬ IsRefuted (system_of rows.now) }
     requires decided { leave_of (system_of rows.now) ≡ None }
@@ -88,7 +89,7 @@ pub fn solve(
     before: u32,
     atoms: &[Atom],
 ) -> Result<Found, AllocError>
-    requires few { length atoms.now ≤ 128 }
+    requires few { length atoms.now ≤ most_predicates }
     requires within { AllByRecursion (λ atom. before + length atom.coefficients ≤ (system_of rows.now).columns) atoms.now }
     ensures { IfOk result (IsFound (system_of rows.now) (placed_at before (system_of rows.now).columns) atoms.now) }
 {

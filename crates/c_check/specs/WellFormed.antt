@@ -4,6 +4,7 @@ use Rattle.std.specs.Prelude.{◌≡◌, ◌+◌, ◌-◌, ◌<◌, ◌≤◌, �
 use Rattle.std.specs.List.{AllByRecursion}
 use Rattle.thr_base.specs.Limits.{most_columns, most_threads}
 use Rattle.thr_base.specs.Number.{Fits}
+pub use Rattle.thr_base.specs.Number.{StartFits}
 use Rattle.c_tree.specs.declared.item.Tree.{Tree}
 use Rattle.c_tree.specs.GrammarItem.{IsTreeOf}
 use Rattle.c_tree.specs.Seen.{plain_tree}
@@ -108,11 +109,6 @@ abbrev pub HasCode : Counts → List Instruction → Type 0
 HasCode counts = AllByRecursion (HasInstruction counts)
 
 -- ---- of a plan
-
--- The value that a column starts with fits.
-abbrev pub StartFits : Option ℤ → Type 0
-StartFits None = Unit {0}
-StartFits (Some value) = Fits value
 
 -- The thread runs a function of the plan, whose locals and temporaries have columns behind the shared ones and in front of the
 -- counters.

@@ -1,20 +1,13 @@
 -- The live facts of a table, in the order in which they came.
-use Rattle.std.specs.Prelude.{◌≡◌, ◌≢◌, ℕ, ◌+◌, ◌-◌, ◌^◌, ◌==◌, min, Bool, true, false, not, if◌then◌else◌, List, [], ◌∷◌, map, filter, Option, option_map, unwrap_or}
+use Rattle.std.specs.Prelude.{◌≡◌, ◌≢◌, ℕ, ◌+◌, ◌-◌, ◌^◌, ◌==◌, min, Bool, true, false, not, if◌then◌else◌, List, map, filter, Option, option_map, unwrap_or}
 use Rattle.std.specs.List.{AllByRecursion, Contains, find}
 use Rattle.thr_base.specs.declared.names.Fact.{Fact}
 use Rattle.thr_base.specs.declared.names.FactId.{FactId}
 use Rattle.thr_base.specs.declared.names.Instance.{Instance}
 use Rattle.thr_base.specs.declared.names.Instance.TheVariants.{Init, Own, Guar, Env, Inter}
+pub use Rattle.thr_base.specs.Instances.{premises_of}
 use Rattle.fact_table.specs.declared.live_fact.LiveFact.{LiveFact}
 use Rattle.fact_table.specs.declared.live_fact.Rank.{Rank}
-
--- the ids of the premises of an instance, in the order in which it names them
-abbrev pub premises_of : Instance → List FactId
-premises_of (Init i) = []
-premises_of (Own f e) = f ∷ []
-premises_of (Guar f e) = f ∷ []
-premises_of (Env f t) = f ∷ t ∷ []
-premises_of (Inter f g e) = f ∷ g ∷ []
 
 -- the live fact with an id
 abbrev pub live_at : List LiveFact → ℕ → Option LiveFact

@@ -1,4 +1,5 @@
-ghost use Rattle.std.specs.Prelude.{◌≡◌, ℕ, ◌+◌, ◌^◌, ◌<◌, ◌≤◌, Some, length, IfOk, OnOk};
+ghost use Rattle.std.specs.Prelude.{◌≡◌, ℕ, suc, ◌+◌, ◌^◌, ◌<◌, ◌≤◌, Some, length, IfOk, OnOk};
+ghost use Rattle.thr_base.specs.Limits.{most_predicates};
 ghost use Rattle.transition_formula.specs.Program.{Thread, IsProgram, IsThreadOf, at_number};
 ghost use Rattle.lin_rows.specs.System.{with_rows};
 ghost use Rattle.horn_rules.specs.Home.{State, Env, homes};
@@ -69,7 +70,7 @@ fn push_state(
     requires room { length rows.old.rows < 2 ^ 20 }
     ensures program { OnOk result (IsProgram program.now) }
     ensures columns { OnOk result (rows.new.columns ≡ rows.old.columns) }
-    ensures few { OnOk result (length rows.new.rows ≤ length rows.old.rows + 129) }
+    ensures few { OnOk result (length rows.new.rows ≤ length rows.old.rows + suc most_predicates) }
     ensures rows { OnOk result ((i l : ℕ) (thread : Thread) → at_number (homes program.now) premise.now.fact.home.0 ≡ Some (State i l) → IsThreadOf program.now i thread → rows.new ≡ with_rows rows.old (said_rows (length program.now.columns) rows.old.columns thread l (premise_says program.now premise.now).atoms)) }
 {
     let (i, l) = location_of(program, premise);

@@ -1,6 +1,7 @@
 ghost use Rattle.std.specs.Prelude.{◌≡◌, ◌+◌, ◌-◌, ◌^◌, ◌<◌, ◌≤◌, ◌∷◌, [], length, map, filter, filter_map, pos, IsSome, OnOk};
 ghost use Rattle.std.specs.List.{AllByRecursion};
 ghost use Rattle.thr_base.specs.Held.{holds, positions};
+ghost use Rattle.thr_base.specs.Limits.{most_predicates};
 ghost use Rattle.lin_rows.specs.System.{with_row, with_rows};
 ghost use Rattle.transition_formula.specs.Program.{Thread, IsThreadOf, at_number};
 ghost use Rattle.transition_formula.specs.Rows.{column_is};
@@ -37,7 +38,7 @@ fn push_if_held(
     requires within { columns ≤ rows.old.columns }
     requires one_each { AllByRecursion (λ atom. length atom.coefficients ≡ columns) atoms.now }
     requires from_1 { 0 < position }
-    requires to_128 { position ≤ 128 }
+    requires to_128 { position ≤ most_predicates }
     requires room { length rows.old.rows < 2 ^ 32 - 2 }
     ensures { OnOk result (rows.new ≡ with_rows rows.old (map (wider_row (rows.old.columns - columns)) (filter_map (at_number atoms.now) (filter (holds held) (position ∷ []))))) }
 {
@@ -61,7 +62,7 @@ pub(crate) fn push_held(
     requires within { columns ≤ rows.old.columns }
     requires one_each { AllByRecursion (λ atom. length atom.coefficients ≡ columns) atoms.now }
     requires room { length rows.old.rows < 2 ^ 31 }
-    ensures few { OnOk result (length rows.new.rows ≤ length rows.old.rows + 128) }
+    ensures few { OnOk result (length rows.new.rows ≤ length rows.old.rows + most_predicates) }
     ensures rows { OnOk result (rows.new ≡ with_rows rows.old (map (wider_row (rows.old.columns - columns)) (atoms_at atoms.now (positions held)))) }
 {
     'positions: for position in 1..129 {

@@ -4,6 +4,7 @@ use Rattle.std.specs.Prelude.{◌≡◌, ◌≢◌, ◌↔◌, ◌+◌, ◌-◌,
 use Rattle.std.specs.List.{AllByRecursion, IsDistinct}
 use Rattle.thr_base.specs.Limits.{most_threads, most_columns, most_locations, most_edges, most_inputs, most_tests}
 use Rattle.thr_base.specs.Number.{Fits}
+pub use Rattle.thr_base.specs.Number.{StartFits}
 use Rattle.lin_rows.specs.Row.{Row}
 use Rattle.lin_rows.specs.System.{IsRowOver}
 use Rattle.thr_base.specs.ColumnText.{IsColumnText, counter_text}
@@ -58,11 +59,6 @@ pub record IsEdgeOf (program : Program) (i e : ℕ) (thread : Thread) (edge : Ed
 -- the first counter: the counters are the last columns
 abbrev pub first_counter : Program → ℕ
 first_counter program = length program.columns - length program.threads
-
--- A value that a column has initially fits.
-abbrev pub StartFits : Option ℤ → Type 0
-StartFits None = Unit {0}
-StartFits (Some v) = Fits v
 
 -- What is asked of a column of a program of so many threads.
 pub record IsColumn (threads : ℕ) (column : Column) : Type 0 where
