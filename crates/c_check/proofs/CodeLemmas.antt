@@ -1,5 +1,5 @@
 -- What a plan writes down is read again as what it was: so different statements have different code.
-use Rattle.std.proofs.Common.{◌≡◌, pos, List, [], ◌∷◌, ◌++◌, length, refl, sym, ap, ◌∙◌, append_assoc}
+use Rattle.std.proofs.Common.{◌≡◌, pos, List, [], ◌∷◌, ◌++◌, refl, sym, ap, ◌∙◌, append_assoc}
 use Rattle.std.proofs.lemmas.List.{append-nil}
 use Rattle.c_check.specs.declared.operation.Operation.{Operation}
 use Rattle.c_check.specs.declared.operation.Operation.TheVariants as operation
@@ -10,8 +10,6 @@ use Rattle.c_check.specs.declared.test.Condition as stored_condition
 use Rattle.c_check.specs.declared.test.Condition.TheVariants as stored
 use Rattle.c_check.specs.declared.instruction.Instruction.{Instruction}
 use Rattle.c_check.specs.declared.instruction.Instruction.TheVariants as instruction
-use Rattle.c_check.specs.Check.{PlansHaveItemsOfTexts}
-use Rattle.c_check.specs.Items.{Grain, items}
 use Rattle.c_check.specs.Plan.{Arithmetic, Test, Condition, Stmt, Stmts, code, joined, postfix, stmt_code, stored_condition_of, test_postfix}
 
 -- ---- expressions, left to right on a stack
@@ -190,6 +188,3 @@ read-all ss = ap (λ is. first_stmts (read is)) (sym (append-nil (code ss))) ∙
 -- different statements have different code
 pub code-injective : (ss us : Stmts) → code ss ≡ code us → ss ≡ us
 code-injective ss us same = sym (read-all ss) ∙ ap (λ is. first_stmts (read is)) same ∙ read-all us
-
-pub plans_have_items : PlansHaveItemsOfTexts
-plans_have_items f is = (λ h. h.items_are ∙ ap (items (Grain.Cut (length f.locals))) (sym (code-injective f.body h.statements h.code_is)), λ e. record { statements = f.body; code_is = refl; items_are = e })

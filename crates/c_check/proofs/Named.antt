@@ -10,7 +10,7 @@ use Rattle.c_check.specs.declared.meaning.Meaning.TheVariants as meaning
 use Rattle.c_check.specs.declared.meaning.Variable.TheVariants as variable
 use Rattle.c_check.specs.declared.uses.Kind.{Kind}
 use Rattle.c_check.specs.declared.uses.Kind.TheVariants as kind
-use Rattle.c_check.specs.Scope.{Binding, Scope, Scopes, as_function, as_lock, as_variable, declare, function_of, in_scope, lock_of, meaning_of, open_scope, variable_of}
+use Rattle.c_check.specs.Scope.{Binding, Scope, Scopes, as_lock, as_variable, declare, in_scope, lock_of, meaning_of, open_scope, variable_of}
 use Rattle.c_check.specs.Broken.{broken_if, is_of_kind, twice, unknown_as}
 use Rattle.c_check.specs.Resolve.{behind, behind_all, first_locals, past, stmt_locals, stmts_locals, with_first, with_handles, with_locals}
 use Rattle.c_check.specs.WellFormed.{Counts, HasVariable}
@@ -47,7 +47,7 @@ abbrev pub HasMeaning : Counts → Meaning → Type 0
 HasMeaning c (meaning.Integer v) = HasVariable c v
 HasMeaning c (meaning.Lock n) = n < c.locks
 HasMeaning c meaning.Handle = Unit {0}
-HasMeaning c (meaning.Function n) = n < c.functions
+HasMeaning c (meaning.Function n) = Unit {0}
 
 abbrev pub HasIfSome : Counts → Option Meaning → Type 0
 HasIfSome c None = Unit {0}
@@ -105,13 +105,6 @@ has-as_lock c (Some (meaning.Lock n)) known has = has
 has-as_lock c (Some meaning.Handle) known has = absurd cc
 has-as_lock c (Some (meaning.Function n)) known has = absurd cc
 
-has-as_function : (c : Counts) (m : Option Meaning) → is_of_kind kind.Function m ≡ true → HasIfSome c m → as_function m < c.functions
-has-as_function c None known has = absurd cc
-has-as_function c (Some (meaning.Integer v)) known has = absurd cc
-has-as_function c (Some (meaning.Lock n)) known has = absurd cc
-has-as_function c (Some meaning.Handle) known has = absurd cc
-has-as_function c (Some (meaning.Function n)) known has = has
-
 known : (k : Kind) (ss : Scopes) (x : Name) → unknown_as k ss x ≡ [] → is_of_kind k (meaning_of x.text ss) ≡ true
 known k ss x none = broken_if-none (is_of_kind k (meaning_of x.text ss)) _ _ none
 
@@ -120,9 +113,6 @@ has-variable_of c ss x all none = has-as_variable c (meaning_of x.text ss) (know
 
 pub has-lock_of : (c : Counts) (ss : Scopes) (x : Name) → HasScopes c ss → unknown_as kind.Lock ss x ≡ [] → lock_of ss x < c.locks
 has-lock_of c ss x all none = has-as_lock c (meaning_of x.text ss) (known kind.Lock ss x none) (has-meaning_of c x.text ss (has-around c ss all))
-
-pub has-function_of : (c : Counts) (ss : Scopes) (x : Name) → HasScopes c ss → unknown_as kind.Function ss x ≡ [] → function_of ss x < c.functions
-has-function_of c ss x all none = has-as_function c (meaning_of x.text ss) (known kind.Function ss x none) (has-meaning_of c x.text ss (has-around c ss all))
 
 -- ---- a name that was declared just now
 

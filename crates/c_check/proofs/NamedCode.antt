@@ -3,7 +3,7 @@ use Rattle.std.proofs.Common.{◌≡◌, ℕ, ◌+◌, ◌≤◌, pos, ◌&&◌,
 use Rattle.c_tree.specs.declared.expr.Name.{Name}
 use Rattle.c_tree.specs.declared.expr.UnaryKind.{UnaryKind}
 use Rattle.c_tree.specs.declared.expr.UnaryKind.TheVariants as unary
-use Rattle.c_tree.specs.Leaves.{Leaf, NumbersFit, assign_if_leaves, assign_leaves, call_leaves, expr_leaves, first_leaves, local_leaves, stmt_leaves, stmts_leaves, value_if_leaves, value_leaves}
+use Rattle.c_tree.specs.Leaves.{Leaf, NumbersFit, mark_leaf, operator_term, assign_if_leaves, assign_leaves, call_leaves, expr_leaves, first_leaves, local_leaves, stmt_leaves, stmts_leaves, value_if_leaves, value_leaves}
 use Rattle.c_tree.specs.Plain as plain
 use Rattle.c_check.specs.declared.meaning.Meaning.TheVariants as meaning
 use Rattle.c_check.specs.declared.meaning.Variable.TheVariants as variable
@@ -24,7 +24,7 @@ use Rattle.c_check.proofs.Named.{HasScopes, all-append, append-none, has-around,
 
 pub fit-append : (leaves more : List Leaf) → NumbersFit (leaves ++ more) → NumbersFit leaves × NumbersFit more
 fit-append [] more fit = (tt, fit)
-fit-append (Leaf.Token place ∷ leaves) more fit = fit-append leaves more fit
+fit-append (Leaf.Token said place ∷ leaves) more fit = fit-append leaves more fit
 fit-append (Leaf.Number value ∷ leaves) more fit = (let both = fit-append leaves more fit.1 in ((fit.0, both.0), both.1))
 
 -- ---- expressions
@@ -57,7 +57,7 @@ has-arithmetic c ss used (plain.Expr.Prefixed from k operand) all fit none =
     has-prefixed c k (arithmetic ss operand) (has-arithmetic c ss (sign_use k) operand all fit (append-none (sign_broken used k from) (expr_broken ss (sign_use k) operand) none).1)
 has-arithmetic c ss used (plain.Expr.Parens from inner) all fit none = has-arithmetic c ss used inner all fit none
 has-arithmetic c ss used (plain.Expr.Binary o from left right) all fit none =
-    let fits = fit-append (expr_leaves left) (Leaf.Token from ∷ expr_leaves right) fit in
+    let fits = fit-append (expr_leaves left) (mark_leaf (operator_term o) from ∷ expr_leaves right) fit in
     let nones = three-none (expr_broken ss (operand_use o) left) (mark_broken used o from (has_name left && has_name right)) (expr_broken ss (operand_use o) right) none in
     has-binary c o (arithmetic ss left) (arithmetic ss right) (has-arithmetic c ss (operand_use o) left all fits.0 nones.0) (has-arithmetic c ss (operand_use o) right all fits.1 nones.2)
 
@@ -95,7 +95,7 @@ has-test c ss used (plain.Expr.Prefixed from unary.Minus operand) all fit none =
 has-test c ss used (plain.Expr.Prefixed from unary.Plus operand) all fit none = has-not_zero c from (arithmetic ss operand) (has-arithmetic c ss use_as.Number operand all fit none)
 has-test c ss used (plain.Expr.Parens from inner) all fit none = has-test c ss used inner all fit none
 has-test c ss used (plain.Expr.Binary o from left right) all fit none =
-    let fits = fit-append (expr_leaves left) (Leaf.Token from ∷ expr_leaves right) fit in
+    let fits = fit-append (expr_leaves left) (mark_leaf (operator_term o) from ∷ expr_leaves right) fit in
     let nones = three-none (expr_broken ss (operand_use o) left) (mark_broken used o from (has_name left && has_name right)) (expr_broken ss (operand_use o) right) none in
     has-test_binary c ss o from left right (has-arithmetic c ss (operand_use o) left all fits.0 nones.0) (has-arithmetic c ss (operand_use o) right all fits.1 nones.2)
     (has-test c ss (operand_use o) left all fits.0 nones.0) (has-test c ss (operand_use o) right all fits.1 nones.2)

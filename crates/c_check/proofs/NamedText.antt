@@ -1,5 +1,5 @@
 -- What a text declares is there for its functions and for the creations of `main`, where the text breaks no rule.
-use Rattle.std.proofs.Common.{◌≡◌, ℕ, ◌+◌, ◌<◌, ◌≤◌, ℤ, Bool, true, false, List, [], ◌∷◌, length, map, drop, Option, Some, None, refl, sym, subst, arith, length-append, length-drop}
+use Rattle.std.proofs.Common.{◌≡◌, ℕ, ◌+◌, ◌≤◌, ℤ, Bool, true, false, List, [], ◌∷◌, length, map, drop, Option, Some, None, refl, arith, length-append, length-drop}
 use Rattle.std.specs.List.{AllByRecursion}
 use Rattle.thr_base.specs.Limits.{most_threads}
 use Rattle.thr_base.specs.Refusals.{bad_main}
@@ -11,17 +11,14 @@ use Rattle.c_check.specs.declared.meaning.Meaning.TheVariants as meaning
 use Rattle.c_check.specs.declared.meaning.Variable.TheVariants as variable
 use Rattle.c_check.specs.declared.main_form.Phase.TheVariants as phase
 use Rattle.c_check.specs.declared.place.Place.{Place}
-use Rattle.c_check.specs.declared.uses.Kind.TheVariants as kind
 use Rattle.c_check.specs.Scope.{Scopes, declare, open_scope}
 use Rattle.c_check.specs.Plan.{code}
-use Rattle.c_check.specs.Broken.{broken_if, only_in_main, stmt_broken, stmts_broken, twice, unknown_as}
-use Rattle.c_check.specs.Resolve.{behind, past, stmt_locals, stmts_locals}
+use Rattle.c_check.specs.Broken.{broken_if, stmts_broken, twice}
+use Rattle.c_check.specs.Resolve.{stmts_locals}
 use Rattle.c_check.specs.Program.{Next, behind_item, body_scopes, created_from, created_in, first_scopes, form_broken, functions_from, functions_in, globals_in, item_broken, items_broken, locks_in, main_broken, or_main, past_item, too_many_created, with_functions, with_globals, with_locks}
 use Rattle.c_check.specs.Columns.{start_of}
-use Rattle.c_check.specs.inside.Main.{creation_in}
 use Rattle.c_check.specs.WellFormed.{Counts, HasCode}
-use Rattle.c_check.proofs.Creations.{created_from-then}
-use Rattle.c_check.proofs.Named.{HasScopes, all-append, append-none, has-around, has-behind, has-declare, has-function_of, has-open_scope, has-with_handles, three-none}
+use Rattle.c_check.proofs.Named.{HasScopes, all-append, append-none, has-around, has-declare, has-open_scope, has-with_handles, three-none}
 use Rattle.c_check.proofs.NamedCode.{fit-append, has-stmts}
 
 -- with so many locals
@@ -34,7 +31,6 @@ having c n = record c { locals = n }
 pub record HasRoom (c : Counts) (next : Next) (items : List plain.Item) : Type 0 where
   pub globals : next.global + length (globals_in items) ≤ c.variables
   pub locks : next.lock + length (locks_in items) ≤ c.locks
-  pub functions : next.function + length (functions_in items) ≤ c.functions
 
 has-with_globals : (c : Counts) (ss : Scopes) (next : ℕ) (gs : List plain.Global) → next + length gs ≤ c.variables → HasScopes c ss → HasScopes c (with_globals ss next gs)
 has-with_globals c ss next [] within all = all
@@ -45,32 +41,32 @@ has-with_locks : (c : Counts) (ss : Scopes) (next : ℕ) (xs : List Name) → ne
 has-with_locks c ss next [] within all = all
 has-with_locks c ss next (x ∷ xs) within all = has-with_locks c (declare x (meaning.Lock next) ss) (next + 1) xs (omega arith) (has-declare c x (meaning.Lock next) ss (omega arith) all)
 
-has-with_functions : (c : Counts) (ss : Scopes) (next : ℕ) (xs : List Name) → next + length xs ≤ c.functions → HasScopes c ss → HasScopes c (with_functions ss next xs)
-has-with_functions c ss next [] within all = all
-has-with_functions c ss next (x ∷ xs) within all = has-with_functions c (declare x (meaning.Function next) ss) (next + 1) xs (omega arith) (has-declare c x (meaning.Function next) ss (omega arith) all)
+has-with_functions : (c : Counts) (ss : Scopes) (next : ℕ) (xs : List Name) → HasScopes c ss → HasScopes c (with_functions ss next xs)
+has-with_functions c ss next [] all = all
+has-with_functions c ss next (x ∷ xs) all = has-with_functions c (declare x (meaning.Function next) ss) (next + 1) xs (has-declare c x (meaning.Function next) ss tt all)
 
-pub has-first_scopes : (c : Counts) (items : List plain.Item) → length (functions_in items) ≤ c.functions → HasScopes c (first_scopes items)
-has-first_scopes c items within =
+pub has-first_scopes : (c : Counts) (items : List plain.Item) → HasScopes c (first_scopes items)
+has-first_scopes c items =
     let around : Scopes = with_functions (open_scope []) 0 (functions_in items) in
-    has-open_scope c around (has-around c around (has-with_functions c (open_scope []) 0 (functions_in items) (omega arith) (has-open_scope c [] tt)))
+    has-open_scope c around (has-around c around (has-with_functions c (open_scope []) 0 (functions_in items) (has-open_scope c [] tt)))
 
 has-behind_item : (c : Counts) (n : ℕ) (ss : Scopes) (next : Next) (item : plain.Item) (items : List plain.Item) → HasRoom c next (item ∷ items) → HasScopes (having c n) ss → HasScopes (having c n) (behind_item ss next item)
 has-behind_item c n ss next (plain.Item.Globals gs) items room all = has-with_globals (having c n) ss next.global gs (omega (arith, room.globals, length-append gs (globals_in items))) all
 has-behind_item c n ss next (plain.Item.Locks names) items room all = has-with_locks (having c n) ss next.lock names (omega (arith, room.locks, length-append names (locks_in items))) all
 has-behind_item c n ss next (plain.Item.Handles from names) items room all = has-with_handles (having c n) ss names all
-has-behind_item c n ss next (plain.Item.Thread name body) items room all = has-declare (having c n) name (meaning.Function next.function) ss (omega (arith, room.functions)) all
+has-behind_item c n ss next (plain.Item.Thread name body) items room all = has-declare (having c n) name (meaning.Function next.function) ss tt all
 has-behind_item c n ss next (plain.Item.Main from body) items room all = all
 has-behind_item c n ss next (plain.Item.Prototype name) items room all = all
 has-behind_item c n ss next (plain.Item.Profile from) items room all = all
 
 room-past : (c : Counts) (next : Next) (item : plain.Item) (items : List plain.Item) → HasRoom c next (item ∷ items) → HasRoom c (past_item next item) items
-room-past c next (plain.Item.Globals gs) items room = record { globals = omega (arith, room.globals, length-append gs (globals_in items)); locks = room.locks; functions = room.functions }
-room-past c next (plain.Item.Locks names) items room = record { globals = room.globals; locks = omega (arith, room.locks, length-append names (locks_in items)); functions = room.functions }
-room-past c next (plain.Item.Handles from names) items room = record { globals = room.globals; locks = room.locks; functions = room.functions }
-room-past c next (plain.Item.Thread name body) items room = record { globals = room.globals; locks = room.locks; functions = omega (arith, room.functions) }
-room-past c next (plain.Item.Main from body) items room = record { globals = room.globals; locks = room.locks; functions = room.functions }
-room-past c next (plain.Item.Prototype name) items room = record { globals = room.globals; locks = room.locks; functions = room.functions }
-room-past c next (plain.Item.Profile from) items room = record { globals = room.globals; locks = room.locks; functions = room.functions }
+room-past c next (plain.Item.Globals gs) items room = record { globals = omega (arith, room.globals, length-append gs (globals_in items)); locks = room.locks }
+room-past c next (plain.Item.Locks names) items room = record { globals = room.globals; locks = omega (arith, room.locks, length-append names (locks_in items)) }
+room-past c next (plain.Item.Handles from names) items room = record { globals = room.globals; locks = room.locks }
+room-past c next (plain.Item.Thread name body) items room = record { globals = room.globals; locks = room.locks }
+room-past c next (plain.Item.Main from body) items room = record { globals = room.globals; locks = room.locks }
+room-past c next (plain.Item.Prototype name) items room = record { globals = room.globals; locks = room.locks }
+room-past c next (plain.Item.Profile from) items room = record { globals = room.globals; locks = room.locks }
 
 -- ---- functions
 
@@ -84,7 +80,7 @@ has-functions c ss next has_main end (plain.Item.Thread name body ∷ items) roo
     let fits = fit-append (item_leaves item) (items_leaves items) fit in
     let nones = append-none (item_broken ss next has_main item) (items_broken (behind_item ss next item) (past_item next item) (or_main has_main item) end items) none in
     let around : Scopes = declare name (meaning.Function next.function) ss in
-    let seen : HasScopes own around = has-declare own name (meaning.Function next.function) ss (omega (arith, room.functions)) (all (length (stmts_locals body))) in (
+    let seen : HasScopes own around = has-declare own name (meaning.Function next.function) ss tt (all (length (stmts_locals body))) in (
       has-stmts own p (body_scopes ss next name) 0 body (omega arith) (has-open_scope own around (has-around own around seen)) fits.0
           (append-none (twice ss name) (stmts_broken p (body_scopes ss next name) 0 body) nones.0).1,
       has-functions c (behind_item ss next item) (past_item next item) (or_main has_main item) end items (room-past c next item items room) (λ n. has-behind_item c n ss next item items room (all n)) fits.1 nones.1,
@@ -96,22 +92,6 @@ has-functions c ss next has_main end (item ∷ items) room all fit none =
 
 -- ---- creations
 
-has-creation : (c : Counts) (p : Place) (ss : Scopes) (next : ℕ) (s : plain.Stmt) → HasScopes c ss → stmt_broken p ss next s ≡ [] → AllByRecursion (λ (k : Name × ℕ). k.1 < c.functions) (creation_in ss s)
-has-creation c p ss next (plain.Stmt.Calls (plain.Call.Create from handle function)) all none =
-    (has-function_of c ss function all (three-none (only_in_main p from) (unknown_as kind.Handle ss handle) (unknown_as kind.Function ss function) none).2, tt)
-has-creation c p ss next s all none = tt
-
-has-created : (c : Counts) (p : Place) (ss : Scopes) (next : ℕ) (body : plain.Stmts) → next + length (stmts_locals body) ≤ c.locals → HasScopes c ss → stmts_broken p ss next body ≡ []
-    → AllByRecursion (λ (k : Name × ℕ). k.1 < c.functions) (created_from ss next body)
-has-created c p ss next plain.Stmts.End within all none = tt
-has-created c p ss next (plain.Stmts.Then s rest) within all none =
-    let P : List (Name × ℕ) → Type 0 = λ ks. AllByRecursion (λ (k : Name × ℕ). k.1 < c.functions) ks in
-    let counted : next + length (stmt_locals s) + length (stmts_locals rest) ≤ c.locals = omega (arith, length-append (stmt_locals s) (stmts_locals rest)) in
-    let nones = append-none (stmt_broken p ss next s) (stmts_broken p (behind ss next s) (past next s) rest) none in
-    subst P (sym (created_from-then ss next s rest))
-    (all-append (λ (k : Name × ℕ). k.1 < c.functions) (creation_in ss s) (created_from (behind ss next s) (past next s) rest) (has-creation c p ss next s all nones.0)
-    (has-created c p (behind ss next s) (past next s) rest (omega arith) (has-behind c ss next s (omega arith) all) nones.1))
-
 map-none : {X Y : Type 0} → (f : X → Y) (xs : List X) → map f xs ≡ [] → length xs ≡ 0
 map-none f [] none = refl
 map-none f (x ∷ xs) none = cc
@@ -119,28 +99,18 @@ map-none f (x ∷ xs) none = cc
 few-created : (ks : List (Name × ℕ)) → too_many_created ks ≡ [] → length ks ≤ most_threads
 few-created ks none = omega (arith, map-none _ (drop most_threads ks) none, length-drop most_threads ks)
 
--- what is known of the creations of `main`
-pub record HasCreations (c : Counts) (ks : List (Name × ℕ)) : Type 0 where
-  pub are : AllByRecursion (λ (k : Name × ℕ). k.1 < c.functions) ks
-  pub few : length ks ≤ most_threads
-
-pub has-creations : (c : Counts) (ss : Scopes) (next : Next) (has_main : Bool) (end : ℕ) (items : List plain.Item) → HasRoom c next items → ((n : ℕ) → HasScopes (having c n) ss)
-    → items_broken ss next has_main end items ≡ [] → HasCreations c (created_in ss next items)
-has-creations c ss next has_main end [] room all none = record { are = tt; few = omega arith }
-has-creations c ss next has_main end (plain.Item.Main from body ∷ items) room all none =
+-- `main` does not create too many threads
+pub few-creations : (ss : Scopes) (next : Next) (has_main : Bool) (end : ℕ) (items : List plain.Item) → items_broken ss next has_main end items ≡ [] → length (created_in ss next items) ≤ most_threads
+few-creations ss next has_main end [] none = omega arith
+few-creations ss next has_main end (plain.Item.Main from body ∷ items) none =
     let p : Place = record { is_in_thread = false; is_in_atomic = false } in
-    let own : Counts = having c (length (stmts_locals body)) in
     let item : plain.Item = plain.Item.Main from body in
     let nones = append-none (item_broken ss next has_main item) (items_broken (behind_item ss next item) (past_item next item) (or_main has_main item) end items) none in
     let main = append-none (broken_if has_main bad_main from) (main_broken ss body) nones.0 in
-    let parts = three-none (stmts_broken p (open_scope ss) 0 body) (form_broken phase.Creating body) (too_many_created (created_from (open_scope ss) 0 body)) main.1 in
-    record {
-      are = has-created own p (open_scope ss) 0 body (omega arith) (has-open_scope own ss (has-around own ss (all (length (stmts_locals body))))) parts.0;
-      few = few-created (created_from (open_scope ss) 0 body) parts.2;
-    }
-has-creations c ss next has_main end (item ∷ items) room all none =
+    few-created (created_from (open_scope ss) 0 body) (three-none (stmts_broken p (open_scope ss) 0 body) (form_broken phase.Creating body) (too_many_created (created_from (open_scope ss) 0 body)) main.1).2
+few-creations ss next has_main end (item ∷ items) none =
     let nones = append-none (item_broken ss next has_main item) (items_broken (behind_item ss next item) (past_item next item) (or_main has_main item) end items) none in
-    has-creations c (behind_item ss next item) (past_item next item) (or_main has_main item) end items (room-past c next item items room) (λ n. has-behind_item c n ss next item items room (all n)) nones.1
+    few-creations (behind_item ss next item) (past_item next item) (or_main has_main item) end items nones.1
 
 -- ---- what variables start with
 

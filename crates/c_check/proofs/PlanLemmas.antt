@@ -1,14 +1,17 @@
 -- The plans of accepted texts are well-formed.
 use Rattle.std.proofs.Common.{◌≡◌, ℕ, zero, suc, ◌+◌, ◌-◌, ◌<◌, ◌≤◌, pos, Bool, true, false, if◌then◌else◌, List, [], ◌∷◌, ◌++◌, length, map, filter, slice_get, Option, Some, None, refl, sym, ap, subst, ◌∙◌, arith, length-append}
 use Rattle.std.proofs.lemmas.List.{length-map}
+use Rattle.std.proofs.lemmas.Option.{slice_get_within}
 use Rattle.std.proofs.lemmas.List.Elements.{filter-append}
 use Rattle.std.specs.List.{AllByRecursion}
+use Rattle.thr_base.specs.Limits.{most_threads}
 use Rattle.thr_base.specs.Number.{Fits}
 use Rattle.thr_base.specs.declared.names.ThreadNo.{ThreadNo}
 use Rattle.c_tree.specs.declared.expr.Name.{Name}
 use Rattle.c_tree.specs.Leaves.{NumbersFit, tree_leaves}
 use Rattle.c_tree.specs.Plain as plain
 use Rattle.c_tree.specs.Seen.{plain_tree}
+use Rattle.c_tree.proofs.Naming.{names_of_text}
 use Rattle.c_tree.proofs.SittingText.{tree_fits}
 use Rattle.c_check.specs.declared.columns.OwnVariables.{OwnVariables}
 use Rattle.c_check.specs.declared.plan.Column.{Column}
@@ -16,14 +19,21 @@ use Rattle.c_check.specs.declared.plan.Thread.{Thread}
 use Rattle.c_check.specs.declared.plan.Plan.{Plan}
 use Rattle.c_check.specs.Plan.{code}
 use Rattle.c_check.specs.Scope.{Scopes}
-use Rattle.c_check.specs.Program.{Function, Next, behind_item, created_in, created_of, first_next, first_scopes, functions_from, functions_in, functions_of, globals_in, locks_in, past_item}
+use Rattle.c_check.specs.Program.{Function, Next, behind_item, created_of, creations_of, first_next, first_scopes, functions_from, functions_in, functions_of, globals_in, locks_in, past_item}
 use Rattle.c_check.specs.Columns.{columns_if, columns_of, counters_from, local_columns, lock_column, own_columns_from, own_count, own_variables, owns_of, shared_columns, temporary_columns, threads_from, threads_of, variable_column}
 use Rattle.c_check.specs.Check.{IsAccepted, stored_function}
+use Rattle.c_check.specs.Numbers.{names_of}
 use Rattle.c_check.specs.WellFormed.{AcceptedPlansAreWellFormed, Counts, HasCode, HasThread, IsWellFormedPlan, StartFits, counts_in, is_lock, is_variable}
 use Rattle.c_check.proofs.CheckLemmas.{length-counters_from}
+use Rattle.c_check.specs.inside.Words.{AreWords}
 use Rattle.c_check.proofs.ColumnLemmas.{length-columns_if}
+use Rattle.c_check.proofs.ColumnNames.{columns-differ}
+use Rattle.c_check.proofs.ColumnTexts.{TextIs, columns-texts}
+use Rattle.c_check.proofs.ColumnOrder.{has-columns}
+use Rattle.c_check.proofs.Words.{are-words}
 use Rattle.c_check.proofs.Named.{HasScopes, all-append}
-use Rattle.c_check.proofs.NamedText.{HasCreations, HasRoom, having, has-creations, has-first_scopes, has-functions, starts-fit}
+use Rattle.c_check.proofs.NamedText.{HasRoom, having, few-creations, has-first_scopes, has-functions, starts-fit}
+use Rattle.c_check.proofs.Numbered.{Creates, of-all_creations}
 
 -- ---- lists
 
@@ -179,25 +189,35 @@ abbrev plan_of : plain.Tree → Plan
 plan_of tree = record { columns = columns_of tree; functions = map stored_function (functions_of tree); threads = threads_of tree }
 
 abbrev counts_of : plain.Tree → Counts
-counts_of tree = record { variables = length (globals_in tree.items); locks = length (locks_in tree.items); functions = length (functions_of tree); locals = 0 }
+counts_of tree = record { variables = length (globals_in tree.items); locks = length (locks_in tree.items); locals = 0 }
 
 module _ (tree : plain.Tree) (accepted : IsAccepted tree) where
   room : HasRoom (counts_of tree) first_next tree.items
-  room = record { globals = omega arith; locks = omega arith; functions = omega (arith, length-functions_from (first_scopes tree.items) first_next tree.items) }
+  room = record { globals = omega arith; locks = omega arith }
 
   scopes : (n : ℕ) → HasScopes (having (counts_of tree) n) (first_scopes tree.items)
-  scopes n = has-first_scopes (having (counts_of tree) n) tree.items (omega (arith, length-functions_from (first_scopes tree.items) first_next tree.items))
+  scopes n = has-first_scopes (having (counts_of tree) n) tree.items
 
-  creations : HasCreations (counts_of tree) (created_in (first_scopes tree.items) first_next tree.items)
-  creations = has-creations (counts_of tree) (first_scopes tree.items) first_next false tree.end tree.items room scopes accepted.none_broken
+  created-few : length (created_of tree) ≤ most_threads
+  created-few = omega (arith, length-map (creations_of tree) (λ (c : Name × ℕ). c.1), few-creations (first_scopes tree.items) first_next false tree.end tree.items accepted.none_broken)
 
-  created-length : length (created_of tree) ≡ length (created_in (first_scopes tree.items) first_next tree.items)
-  created-length = length-map (created_in (first_scopes tree.items) first_next tree.items) (λ (c : Name × ℕ). c.1)
+  -- a creation names a function that is there
+  known : (c : Name × ℕ) → Creates (names_of tree.items []) c → c.1 < length (functions_of tree)
+  known c is =
+      omega (
+        arith,
+        slice_get_within (map (λ (x : Name). x.text) (functions_in tree.items)) c.1 c.0.text is,
+        length-map (functions_in tree.items) (λ (x : Name). x.text),
+        length-functions_from (first_scopes tree.items) first_next tree.items,
+      )
+
+  created-functions : AllByRecursion (λ n. n < length (functions_of tree)) (created_of tree)
+  created-functions =
+      all-map (λ n. n < length (functions_of tree)) (λ (c : Name × ℕ). c.1) (creations_of tree)
+      (all-then (Creates (names_of tree.items [])) (λ (c : Name × ℕ). c.1 < length (functions_of tree)) known (creations_of tree) (of-all_creations tree [] accepted.none_broken))
 
   created-known : AllByRecursion (λ n. n < length (owns_of tree)) (created_of tree)
-  created-known =
-      all-map (λ n. n < length (owns_of tree)) (λ (c : Name × ℕ). c.1) (created_in (first_scopes tree.items) first_next tree.items)
-      (subst (λ k. AllByRecursion (λ (c : Name × ℕ). c.1 < k) (created_in (first_scopes tree.items) first_next tree.items)) (sym (length-map (functions_of tree) own_variables)) creations.are)
+  created-known = subst (λ k. AllByRecursion (λ n. n < k) (created_of tree)) (sym (length-map (functions_of tree) own_variables)) created-functions
 
   stand : AllByRecursion (StandsBetween (owns_of tree) (length (shared_columns tree)) (length (columns_of tree) - length (threads_of tree))) (threads_of tree)
   stand =
@@ -217,16 +237,19 @@ module _ (tree : plain.Tree) (accepted : IsAccepted tree) where
   has-body : (f : Function) → HasCode (having (counts_of tree) (length f.locals)) (code f.body) → HasCode (counts_in (plan_of tree) (stored_function f)) (code f.body)
   has-body f has =
       let same : counts_in (plan_of tree) (stored_function f) ≡ having (counts_of tree) (length f.locals) =
-      λ i. record { variables = count-variables tree i; locks = count-locks tree i; functions = length-map (functions_of tree) stored_function i; locals = length f.locals } in
+      λ i. record { variables = count-variables tree i; locks = count-locks tree i; locals = length f.locals } in
       subst (λ c. HasCode c (code f.body)) (sym same) has
 
-  well_formed : NumbersFit (tree_leaves tree) → IsWellFormedPlan (plan_of tree)
-  well_formed fit =
+  well_formed : NumbersFit (tree_leaves tree) → AreWords tree → IsWellFormedPlan (plan_of tree)
+  well_formed fit words =
       let threads : length (threads_of tree) ≡ length (created_of tree) = length-threads_from (owns_of tree) (length (shared_columns tree)) (created_of tree) in
       record {
         some_threads = omega (arith, threads, some-length (created_of tree) accepted.some_threads);
-        few_threads = omega (arith, threads, created-length, creations.few);
+        few_threads = omega (arith, threads, created-few);
         few_columns = accepted.few_columns;
+        columns_are = has-columns tree (plan_of tree) refl refl refl created-functions;
+        texts_are = subst (λ (n : ℕ). AllByRecursion (TextIs n) (columns_of tree)) (sym threads) (columns-texts tree words accepted.few_columns);
+        texts_differ = columns-differ tree accepted.none_broken words created-few accepted.few_columns;
         starts_fit = starts-columns_of tree fit;
         threads_are = all-then _ (HasThread (plan_of tree)) has-thread (threads_of tree) stand;
         functions_are = all-map (λ f. HasCode (counts_in (plan_of tree) f) f.body) stored_function (functions_of tree)
@@ -237,4 +260,4 @@ module _ (tree : plain.Tree) (accepted : IsAccepted tree) where
 pub plans-well_formed : AcceptedPlansAreWellFormed
 plans-well_formed text tree plan has accepted is =
     let same : plan ≡ plan_of (plain_tree tree) = λ i. record { columns = is.columns_are i; functions = is.functions_are i; threads = is.threads_are i } in
-    subst IsWellFormedPlan (sym same) (well_formed (plain_tree tree) accepted (tree_fits tree.items has.0 has.2))
+    subst IsWellFormedPlan (sym same) (well_formed (plain_tree tree) accepted (tree_fits tree.items has.0 has.2) (are-words (plain_tree tree) (names_of_text text tree has)))

@@ -117,6 +117,32 @@ choices : does (lone (plain.Stmt.If 0 (plain.Value.Input 0) (plain.Stmt.Assigns 
     ≡ one (Item.Branch None (Side.Goes (one (Item.AssignAny X))) (Side.Goes Items.End)) ∷ []
 choices = refl
 
+abbrev x_below_one : plain.Expr
+x_below_one = binary plain.Operator.Less (plain.Expr.Named x) (number 1)
+
+abbrev y_below_two : plain.Expr
+y_below_two = binary plain.Operator.Less (plain.Expr.Named y) (number 2)
+
+abbrev asks_x : Side → Side → Items
+asks_x true_side false_side = asks (compared mark.Less (value X) (constant 1)) true_side false_side
+
+abbrev asks_y : Side → Side → Items
+asks_y true_side false_side = asks (compared mark.Less (value Y) (constant 2)) true_side false_side
+
+-- if (x < 1 && y < 2) x = 3;
+both_in_turn : does (lone (if_so (binary plain.Operator.And x_below_one y_below_two) (set x (number 3))))
+    ≡ asks_x (Side.Goes (asks_y (Side.Goes (one (Item.Assign X (constant 3)))) (Side.Goes Items.End))) (Side.Goes Items.End) ∷ []
+both_in_turn = refl
+
+-- what is asked where one of `x < 1` and `y < 2` is false: `x < 4`
+abbrev or_else : Side
+or_else = Side.Goes (asks (compared mark.Less (value X) (constant 4)) (Side.Goes (one (Item.Assign X (constant 3)))) (Side.Goes Items.End))
+
+-- if (x < 1 && y < 2 || x < 4) x = 3;
+both_or_another : does (lone (if_so (binary plain.Operator.Or (binary plain.Operator.And x_below_one y_below_two) (binary plain.Operator.Less (plain.Expr.Named x) (number 4))) (set x (number 3))))
+    ≡ asks_x (Side.Goes (asks_y (Side.Goes (one (Item.Assign X (constant 3)))) or_else)) or_else ∷ []
+both_or_another = refl
+
 -- ---- shared accesses
 
 -- x = x + y + x;
@@ -150,6 +176,24 @@ test_and_set : does (plain.Stmts.Then (int_k 1)
     (asks (compared mark.Equal (value (own 0)) (constant 0)) (Side.Goes (one (Item.Assign Y (constant 1)))) (Side.Goes Items.End)))
     ∷ []
 test_and_set = refl
+
+abbrev x_and_y : plain.Expr
+x_and_y = binary plain.Operator.Plus (plain.Expr.Named x) (plain.Expr.Named y)
+
+abbrev less : plain.Expr → plain.Expr → plain.Expr
+less left right = binary plain.Operator.Less left right
+
+-- __VERIFIER_atomic_begin(); if (x + y < 1) x = x + y; assert(x < y); __VERIFIER_assume(y < x); __VERIFIER_atomic_end();
+nothing_is_read_first_in_a_block : does (lone (plain.Stmt.Atomic 0
+    (plain.Stmts.Then (if_so (less x_and_y (number 1)) (set x x_and_y))
+    (plain.Stmts.Then (plain.Stmt.Calls (plain.Call.Assert 0 (less (plain.Expr.Named x) (plain.Expr.Named y))))
+    (lone (plain.Stmt.Calls (plain.Call.Assume 0 (less (plain.Expr.Named y) (plain.Expr.Named x)))))))))
+    ≡ one (Item.Atomic
+    (Items.Then (Item.Branch (Some (compared mark.Less (Arithmetic.Sum (value X) (value Y)) (constant 1))) (Side.Goes (one (Item.Assign X (Arithmetic.Sum (value X) (value Y))))) (Side.Goes Items.End))
+    (Items.Then (Item.Branch (Some (compared mark.Less (value X) (value Y))) (Side.Goes Items.End) Side.Failed)
+    (asks (compared mark.Less (value Y) (value X)) (Side.Goes Items.End) Side.Nowhere))))
+    ∷ []
+nothing_is_read_first_in_a_block = refl
 
 -- ---- loops
 

@@ -1,17 +1,19 @@
 -- When a text is refused, and what its plan is where it is not.
-use Rattle.std.specs.Prelude.{◌≡◌, ◌⊎◌, ◌↔◌, ◌<◌, ◌≤◌, ℕ, List, [], length, map, Contains, Result}
+use Rattle.std.specs.Prelude.{◌≡◌, ◌⊎◌, ◌↔◌, ◌<◌, ◌≤◌, ℕ, List, [], length, map, slice_get, Some, Contains, Result}
 use Rattle.thr_base.specs.declared.stops.Refusal.{Refusal}
 use Rattle.thr_base.specs.declared.stops.Stop.{Stop}
 use Rattle.thr_base.specs.Limits.{most_columns}
 use Rattle.thr_base.specs.Refusals.{IsFirst, MatchStop, no_thread, too_many}
+use Rattle.c_tree.specs.declared.expr.Name.{Name}
 use Rattle.c_tree.specs.Plain as plain
 use Rattle.c_check.specs.declared.plan.Function as stored
 use Rattle.c_check.specs.declared.plan.Plan.{Plan}
+use Rattle.c_check.specs.declared.plan.Thread.{Thread}
 use Rattle.c_check.specs.declared.instruction.Instruction.{Instruction}
 use Rattle.c_check.specs.Plan.{Stmts, code}
 use Rattle.c_check.specs.Items.{Grain, Items, items}
 use Rattle.c_check.specs.Temporaries.{need}
-use Rattle.c_check.specs.Program.{Function, broken_in, created_of, functions_of, main_place}
+use Rattle.c_check.specs.Program.{Function, broken_in, created_of, creations_of, functions_in, functions_of, main_place}
 use Rattle.c_check.specs.Columns.{columns_of, threads_of}
 
 -- ---- refusals
@@ -51,6 +53,13 @@ pub record IsAccepted (tree : plain.Tree) : Type 0 where
 abbrev pub IsCheckAnswer : plain.Tree → Result Plan Stop → Type 0
 IsCheckAnswer tree answer = MatchStop answer (λ plan. IsAccepted tree × IsPlanOf tree plan) (IsRefused tree)
 
+-- A text has one plan or one refusal, and never both.
+pub record ChecksAreExact : Type 0 where
+  pub one : (tree : plain.Tree) (plan other : Plan) → IsPlanOf tree plan → IsPlanOf tree other → plan ≡ other
+  pub one_refusal : (tree : plain.Tree) (refusal other : Refusal) → IsRefused tree refusal → IsRefused tree other → refusal ≡ other
+  pub not_both : (tree : plain.Tree) (refusal : Refusal) → IsAccepted tree → ¬ IsRefused tree refusal
+  pub either : (tree : plain.Tree) → (IsAccepted tree × ((plan : Plan) × IsPlanOf tree plan)) ⊎ ((refusal : Refusal) × IsRefused tree refusal)
+
 -- ---- items
 
 -- what a thread function does, as items; its temporaries have the numbers behind those of its locals
@@ -63,9 +72,23 @@ pub record AreItemsOf (locals : ℕ) (instructions : List Instruction) (is : Ite
   pub code_is : instructions ≡ code statements
   pub items_are : is ≡ items (Grain.Cut locals) statements
 
--- The items of a plan's function are those of the text's, and no others.
-abbrev pub PlansHaveItemsOfTexts : Type 0
-PlansHaveItemsOfTexts = (f : Function) (is : Items) → AreItemsOf (length f.locals) (code f.body) is ↔ (is ≡ function_items f)
+-- The thread runs the function of the text that a creation names, and its code stands for the items of this function, and for no others.
+pub record RunsFunction (tree : plain.Tree) (plan : Plan) (creation : Name × ℕ) (thread : Thread) : Type 0 where
+  pub name : Name
+  pub function : Function
+  pub stored : stored.Function
+  pub name_is : slice_get (functions_in tree.items) thread.function ≡ Some name
+  pub is_named : name.text ≡ creation.0.text
+  pub function_is : slice_get (functions_of tree) thread.function ≡ Some function
+  pub is_at_name : function.from ≡ name.from
+  pub stored_is : slice_get plan.functions thread.function ≡ Some stored
+  pub items_are : (is : Items) → AreItemsOf stored.locals stored.body is ↔ (is ≡ function_items function)
+
+-- Thread k of the plan of a text that is accepted runs the function that creation k of its `main` names.
+pub record PlansHaveItemsOfTexts : Type 0 where
+  pub as_many : (tree : plain.Tree) (plan : Plan) → IsPlanOf tree plan → length plan.threads ≡ length (creations_of tree)
+  pub run : (tree : plain.Tree) (plan : Plan) (k : ℕ) (creation : Name × ℕ) (thread : Thread) → IsAccepted tree → IsPlanOf tree plan
+      → slice_get (creations_of tree) k ≡ Some creation → slice_get plan.threads k ≡ Some thread → RunsFunction tree plan creation thread
 
 -- Code stands for one list of statements.
 abbrev pub CodeTellsStatements : Type 0

@@ -7,6 +7,7 @@ pub mod Items
 pub mod Temporaries
 pub mod Broken
 pub mod Program
+pub mod Numbers
 pub mod Columns
 pub mod Check
 pub mod WellFormed

@@ -186,8 +186,12 @@ created_in ss next [] = []
 created_in ss next (plain.Item.Main from body ∷ items) = created_from (open_scope ss) 0 body
 created_in ss next (item ∷ items) = created_in (behind_item ss next item) (past_item next item) items
 
+abbrev pub creations_of : plain.Tree → List (Name × ℕ)
+creations_of tree = created_in (first_scopes tree.items) first_next tree.items
+
+-- the numbers of their functions
 abbrev pub created_of : plain.Tree → List ℕ
-created_of tree = map (λ c. c.1) (created_in (first_scopes tree.items) first_next tree.items)
+created_of tree = map (λ c. c.1) (creations_of tree)
 
 -- where the word `main` stands; without one the text is refused
 abbrev pub main_place : List plain.Item → ℕ

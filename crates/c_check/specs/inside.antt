@@ -4,3 +4,4 @@ pub mod Operations
 pub mod Tests
 pub mod Used
 pub mod Walked
+pub mod Words

@@ -7,23 +7,13 @@ ghost use Rattle.c_check.specs.declared.uses.Kind.TheVariants.{Integer};
 ghost use Rattle.c_check.specs.declared.uses.Use.TheVariants.{Condition, Number};
 ghost use Rattle.c_check.specs.First.{first_of};
 
-use crate::first::earlier;
+use crate::first::{earlier, refusal_if};
 use crate::place::Place;
 use crate::scopes::Scopes;
 use crate::uses::{Kind, Use, expr, name};
 use c_tree::{Assign, Call, Cond, Expr, Name, Right};
 use sqlite_items::Boxed;
 use thr_base::{ATOMIC_BODY, BAD_MAIN, Refusal, TWICE_NAMED};
-
-pub fn refusal_if(is_broken: bool, code: u8, place: u32) -> Option<Refusal>
-    ensures { result ≡ first_of (broken.broken_if is_broken code place) }
-{
-    if is_broken {
-        Some(Refusal { code, place })
-    } else {
-        None
-    }
-}
 
 /// Of a name that is declared.
 pub fn twice(scopes: &Scopes, name: &Name) -> Option<Refusal>

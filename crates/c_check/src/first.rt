@@ -1,9 +1,21 @@
 //! The first of refusals, as they are found in turn.
 
 ghost use Rattle.std.specs.Prelude.{◌≡◌};
-ghost use Rattle.c_check.specs.First.{FirstsAreFirst, earlier, of_two};
+ghost use Rattle.c_check.specs.Broken.{broken_if};
+ghost use Rattle.c_check.specs.First.{FirstsAreFirst, earlier, first_of, of_two};
 
 use thr_base::{Refusal, is_earlier};
+
+/// A refusal by a rule at a place, where it is broken there.
+pub fn refusal_if(is_broken: bool, code: u8, place: u32) -> Option<Refusal>
+    ensures { result ≡ first_of (broken_if is_broken code place) }
+{
+    if is_broken {
+        Some(Refusal { code, place })
+    } else {
+        None
+    }
+}
 
 /// The earlier of two refusals that there may be: that at the lower place, at one place that with the lower code.
 pub fn earlier(one: Option<Refusal>, other: Option<Refusal>) -> Option<Refusal>

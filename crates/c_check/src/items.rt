@@ -9,9 +9,9 @@ ghost use Rattle.c_check.specs.Program as program;
 ghost use Rattle.c_check.specs.First.{first_of};
 ghost use Rattle.c_check.specs.inside.Walked.{IsWalked, with_item, with_refusal};
 
-use crate::breaks::{refusal_if, twice};
+use crate::breaks::twice;
 use crate::columns::{OwnVariables, lock_column, variable_column};
-use crate::first::earlier;
+use crate::first::{earlier, refusal_if};
 use crate::locals::declare_handles;
 use crate::main_form::main_body;
 use crate::meaning::{Meaning, Variable};

@@ -30,11 +30,17 @@ pub use checking::check;
 pub use columns::OwnVariables;
 pub use first::{earlier, firsts_are_first};
 pub use instruction::{Assignment, Instruction};
-pub use laws::{accepted_plans_are_well_formed, plans_have_items_of_texts};
+pub use laws::{
+    accepted_plans_are_well_formed, checks_are_exact, numbers_are_of_declarations,
+    plans_have_items_of_texts, temporaries_are_least,
+};
+pub use main_form::Phase;
 pub use meaning::{Meaning, Variable};
 pub use operation::{Mark, Operation};
+pub use place::Place;
 pub use plan::{Column, ColumnKind, Function, Plan, Thread};
 pub use test::{Comparison, Condition, TestOperation};
+pub use uses::{Kind, Use};
 
 #[cfg(test)]
 mod tests;

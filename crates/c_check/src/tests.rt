@@ -99,6 +99,20 @@ const TEXTS: &str = "\
 12 65 pthread_mutex_t m; void *f(void *a) { __VERIFIER_atomic_begin(); pthread_mutex_unlock(&m); __VERIFIER_atomic_end(); } int main() { pthread_t t; pthread_create(&t, 0, f, 0); return 0; }\n\
 12 62 int x; void *f(void *a) { __VERIFIER_atomic_begin(); if (x) { while (x) ; } __VERIFIER_atomic_end(); } int main() { pthread_t t; pthread_create(&t, 0, f, 0); return 0; }\n\
 12 53 int x; void *f(void *a) { __VERIFIER_atomic_begin(); return; __VERIFIER_atomic_end(); y = 1; } int main() { pthread_t t; pthread_create(&t, 0, f, 0); return 0; }\n\
+6 57 int x; void *f(void *a) { } int main() { pthread_create(&x, 0, f, 0); }\n\
+6 69 pthread_mutex_t m; void *f(void *a) { } int main() { pthread_create(&m, 0, f, 0); }\n\
+6 50 void *f(void *a) { } int main() { pthread_create(&f, 0, f, 0); }\n\
+6 96 int x; void *f(void *a) { } int main() { pthread_t t; pthread_create(&t, 0, f, 0); pthread_join(x, 0); }\n\
+6 52 pthread_t h; void *f(void *a) { pthread_mutex_lock(&h); } int main() { pthread_t t; pthread_create(&t, 0, f, 0); return 0; }\n\
+6 88 pthread_mutex_t m; void *f(void *a) { } int main() { pthread_t t; pthread_create(&t, 0, m, 0); }\n\
+6 69 void *f(void *a) { } int main() { pthread_t t; pthread_create(&t, 0, t, 0); }\n\
+6 61 int x; void *f(void *a) { } int main() { pthread_mutex_init(&x, 0); pthread_t t; pthread_create(&t, 0, f, 0); }\n\
+7 35 void *f(void *a) { for (int i = 0, i; i < 1; i++) ; } int main() { pthread_t t; pthread_create(&t, 0, f, 0); return 0; }\n\
+8 32 int x; void *f(void *a) { x = x <= 1; } int main() { pthread_t t; pthread_create(&t, 0, f, 0); return 0; }\n\
+8 32 int x; void *f(void *a) { x = x > 1; } int main() { pthread_t t; pthread_create(&t, 0, f, 0); return 0; }\n\
+8 32 int x; void *f(void *a) { x = x >= 1; } int main() { pthread_t t; pthread_create(&t, 0, f, 0); return 0; }\n\
+9 76 void *f(void *a) { } int main() { pthread_t t; pthread_create(&t, 0, f, 0); for (;;) ; return 0; }\n\
+10 323 int x0, x1, x2, x3, x4, x5, x6, x7, x8, x9, x10, x11, x12, x13, x14, x15, x16, x17, x18, x19, x20, x21, x22, x23, x24, x25, x26, x27, x28, x29, x30, x31, x32, x33, x34, x35, x36, x37, x38, x39, x40, x41, x42, x43, x44, x45, x46, x47, x48, x49, x50, x51, x52, x53, x54, x55, x56, x57, x58, x59, x60, x61, x62, x63, x64; int main() { return 0; }\n\
 6 30 int x; void *f(void *a) { x = y * x; } int main() { pthread_t t; pthread_create(&t, 0, f, 0); return 0; }\n\
 8 32 int x; void *f(void *a) { x = x * y; } int main() { pthread_t t; pthread_create(&t, 0, f, 0); return 0; }";
 

@@ -7,7 +7,7 @@ ghost use Rattle.c_check.specs.First.{first_of};
 ghost use Rattle.c_check.specs.inside.Used.{beside, found_in, use_before};
 ghost use Rattle.thr_base.specs.Refusals.{not_linear};
 
-use crate::first::earlier;
+use crate::first::{earlier, refusal_if};
 use crate::meaning::Meaning;
 use crate::scopes::Scopes;
 use c_tree::{Conjunction, Equality, Expr, Name, Product, Relation, Sum, Unary, UnaryKind};
@@ -33,14 +33,8 @@ pub enum Use {
 pub fn name(scopes: &Scopes, kind: Kind, name: &Name) -> Option<Refusal>
     ensures { result ≡ first_of (unknown_as kind scopes.now name.now) }
 {
-    if is_of_kind(kind, scopes.meaning(name)) {
-        None
-    } else {
-        Some(Refusal {
-            code: UNKNOWN_NAME,
-            place: name.from,
-        })
-    }
+    let is_known = is_of_kind(kind, scopes.meaning(name));
+    refusal_if(!is_known, UNKNOWN_NAME, name.from)
 }
 
 fn is_of_kind(kind: Kind, meaning: Option<Meaning>) -> bool
@@ -114,14 +108,7 @@ fn no_number(used: Use, from: u32) -> Option<Refusal>
 fn not_linear_if(is_broken: bool, from: u32) -> Option<Refusal>
     ensures { result ≡ first_of (broken_if is_broken not_linear from) }
 {
-    if is_broken {
-        Some(Refusal {
-            code: NOT_LINEAR,
-            place: from,
-        })
-    } else {
-        None
-    }
+    refusal_if(is_broken, NOT_LINEAR, from)
 }
 
 // What the operand behind a sign or `!` is used as.

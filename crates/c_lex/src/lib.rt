@@ -3,10 +3,12 @@
 #![tactic(auto)]
 
 mod bytes;
+mod laws;
 mod lexer;
 mod piece;
 mod token;
 
+pub use laws::tokens_are_those_of_texts;
 pub use lexer::lex;
 pub use token::{Kind, Token};
 

@@ -53,4 +53,4 @@ pub mod Moving
 pub mod MovingSimple
 pub mod MovingText
 pub mod OneRefusal
-pub mod Marking
+pub mod Naming

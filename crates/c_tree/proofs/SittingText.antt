@@ -1,6 +1,6 @@
 -- Statements, items and whole texts say what their tokens say, in their order.
-use Rattle.std.proofs.Common.{◌≡◌, ℕ, zero, suc, ◌≤◌, ℤ, neg_ℤ, Bool, true, false, List, [], ◌∷◌, ◌++◌, length, drop, map, Option, Some, None, option_map, Ok, refl, sym, ap, subst, ◌∙◌, arith, append-nil}
-use Rattle.std.proofs.Math.Logic.{◌⊎◌, inl, inr}
+use Rattle.std.proofs.Common.{◌≡◌, ℕ, zero, suc, ℤ, Bool, true, false, List, [], ◌∷◌, ◌++◌, length, Option, Some, None, option_map, Ok, refl, sym, ap, subst, ◌∙◌, arith, append-nil}
+use Rattle.std.proofs.Math.Logic.{inl, inr}
 use Rattle.thr_base.specs.Number.{Fits}
 use Rattle.c_lex.specs.Tokens.{Lexeme, lexed, StandIn}
 use Rattle.c_lex.proofs.Places.{stand_from}
@@ -12,38 +12,32 @@ use Rattle.c_tree.specs.declared.simple.Assign.{Assign}
 use Rattle.c_tree.specs.declared.stmt.Around.{Around}
 use Rattle.c_tree.specs.declared.stmt.Around.TheVariants as arounds
 use Rattle.c_tree.specs.declared.stmt.Block.{Block, out-Block}
-use Rattle.c_tree.specs.declared.stmt.First.{First}
 use Rattle.c_tree.specs.declared.stmt.First.TheVariants as firsts
 use Rattle.c_tree.specs.declared.stmt.Stmt.{Stmt, out-Stmt}
 use Rattle.c_tree.specs.declared.stmt.Stmt.TheOpen.{Stmt-F}
 use Rattle.c_tree.specs.declared.item.Start.{Start}
 use Rattle.c_tree.specs.declared.item.Gname.{Gname}
-use Rattle.c_tree.specs.declared.item.Globals.{Globals}
 use Rattle.c_tree.specs.declared.item.Mname.{Mname}
-use Rattle.c_tree.specs.declared.item.Locks.{Locks}
 use Rattle.c_tree.specs.declared.item.Proto.{Proto}
 use Rattle.c_tree.specs.declared.item.Errfn.{Errfn}
 use Rattle.c_tree.specs.declared.item.Mainfn.{Mainfn}
-use Rattle.c_tree.specs.declared.item.Typed.{Typed}
 use Rattle.c_tree.specs.declared.item.Typed.TheVariants as typeds
-use Rattle.c_tree.specs.declared.item.Untyped.{Untyped}
 use Rattle.c_tree.specs.declared.item.Untyped.TheVariants as untypeds
-use Rattle.c_tree.specs.declared.item.Body.{Body}
 use Rattle.c_tree.specs.declared.item.Body.TheVariants as bodies
 use Rattle.c_tree.specs.declared.item.Item.{Item}
 use Rattle.c_tree.specs.inside.Input.{bytes_at}
 use Rattle.c_tree.specs.inside.Expr.{number_value}
 use Rattle.c_tree.specs.Seen.{plain_cond, plain_assign, plain_first, plain_stmt, plain_stmts, plain_block, start_value, plain_gname, plain_typed, thread_of, plain_untyped, plain_body, plain_items}
-use Rattle.c_tree.specs.Grammar.{Stands, IsName}
-use Rattle.c_tree.specs.Sequence.{Part, ◌then◌, Perhaps, AreAll, InParens}
+use Rattle.c_tree.specs.Grammar.{Stands}
+use Rattle.c_tree.specs.Sequence.{Part, ◌then◌, Perhaps, AreAll}
 use Rattle.c_tree.specs.GrammarSimple.{IsNil, IsCond, IsAssign}
-use Rattle.c_tree.specs.GrammarStmt.{IsWordEnd, IsBreak, IsElse, IsFirst, IsBlock, IsLayer, IsStmt}
-use Rattle.c_tree.specs.GrammarItem.{IfAny, Nesting, IsPlain, IsNesting, IsSkipped, IsSign, IsNumber, IsStart, IsGname, IsStarted, IsMname, IsProto, IsErrfn, IsParameter, IsBody, IsMainfn, IsThreadBody, IsTyped, IsUntyped, IsItemBody, IsItem, IsTreeWithin, IsTree}
-use Rattle.c_tree.specs.Leaves.{Leaf, value_if_leaves, name_leaves, assign_if_leaves, first_leaves, stmt_leaves, stmts_leaves, start_leaves, global_leaves, item_leaves, items_leaves, PlacesRise, NumbersFit}
+use Rattle.c_tree.specs.GrammarStmt.{IsWordEnd, IsBreak, IsFirst, IsBlock, IsLayer, IsStmt}
+use Rattle.c_tree.specs.GrammarItem.{IfAny, Nesting, IsNesting, IsSkipped, IsSign, IsStart, IsGname, IsStarted, IsMname, IsProto, IsErrfn, IsParameter, IsBody, IsMainfn, IsThreadBody, IsTyped, IsUntyped, IsItemBody, IsItem, IsTree}
+use Rattle.c_tree.specs.Leaves.{Leaf, token, mark_leaf, name_leaf, AreLeaves, value_if_leaves, name_leaves, assign_if_leaves, first_leaves, stmt_leaves, stmts_leaves, start_leaves, global_leaves, item_leaves, items_leaves, PlacesRise, NumbersFit}
 use Rattle.c_tree.proofs.View.{stmt_seen, stmt_out}
-use Rattle.c_tree.proofs.Sitting.{Sits, sits_then, sits_after, sits_before, sits_same, sits_as, sits_token, sits_skip, sits_stands, sits_number, leaves_fit, leaves_rise}
+use Rattle.c_tree.proofs.Sitting.{Sits, leaves_in_all, sits_then, sits_after, sits_before, sits_same, sits_as, sits_token, sits_mark, sits_skip, sits_stands, sits_number, leaves_fit, leaves_rise}
 use Rattle.c_tree.proofs.Numbers.{Fits-negated, IsMagnitude-number_value, number_fits}
-use Rattle.c_tree.proofs.SittingParts.{AllSit, name_sits, empty_parens_sits, parens_sit, nil_sits, cond_sits, assign_sits, call_sits, local_sits, list_sits, quals_sit, itype_sits, names_sit, handles_sit}
+use Rattle.c_tree.proofs.SittingParts.{AllSit, name_sits, empty_parens_sits, parens_sit, nil_sits, cond_sits, assign_sits, call_sits, local_sits, list_sits, quals_sit, itype_sits, handles_sit}
 
 -- ---- statements
 
@@ -54,7 +48,7 @@ nil_if_sits : (n : Option Nil) (ts rest : List Lexeme) → Perhaps IsNil n ts re
 nil_if_sits None ts rest is = sits_same is
 nil_if_sits (Some n) ts rest is = nil_sits n ts rest is
 
-break_sits : (around : Around) (from : ℕ) (ts rest : List Lexeme) → IsBreak around from ts rest → Sits (Leaf.Token from ∷ []) ts rest
+break_sits : (around : Around) (from : ℕ) (ts rest : List Lexeme) → IsBreak around from ts rest → Sits (token from ∷ []) ts rest
 break_sits arounds.Loop from ts rest is = sits_before (sits_token terms.Break from ts is.0 is.1) (sits_stands terms.Semicolon is.0 rest is.2)
 break_sits arounds.Nothing from ts rest is = absurd is
 
@@ -77,7 +71,7 @@ module _ (levels : ℕ) where
     all_sit around [] ts rest is = sits_same is
     all_sit around (s ∷ ss) ts rest is = sits_then (inner around s ts is.0 is.1) (all_sit around ss is.0 rest is.2)
 
-    block_sits : (around : Around) → AllSit (IsBlock levels Inner around) (λ b. Leaf.Token (out-Block b).from ∷ stmts_leaves (plain_block b))
+    block_sits : (around : Around) → AllSit (IsBlock levels Inner around) (λ b. token (out-Block b).from ∷ stmts_leaves (plain_block b))
     block_sits around b ts rest is = sits_then (sits_token terms.LeftBrace (out-Block b).from ts is.0 is.1) (sits_before (all_sit around (out-Block b).stmts is.0 is.2.0 is.2.1) (sits_stands terms.RightBrace is.2.0 rest is.2.2))
 
     layer_sits : (around : Around) (layer : Stmt-F Stmt Block) (ts rest : List Lexeme) → IsLayer levels Inner around layer ts rest → Sits (stmt_leaves (stmt_seen layer)) ts rest
@@ -153,22 +147,22 @@ start_if_sits : (s : Option Start) (ts rest : List Lexeme) → Perhaps (λ s. St
 start_if_sits None ts rest is = sits_same is
 start_if_sits (Some s) ts rest is = sits_after (sits_stands terms.Assign ts is.0 is.1) (start_sits s is.0 rest is.2)
 
-gname_sits : AllSit IsGname (λ (g : Gname). Leaf.Token g.name.from ∷ start_leaves (option_map start_value g.start))
+gname_sits : AllSit IsGname (λ (g : Gname). name_leaf g.name ∷ start_leaves (option_map start_value g.start))
 gname_sits g ts rest is = sits_then (name_sits g.name ts is.0 is.1) (start_if_sits g.start is.0 rest is.2)
 
 started_sits : (b : Bool) (ts rest : List Lexeme) → IsStarted b ts rest → Sits [] ts rest
 started_sits true ts rest is = sits_after (sits_stands terms.Assign ts is.0 is.1) (sits_stands terms.MutexStart is.0 rest is.2)
 started_sits false ts rest is = sits_same is
 
-mname_sits : AllSit IsMname (λ (m : Mname). Leaf.Token m.name.from ∷ [])
+mname_sits : AllSit IsMname (λ (m : Mname). name_leaf m.name ∷ [])
 mname_sits m ts rest is = sits_before (name_sits m.name ts is.0 is.1) (started_sits m.is_started is.0 rest is.2)
 
 -- ---- items
 
-proto_sits : AllSit IsProto (λ (p : Proto). Leaf.Token p.from ∷ [])
+proto_sits : AllSit IsProto (λ (p : Proto). token p.from ∷ [])
 proto_sits p ts rest is = sits_before (sits_token is.1.0 p.from ts is.0 is.1.2) (sits_after (parens_sit _ _ skipped_sits is.0 is.2.0 is.2.1) (sits_stands terms.Semicolon is.2.0 rest is.2.2))
 
-errfn_sits : AllSit IsErrfn (λ (e : Errfn). Leaf.Token e.from ∷ [])
+errfn_sits : AllSit IsErrfn (λ (e : Errfn). token e.from ∷ [])
 errfn_sits e ts rest is =
     sits_before (sits_token terms.ReachError e.from ts is.0 is.1) (sits_after (parens_sit _ _ skipped_sits is.0 is.2.0 is.2.1) (sits_after (sits_stands terms.LeftBrace is.2.0 is.2.2.0 is.2.2.1)
     (sits_after (skipped_sits is.2.2.0 is.2.2.2.0 is.2.2.2.1) (sits_stands terms.RightBrace is.2.2.2.0 rest is.2.2.2.2))))
@@ -178,15 +172,15 @@ module _ (levels : ℕ) where
   body_sits : AllSit (IsBody levels) (λ b. stmts_leaves (plain_block b))
   body_sits b ts rest is = sits_after (sits_skip terms.LeftBrace (out-Block b).from ts is.0 is.1) (sits_before (all_sit levels (IsStmt levels) (stmt_sits levels) arounds.Nothing (out-Block b).stmts is.0 is.2.0 is.2.1) (sits_stands terms.RightBrace is.2.0 rest is.2.2))
 
-  main_sits : AllSit (IsMainfn levels) (λ (m : Mainfn). Leaf.Token m.from ∷ stmts_leaves (plain_block m.body))
-  main_sits m ts rest is = sits_then (sits_token terms.Main m.from ts is.0 is.1) (sits_after (parens_sit _ _ (if_any_sits _ (sits_stands terms.Void)) is.0 is.2.0 is.2.1) (body_sits m.body is.2.0 rest is.2.2))
+  main_sits : AllSit (IsMainfn levels) (λ (m : Mainfn). mark_leaf terms.Main m.from ∷ stmts_leaves (plain_block m.body))
+  main_sits m ts rest is = sits_then (sits_mark terms.Main terms.Main m.from ts is.0 refl is.1) (sits_after (parens_sit _ _ (if_any_sits _ (sits_stands terms.Void)) is.0 is.2.0 is.2.1) (body_sits m.body is.2.0 rest is.2.2))
 
-  thread_sits : (name : Name) (b : Option Block) (ts mid rest : List Lexeme) → Sits (Leaf.Token name.from ∷ []) ts mid → IsThreadBody levels b mid rest → Sits (item_leaves (thread_of name b)) ts rest
+  thread_sits : (name : Name) (b : Option Block) (ts mid rest : List Lexeme) → Sits (name_leaf name ∷ []) ts mid → IsThreadBody levels b mid rest → Sits (item_leaves (thread_of name b)) ts rest
   thread_sits name None ts mid rest named is = sits_before named (sits_stands terms.Semicolon mid rest is)
   thread_sits name (Some b) ts mid rest named is = sits_then named (body_sits b mid rest is)
 
   typed_sits : AllSit (IsTyped levels) (λ t. item_leaves (plain_typed t))
-  typed_sits (typeds.Globals g) ts rest is = list_sits IsGname plain_gname (λ (g : Gname). Leaf.Token g.name.from ∷ start_leaves (option_map start_value g.start)) global_leaves refl (λ x bs. refl) gname_sits g.first g.more ts rest is
+  typed_sits (typeds.Globals g) ts rest is = list_sits IsGname plain_gname (λ (g : Gname). name_leaf g.name ∷ start_leaves (option_map start_value g.start)) global_leaves refl (λ x bs. refl) gname_sits g.first g.more ts rest is
   typed_sits (typeds.Main m) ts rest is = main_sits m ts rest is
   typed_sits (typeds.Proto p) ts rest is = proto_sits p ts rest is
 
@@ -199,7 +193,7 @@ module _ (levels : ℕ) where
   item_body_sits : AllSit (IsItemBody levels) (λ b. item_leaves (plain_body b))
   item_body_sits (bodies.Typed kind t) ts rest is = sits_after (itype_sits kind ts is.0 is.1) (typed_sits t is.0 rest is.2)
   item_body_sits (bodies.Void from u) ts rest is = sits_after (sits_skip terms.Void from ts is.0 is.1) (untyped_sits u is.0 rest is.2)
-  item_body_sits (bodies.Locks l) ts rest is = sits_after (sits_skip terms.MutexType l.from ts is.0 is.1) (list_sits IsMname (λ (m : Mname). m.name) (λ (m : Mname). Leaf.Token m.name.from ∷ []) name_leaves refl (λ x bs. refl) mname_sits l.first l.more is.0 rest is.2)
+  item_body_sits (bodies.Locks l) ts rest is = sits_after (sits_skip terms.MutexType l.from ts is.0 is.1) (list_sits IsMname (λ (m : Mname). m.name) (λ (m : Mname). name_leaf m.name ∷ []) name_leaves refl (λ x bs. refl) mname_sits l.first l.more is.0 rest is.2)
   item_body_sits (bodies.Handles h) ts rest is = handles_sit h ts rest is
 
   item_sits : AllSit (IsItem levels) (λ (i : Item). item_leaves (plain_body i.body))
@@ -219,3 +213,7 @@ tree_rises text tokens items lexes is =
     let sits = items_sit _ items tokens [] is in
     let stand : StandIn text 0 tokens = stand_from (length text) 0 true text text tokens refl (omega arith) lexes in
     leaves_rise text (items_leaves (plain_items items)) sits.front 0 0 (omega arith) sits.are (subst (StandIn text 0) (sits.splits ∙ append-nil sits.front) stand)
+
+-- what a tree says of the tokens of its text
+pub tree_leaves_are : (tokens : List Lexeme) (items : List Item) → IsTree items tokens → AreLeaves (items_leaves (plain_items items)) tokens
+tree_leaves_are tokens items is = leaves_in_all (items_sit _ items tokens [] is)

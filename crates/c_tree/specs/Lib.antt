@@ -8,7 +8,6 @@ pub mod GrammarStmt
 pub mod GrammarItem
 pub mod Magnitude
 pub mod Plain
-pub mod Marks
 pub mod Seen
 pub mod Beyond
 pub mod Leaves

@@ -1,14 +1,13 @@
 //! What the grammar says, and that reading gives just that.
 
-ghost use Rattle.std.specs.Prelude.{◌≡◌, ◌<◌, ◌⊎◌, ℕ, List, [], length};
-ghost use Rattle.c_lex.specs.Tokens.{Lexeme};
+ghost use Rattle.std.specs.Prelude.{◌≡◌, ◌<◌, ◌⊎◌, ℕ, List, [], length, Ok};
+ghost use Rattle.c_lex.specs.Tokens.{Lexeme, lexed};
 ghost use Rattle.c_tree.specs.Grammar.{IsExpr, StartsAt, binds};
 ghost use Rattle.c_tree.specs.GrammarItem.{IsTreeOf};
 ghost use Rattle.c_tree.specs.GrammarSimple.{IsAssign, IsCall};
 ghost use Rattle.c_tree.specs.GrammarStmt.{IsStmt};
 ghost use Rattle.c_tree.specs.Next.{term_at};
-ghost use Rattle.c_tree.specs.Leaves.{tree_leaves, NumbersFit, PlacesRise};
-ghost use Rattle.c_tree.specs.Marks.{marks_of, AreMarksIn};
+ghost use Rattle.c_tree.specs.Leaves.{expr_leaves, tree_leaves, AreLeaves, NamesAreOfC, NumbersFit, PlacesRise};
 ghost use Rattle.c_tree.specs.Plain.{assign_place, call_place, expr_place, stmt_place};
 ghost use Rattle.c_tree.specs.Seen.{plain_assign, plain_call, plain_expr, plain_stmt, plain_tree};
 ghost use Rattle.c_tree.specs.Refused.{IsRefusalOf, too_many_in};
@@ -33,9 +32,12 @@ pub fn places_are_those_of_first_tokens()
     ensures stmts { (levels : ℕ) (around : Around) (s : Stmt) (ts rest : List Lexeme) → IsStmt levels around s ts rest → StartsAt (stmt_place (plain_stmt s)) ts }
 {}
 
-/// The operators of an expression stand at the places of their marks.
-pub fn marks_are_tokens()
-    ensures { (levels : ℕ) (e : Expr) (ts rest : List Lexeme) → IsExpr levels e ts rest → AreMarksIn ts (marks_of (plain_expr e)) }
+/// What a tree says of tokens, it says of those of its text, in their order: the marks and signs of an expression, its numbers and
+/// its names stand where the tree has them. So it is for a whole text, and each name is a C name.
+pub fn leaves_are_tokens()
+    ensures exprs { (levels : ℕ) (e : Expr) (ts rest : List Lexeme) → IsExpr levels e ts rest → AreLeaves (expr_leaves (plain_expr e)) ts }
+    ensures trees { (text : List ℕ) (tree : Tree) (tokens : List Lexeme) → IsTreeOf text tree → lexed text ≡ Ok tokens → AreLeaves (tree_leaves (plain_tree tree)) tokens }
+    ensures names { (text : List ℕ) (tree : Tree) → IsTreeOf text tree → NamesAreOfC (tree_leaves (plain_tree tree)) }
 {}
 
 /// A text has one tree, or one refusal, and never both. So what `parse` answers is what the text has.

@@ -30,7 +30,7 @@ pub use item::{
     Untyped,
 };
 pub use laws::{
-    expressions_are_unique, marks_are_tokens, places_are_those_of_first_tokens,
+    expressions_are_unique, leaves_are_tokens, places_are_those_of_first_tokens,
     trees_are_read_exactly, trees_follow_their_texts,
 };
 pub use magnitude::Magnitude;

@@ -31,5 +31,5 @@ built tree plan columns graphs refusal known found none made =
     record {
       none_refused = refused;
       program_is = same;
-      is_program = subst IsProgram (sym same) (program-is tree plan known.accepted known.plan_is known.well_formed known.words refused);
+      is_program = subst IsProgram (sym same) (program-is tree plan known.accepted known.plan_is known.well_formed refused);
     }

@@ -10,7 +10,7 @@ use Rattle.c_check.specs.Columns.{columns_of, counters_from}
 use Rattle.c_check.specs.Program.{created_of}
 use Rattle.transition_formula.specs.Program.{Edge, Form, IsEdgeOf, IsProgram, IsThreadOf, Program, Thread, at_number}
 use Rattle.transition_formula.specs.Step.{IsInitial, Steps, after_step, after_sets, value_of}
-use Rattle.transition_formula.specs.Run.{IsFailing, Leads, Reaches, RunStep}
+use Rattle.transition_formula.specs.Run.{Leads, Reaches, RunStep}
 use Rattle.thread_cfg.specs.Source.{DoesFirst, Frame, SourceSteps, Standing, read_as}
 use Rattle.thread_cfg.specs.Threads.{Running, threads_running}
 use Rattle.thread_cfg.specs.Graph.{program_column}

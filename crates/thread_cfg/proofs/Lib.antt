@@ -29,11 +29,8 @@ pub mod Found
 pub mod FoundMore
 pub mod Steps
 pub mod ProgramEdges
-pub mod Declared
 pub mod Lists
-pub mod OwnNames
-pub mod ProgramTexts
-pub mod ProgramNames
+pub mod ProgramColumns
 pub mod ProgramIs
 pub mod BuiltProgram
 pub mod PicksWays
@@ -52,10 +49,6 @@ pub mod SeenLemmas
 pub mod PostfixLemmas
 pub mod MeantLemmas
 pub mod EdgeLemmas
-pub mod WordsTokens
-pub mod WordsParts
-pub mod WordsItems
-pub mod WordsText
 pub mod KnownText
 pub mod StopLemmas
 pub mod TextLaws

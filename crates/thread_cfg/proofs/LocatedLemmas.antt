@@ -1,5 +1,5 @@
 -- What is known of a thread of a plan whose places are asked for.
-use Rattle.std.proofs.Common.{◌≡◌, ℕ, zero, suc, ◌+◌, ◌-◌, ◌<◌, ◌≤◌, List, [], ◌∷◌, length, map, Some, refl, sym, ap, subst, arith, slice_get, ◌∙◌}
+use Rattle.std.proofs.Common.{◌≡◌, ℕ, zero, suc, ◌-◌, ◌≤◌, List, length, map, Some, sym, ap, subst, arith, slice_get, ◌∙◌}
 use Rattle.std.proofs.lemmas.List.{length-map}
 use Rattle.std.proofs.lemmas.Option.{slice_get-map}
 use Rattle.std.specs.Option.{option_map}
@@ -10,7 +10,7 @@ use Rattle.c_check.specs.declared.plan.Thread.{Thread}
 use Rattle.transition_formula.specs.Program.{at_number}
 use Rattle.thread_cfg.specs.Action.{Action}
 use Rattle.thread_cfg.specs.Threads.{Running, threads_running}
-use Rattle.thread_cfg.specs.Graph.{actions_of, locations_of}
+use Rattle.thread_cfg.specs.Graph.{actions_of}
 use Rattle.thread_cfg.specs.Places.{ArePlacesOf, location_places}
 use Rattle.thread_cfg.specs.Read.{IsPlanOfText}
 use Rattle.thread_cfg.proofs.Fronts.{get-exists}

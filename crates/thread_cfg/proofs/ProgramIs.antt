@@ -1,12 +1,15 @@
 -- The program of a text is a program.
-use Rattle.std.proofs.Common.{◌≡◌, ℕ, zero, suc, ◌+◌, ◌-◌, ◌≤◌, List, [], ◌∷◌, ◌++◌, map, flat_map, take, length, slice_get, length-append, append_assoc, Some, refl, sym, subst, ap, ap₂, ◌∙◌, arith}
-use Rattle.std.specs.List.{AllByRecursion}
+use Rattle.std.proofs.Common.{◌≡◌, ◌≢◌, ℕ, zero, suc, ◌+◌, ◌-◌, ◌≤◌, List, [], ◌∷◌, ◌++◌, map, flat_map, take, length, slice_get, length-append, append_assoc, Some, refl, sym, subst, ap, ap₂, ◌∙◌, arith}
+use Rattle.std.specs.List.{AllByRecursion, AllPairs}
 use Rattle.std.proofs.lemmas.List.{length-map, map-append}
 use Rattle.std.proofs.lemmas.Option.{slice_get-map}
+use Rattle.std.proofs.lemmas.Simd.{map-map}
 use Rattle.std.proofs.Math.Seq.{take-append_seam}
+use Rattle.thr_base.specs.ColumnText.{IsColumnText}
 use Rattle.thr_base.specs.Limits.{most_threads}
 use Rattle.c_tree.specs.Plain as plain
 use Rattle.c_check.specs.declared.columns.OwnVariables.{OwnVariables}
+use Rattle.c_check.specs.declared.plan.Column as stored
 use Rattle.c_check.specs.declared.plan.Plan.{Plan}
 use Rattle.c_check.specs.Program.{created_of}
 use Rattle.c_check.specs.Check.{IsAccepted, IsPlanOf}
@@ -17,11 +20,9 @@ use Rattle.transition_formula.specs.Program.{Column, IsColumn, IsCounter, IsProg
 use Rattle.transition_formula.proofs.Lookups.{numbered-within}
 use Rattle.thread_cfg.specs.Threads.{Running, threads_running}
 use Rattle.thread_cfg.specs.Graph.{program_column, program_of, refusals_of, thread_graph, thread_refusals}
-use Rattle.thread_cfg.specs.inside.Words.{AreWords}
 use Rattle.thread_cfg.proofs.Lists.{nil-front, nil-rest}
 use Rattle.thread_cfg.proofs.ProgramEdges.{thread-edges}
-use Rattle.thread_cfg.proofs.ProgramNames.{program-texts}
-use Rattle.thread_cfg.proofs.ProgramTexts.{front-start, front_of, length-counters, program-columns}
+use Rattle.thread_cfg.proofs.ProgramColumns.{columns-are, front-start, front_of, length-counters}
 use Rattle.thread_cfg.proofs.RunningThreads.{actions-within, mapped-some, running-is, threads-running}
 
 -- ---- elements by their numbers
@@ -66,7 +67,7 @@ counters-are i (n ∷ ns) zero column e =
 counters-are i (n ∷ ns) (suc j) column e = subst (λ (k : ℕ). IsCounter k column) (omega arith) (counters-are (i + 1) ns j column e)
 
 -- ---- the program
-module _ (tree : plain.Tree) (plan : Plan) (accepted : IsAccepted tree) (is : IsPlanOf tree plan) (well : IsWellFormedPlan plan) (words : AreWords tree) (fits : refusals_of tree ≡ []) where
+module _ (tree : plain.Tree) (plan : Plan) (accepted : IsAccepted tree) (is : IsPlanOf tree plan) (well : IsWellFormedPlan plan) (fits : refusals_of tree ≡ []) where
   -- as many columns as the text has
   all_columns : length (program_of tree).columns ≡ length (columns_of tree)
   all_columns = length-map (columns_of tree) program_column
@@ -118,15 +119,20 @@ module _ (tree : plain.Tree) (plan : Plan) (accepted : IsAccepted tree) (is : Is
       let same : take (first_counter (program_of tree)) (program_of tree).columns ≡ front = ap₂ (λ n l. take n l) place split ∙ take-append_seam front counters in
       subst (AllByRecursion StartsWhereShared) (sym same) (front-start tree)
 
-  -- the starts of the text's columns fit
-  starts-fit : AllByRecursion (λ c. well_formed.StartFits c.start) (columns_of tree)
-  starts-fit = subst (AllByRecursion (λ c. well_formed.StartFits c.start)) is.columns_are well.starts_fit
-
   -- the columns are those of a program
-  columns-are : AllByRecursion (IsColumn (length (program_of tree).threads)) (program_of tree).columns
-  columns-are =
-      let same : length (created_of tree) ≡ length (program_of tree).threads = omega (arith, all_threads, created-run) in
-      subst (λ (n : ℕ). AllByRecursion (IsColumn n) (program_of tree).columns) same (program-columns tree words accepted.few_columns starts-fit)
+  all-are : AllByRecursion (IsColumn (length (program_of tree).threads)) (program_of tree).columns
+  all-are =
+      let same : length plan.threads ≡ length (program_of tree).threads = omega (arith, all_threads, threads-running tree plan is well) in
+      subst (λ (n : ℕ). AllByRecursion (IsColumn n) (program_of tree).columns) same
+      (columns-are (length plan.threads) (columns_of tree)
+      (subst (AllByRecursion (λ c. IsColumnText (length plan.threads) (well_formed.owner_number c) c.text)) is.columns_are well.texts_are)
+      (subst (AllByRecursion (λ c. well_formed.StartFits c.start)) is.columns_are well.starts_fit))
+
+  -- their texts differ
+  all-differ : AllPairs (λ a b. a ≢ b) (map (λ (c : Column). c.text) (program_of tree).columns)
+  all-differ =
+      subst (AllPairs (λ (a b : List ℕ). a ≢ b)) (sym (map-map (λ (c : Column). c.text) program_column (columns_of tree)))
+      (subst (λ (cs : List stored.Column). AllPairs (λ a b. a ≢ b) (map (λ (c : stored.Column). c.text) cs)) is.columns_are well.texts_differ)
 
   -- the counter's column
   counter-is : (i c : ℕ) (column : Column) → 1 ≤ i → suc c ≡ (length (columns_of tree) - length (threads_running tree)) + i
@@ -159,15 +165,14 @@ module _ (tree : plain.Tree) (plan : Plan) (accepted : IsAccepted tree) (is : Is
         edges_are = has.edges_are;
       }
 
-  -- The program of a text is a program, where the text is accepted, its plan is well formed, its names are words, and nothing of it is
-  -- refused.
+  -- The program of a text is a program, where the text is accepted, its plan is well formed, and nothing of it is refused.
   pub program-is : IsProgram (program_of tree)
   program-is = record {
     few_columns = omega (arith, all_columns, accepted.few_columns);
     few_threads = omega (arith, all_threads, few-threads);
     has_counters = omega (arith, all_columns, all_threads, threads-fit);
-    columns_are = columns-are;
-    texts_differ = program-texts tree accepted.none_broken words (omega (arith, created-run, few-threads)) accepted.few_columns;
+    columns_are = all-are;
+    texts_differ = all-differ;
     others_start = others-start;
     threads_are = λ i thread at.
         let found = numbered-map (thread_graph (length (columns_of tree)) (length (threads_running tree))) (threads_running tree) i thread at in

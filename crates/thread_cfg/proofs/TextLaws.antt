@@ -41,7 +41,7 @@ texts-step-alike bytes tree program is =
 
 is-program : (bytes : List ℕ) (tree : Tree) (program : Program) → IsProgramText bytes tree program → IsProgram (program_of (plain_tree tree))
 is-program bytes tree program is =
-    let k = known bytes tree program is in program-is (plain_tree tree) (plan_of tree) k.accepted k.plan_is k.well_formed k.words is.fits
+    let k = known bytes tree program is in program-is (plain_tree tree) (plan_of tree) k.accepted k.plan_is k.well_formed is.fits
 
 pub texts-fail-alike : TextsFailAlike
 texts-fail-alike bytes tree program is =

@@ -1,12 +1,10 @@
 -- A text has one program or one refusal, and never both.
-use Rattle.std.proofs.Common.{◌≡◌, ◌⊎◌, ℕ, ◌<◌, ◌≤◌, nat_lt, ltb-true, ltb-false, Bool, true, false, true≢false, List, [], ◌∷◌, length, Option, Some, None, inl, inr, refl, sym, subst, ap, ◌∙◌, arith}
+use Rattle.std.proofs.Common.{◌≡◌, ◌⊎◌, ℕ, Bool, true, false, true≢false, List, [], inl, inr, refl, sym, subst, ap, ◌∙◌}
 use Rattle.std.specs.Prelude.{Contains, IsUtf8}
 use Rattle.std.specs.Str.{is_utf8}
 use Rattle.std.proofs.lemmas.Str.{IsUtf8-from_is_utf8, is_utf8-from_IsUtf8}
 use Rattle.thr_base.specs.declared.stops.Refusal.{Refusal}
-use Rattle.thr_base.specs.Limits.{most_columns}
-use Rattle.thr_base.specs.Refusals.{IsFirst, Precedes}
-use Rattle.c_tree.specs.Plain as plain
+use Rattle.thr_base.specs.Refusals.{IsFirst}
 use Rattle.c_tree.specs.declared.item.Tree.{Tree}
 use Rattle.c_tree.specs.GrammarItem.{IsTreeOf}
 use Rattle.c_tree.specs.Refused.{IsRefusalOf}
@@ -14,90 +12,12 @@ use Rattle.c_tree.specs.Seen.{plain_tree}
 use Rattle.c_tree.proofs.Trees.{one_tree}
 use Rattle.c_tree.proofs.Refusals.{tree_not_refused, tree_or_refusal}
 use Rattle.c_tree.proofs.OneRefusal.{one_refusal}
-use Rattle.c_check.specs.First.{first_of}
-use Rattle.c_check.specs.Program.{broken_in, created_of, main_place}
-use Rattle.c_check.specs.Check.{Breaks, IsAccepted, IsCounted, IsRefused}
-use Rattle.c_check.specs.Columns.{columns_of}
-use Rattle.c_check.proofs.FirstOf.{first_of-is, first_of-none}
+use Rattle.c_check.specs.Check.{IsAccepted, IsRefused}
+use Rattle.c_check.proofs.Exact.{accepted-not, accepted-or-refused, none-first, none-or-first, one-first, refused-once}
 use Rattle.transition_formula.specs.Program.{Program}
 use Rattle.thread_cfg.specs.Graph.{program_of, refusals_of}
 use Rattle.thread_cfg.specs.Laws.{TextsAreReadExactly}
 use Rattle.thread_cfg.specs.Read.{IsProgramText, Refuses, not_text_at, not_in_profile, not_in_form, not_fit}
-
--- ---- first refusals
-
--- of two refusals one comes first, or they are one
-one-precedes : (d e : Refusal) → ¬ Precedes d e → ¬ Precedes e d → d ≡ e
-one-precedes d e before behind = grind arith
-
--- there is one first refusal
-one-first : (P : Refusal → Type 0) (d e : Refusal) → IsFirst P d → IsFirst P e → d ≡ e
-one-first P d e one other = one-precedes d e (other.none_earlier d one.broken) (one.none_earlier e other.broken)
-
--- nothing is the first of nothing
-none-first : (ds : List Refusal) (d : Refusal) → ds ≡ [] → ¬ IsFirst (Contains ds) d
-none-first ds d e first = none (subst (λ (l : List Refusal). Contains l d) e first.broken)
-  where
-    none : ¬ Contains [] d
-    none h = omega (arith, h.1)
-
--- a list is empty or has a first refusal
-none-or-first : (ds : List Refusal) → (ds ≡ []) ⊎ ((d : Refusal) × IsFirst (Contains ds) d)
-none-or-first ds = by (first_of ds) refl
-  where
-    by : (o : Option Refusal) → first_of ds ≡ o → (ds ≡ []) ⊎ ((d : Refusal) × IsFirst (Contains ds) d)
-    by None e = inl (first_of-none ds e)
-    by (Some d) e = inr (d, first_of-is ds d e)
-
--- ---- names and form
-
--- what is accepted is not refused
-accepted-not : (tree : plain.Tree) (d : Refusal) → IsAccepted tree → ¬ IsRefused tree d
-accepted-not tree d accepted (inl first) = none-first (broken_in tree) d accepted.none_broken first
-accepted-not tree d accepted (inr last) = not-counted d last.1.broken
-  where
-    not-counted : (e : Refusal) → ¬ IsCounted tree e
-    not-counted e (IsCounted.no_threads none) = accepted.some_threads none
-    not-counted e (IsCounted.many_columns many) = omega (arith, many, accepted.few_columns)
-
--- a text is refused once
-refused-once : (tree : plain.Tree) (d e : Refusal) → IsRefused tree d → IsRefused tree e → d ≡ e
-refused-once tree d e (inl one) (inl other) = one-first (Breaks tree) d e one other
-refused-once tree d e (inl one) (inr other) = absurd (none-first (broken_in tree) d other.0 one)
-refused-once tree d e (inr one) (inl other) = absurd (none-first (broken_in tree) e one.0 other)
-refused-once tree d e (inr one) (inr other) = one-first (IsCounted tree) d e one.1 other.1
-
--- a tree is accepted or refused
-accepted-or-refused : (tree : plain.Tree) → IsAccepted tree ⊎ ((d : Refusal) × IsRefused tree d)
-accepted-or-refused tree = by (none-or-first (broken_in tree))
-  where
-    counted : broken_in tree ≡ [] → (ns : List ℕ) → created_of tree ≡ ns → (length (columns_of tree) ≤ most_columns) ⊎ (most_columns < length (columns_of tree))
-        → IsAccepted tree ⊎ ((d : Refusal) × IsRefused tree d)
-    counted e [] none few = inr (_, inr (e, record { broken = IsCounted.no_threads none; none_earlier = λ other broken. first other broken }))
-      where
-        first : (other : Refusal) → IsCounted tree other → ¬ Precedes other (record { code = 10; place = main_place tree.items })
-        first other (IsCounted.no_threads none) before = grind arith
-        first other (IsCounted.many_columns many) before = grind arith
-    counted e (n ∷ ns) some (inl few) = inl (record { none_broken = e; some_threads = λ none. cons-not (sym some ∙ none); few_columns = few })
-      where
-        cons-not : ¬ ((n ∷ ns) ≡ [])
-        cons-not e = cc
-    counted e (n ∷ ns) some (inr many) = inr (_, inr (e, record { broken = IsCounted.many_columns many; none_earlier = λ other broken. first other broken }))
-      where
-        first : (other : Refusal) → IsCounted tree other → ¬ Precedes other (record { code = 11; place = main_place tree.items })
-        first other (IsCounted.no_threads none) before = cc
-        first other (IsCounted.many_columns many) before = grind arith
-
-    columns-few : (length (columns_of tree) ≤ most_columns) ⊎ (most_columns < length (columns_of tree))
-    columns-few = few (nat_lt most_columns (length (columns_of tree))) refl
-      where
-        few : (b : Bool) → nat_lt most_columns (length (columns_of tree)) ≡ b → (length (columns_of tree) ≤ most_columns) ⊎ (most_columns < length (columns_of tree))
-        few true e = inr (ltb-true most_columns (length (columns_of tree)) e)
-        few false e = inl (ltb-false most_columns (length (columns_of tree)) e)
-
-    by : (broken_in tree ≡ []) ⊎ ((d : Refusal) × IsFirst (Contains (broken_in tree)) d) → IsAccepted tree ⊎ ((d : Refusal) × IsRefused tree d)
-    by (inl e) = counted e (created_of tree) refl columns-few
-    by (inr first) = inr (first.0, inl first.1)
 
 -- ---- texts
 

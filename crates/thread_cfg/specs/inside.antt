@@ -1,7 +1,6 @@
 pub mod Left
 pub mod Meant
 pub mod Found
-pub mod Words
 pub mod Known
 pub mod Built
 pub mod Machine

@@ -1,4 +1,5 @@
-use Rattle.c_check.proofs.CodeLemmas.{code-injective, plans_have_items}
+use Rattle.c_check.proofs.CodeLemmas.{code-injective}
+use Rattle.c_check.proofs.Runs.{plans_have_items}
 use Rattle.c_check.proofs.laws.plans_have_items_of_texts.Goals as goal
 
 pub returns-clause-items : goal.returns-clause-items

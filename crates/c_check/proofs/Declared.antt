@@ -4,7 +4,6 @@ use Rattle.std.specs.Prelude.{bytes_eq, is_some}
 use Rattle.std.specs.List.{AllByRecursion}
 use Rattle.std.proofs.lemmas.Bool.{true≢false}
 use Rattle.std.proofs.lemmas.Slice.Eq.{bytes_eq-Decides}
-use Rattle.lin_rows.proofs.Lists.{AllByRecursion-append, AllByRecursion-weaken}
 use Rattle.thr_base.specs.Refusals.{twice_named}
 use Rattle.c_tree.specs.declared.expr.Name.{Name}
 use Rattle.c_tree.specs.Plain as plain
@@ -15,7 +14,8 @@ use Rattle.c_check.specs.Scope.{Scope, Scopes, declare, in_scope}
 use Rattle.c_check.specs.Broken.{broken_if, is_in_innermost, twice}
 use Rattle.c_check.specs.Resolve.{with_handles}
 use Rattle.c_check.specs.Program.{Next, behind_item, broken_in, first_next, first_scopes, globals_broken, globals_in, item_broken, items_broken, locks_broken, locks_in, or_main, past_item, with_globals, with_locks}
-use Rattle.thread_cfg.proofs.Lists.{Apart, ApartFrom, apart-append, nil-front, nil-rest}
+use Rattle.c_check.proofs.Lists.{AllByRecursion-append, AllByRecursion-weaken, Apart, ApartFrom, apart-append}
+use Rattle.c_check.proofs.Named.{append-none}
 
 -- ---- one name more in a scope
 bytes_eq-same : (xs : List ℕ) → bytes_eq xs xs ≡ true
@@ -111,10 +111,10 @@ globals-new ss next [] h e = record { fresh = tt; apart = tt }
 globals-new ss next (g ∷ gs) h e =
     let m : Meaning = meaning.Integer (variable.Shared next) in
     let rest = globals_broken (declare g.name m ss) (next + 1) gs in
-    let more = globals-new (declare g.name m ss) (next + 1) gs (omega (arith, h, declare-length ss g.name m)) (nil-rest (twice ss g.name) rest e) in
+    let more = globals-new (declare g.name m ss) (next + 1) gs (omega (arith, h, declare-length ss g.name m)) ((append-none (twice ss g.name) rest e).1) in
     record {
       fresh = (
-        fresh-from ss g.name (nil-front (twice ss g.name) rest e),
+        fresh-from ss g.name ((append-none (twice ss g.name) rest e).0),
         AllByRecursion-weaken (λ y. Fresh (declare g.name m ss) (name_of y)) (λ y. Fresh ss (name_of y)) (λ y k. fresh-declare ss g.name m (name_of y) k) gs more.fresh,
       );
       apart = (AllByRecursion-weaken (λ y. Fresh (declare g.name m ss) (name_of y)) (λ y. g.name.text ≢ name_of y) (λ y k. fresh-other ss g.name m (name_of y) h k) gs more.fresh, more.apart);
@@ -143,10 +143,10 @@ locks-new ss next [] h e = record { fresh = tt; apart = tt }
 locks-new ss next (x ∷ xs) h e =
     let m : Meaning = meaning.Lock next in
     let rest = locks_broken (declare x m ss) (next + 1) xs in
-    let more = locks-new (declare x m ss) (next + 1) xs (omega (arith, h, declare-length ss x m)) (nil-rest (twice ss x) rest e) in
+    let more = locks-new (declare x m ss) (next + 1) xs (omega (arith, h, declare-length ss x m)) ((append-none (twice ss x) rest e).1) in
     record {
       fresh = (
-        fresh-from ss x (nil-front (twice ss x) rest e),
+        fresh-from ss x ((append-none (twice ss x) rest e).0),
         AllByRecursion-weaken (λ y. Fresh (declare x m ss) (text_of y)) (λ y. Fresh ss (text_of y)) (λ y k. fresh-declare ss x m (text_of y) k) xs more.fresh,
       );
       apart = (AllByRecursion-weaken (λ y. Fresh (declare x m ss) (text_of y)) (λ y. x.text ≢ text_of y) (λ y k. fresh-other ss x m (text_of y) h k) xs more.fresh, more.apart);
@@ -259,8 +259,8 @@ items-declared : (ss : Scopes) (next : Next) (has_main : Bool) (end : ℕ) (item
 items-declared ss next has_main end [] h e = record { globals = record { fresh = tt; apart = tt }; locks = record { fresh = tt; apart = tt }; cross = tt }
 items-declared ss next has_main end (item ∷ items) h e =
     let rest = items_broken (behind_item ss next item) (past_item next item) (or_main has_main item) end items in
-    let more = items-declared (behind_item ss next item) (past_item next item) (or_main has_main item) end items (omega (arith, h, item-length ss next item)) (nil-rest (item_broken ss next has_main item) rest e) in
-    by item (nil-front (item_broken ss next has_main item) rest e) more
+    let more = items-declared (behind_item ss next item) (past_item next item) (or_main has_main item) end items (omega (arith, h, item-length ss next item)) ((append-none (item_broken ss next has_main item) rest e).1) in
+    by item ((append-none (item_broken ss next has_main item) rest e).0) more
   where
     by : (item : plain.Item) → item_broken ss next has_main item ≡ [] → AreDeclared (behind_item ss next item) (globals_in items) (locks_in items)
         → AreDeclared ss (globals_in (item ∷ items)) (locks_in (item ∷ items))

@@ -1,11 +1,11 @@
--- The columns of a text's program have the texts of their owners, and start as a program's do.
-use Rattle.std.proofs.Common.{◌≡◌, ℕ, zero, suc, ◌+◌, ◌<◌, ◌≤◌, ℤ, pos, List, [], ◌∷◌, ◌++◌, map, length, filter, slice_get, length-append, Option, Some, None, codes, refl, ap, arith}
+-- The columns of a text have the texts that their owners ask for.
+use Rattle.std.proofs.Common.{◌≡◌, ℕ, zero, suc, ◌+◌, ◌<◌, ◌≤◌, pos, List, [], ◌∷◌, ◌++◌, map, length, filter, slice_get, length-append, Option, Some, None, codes, refl, ap, arith}
 use Rattle.std.specs.Prelude.{bytes_eq}
 use Rattle.std.specs.List.{AllByRecursion}
 use Rattle.std.specs.Option.{option_map}
 use Rattle.std.proofs.lemmas.List.{length_push}
 use Rattle.std.proofs.lemmas.List.Sums.{count_by-le-length, length-filter}
-use Rattle.lin_rows.proofs.Lists.{AllByRecursion-append, AllByRecursion-map, AllByRecursion-slice_get}
+use Rattle.c_check.proofs.Lists.{AllByRecursion-append, AllByRecursion-map, AllByRecursion-slice_get}
 use Rattle.thr_base.specs.Limits.{most_columns}
 use Rattle.thr_base.specs.Number.{number_text}
 use Rattle.thr_base.specs.declared.names.ThreadNo.{ThreadNo}
@@ -16,10 +16,7 @@ use Rattle.c_check.specs.declared.columns.OwnVariables.{OwnVariables}
 use Rattle.c_check.specs.declared.plan.Column as stored
 use Rattle.c_check.specs.Program.{Function, created_of, functions_of, globals_in, locks_in}
 use Rattle.c_check.specs.Columns.{columns_if, columns_of, counters_from, local_columns, local_name, lock_column, own_columns_from, own_variables, owns_of, shared_columns, temporary_columns, thread_columns, variable_column}
-use Rattle.c_check.specs.WellFormed as well
-use Rattle.transition_formula.specs.Program.{IsColumn, StartFits, StartsWhereShared}
-use Rattle.thread_cfg.specs.Graph.{program_column}
-use Rattle.thread_cfg.specs.inside.Words.{AreWords, IsWord}
+use Rattle.c_check.specs.inside.Words.{AreWords, IsWord}
 
 -- ---- how many
 -- as many columns as locals
@@ -53,7 +50,7 @@ owns-words tree words =
 
 -- ---- texts
 -- The column has a text that its owner asks for.
-abbrev TextIs : ℕ → stored.Column → Type 0
+abbrev pub TextIs : ℕ → stored.Column → Type 0
 TextIs threads c = IsColumnText threads (option_map (λ i. i.0) c.owner) c.text
 
 -- the name of a local is one
@@ -129,80 +126,15 @@ shared-texts threads tree words =
     (AllByRecursion-map (λ (g : plain.Global). IsWord g.name.text) (TextIs threads) variable_column (λ g k. variable g.name.text k) (globals_in tree.items) words.globals)
     (AllByRecursion-map (λ (x : Name). IsWord x.text) (TextIs threads) lock_column (λ x k. variable x.text k) (locks_in tree.items) words.locks)
 
--- ---- starts
--- a start that fits in a plan fits in a program
-start-fits : (start : Option ℤ) → well.StartFits start → StartFits start
-start-fits None h = tt
-start-fits (Some v) h = h
-
--- what a program asks of each column
-columns-are : (threads : ℕ) (columns : List stored.Column) → AllByRecursion (TextIs threads) columns → AllByRecursion (λ c. well.StartFits c.start) columns
-    → AllByRecursion (IsColumn threads) (map program_column columns)
-columns-are threads [] texts starts = tt
-columns-are threads (c ∷ columns) texts starts = (record { text_is = texts.0; start_fits = start-fits c.start starts.0 }, columns-are threads columns texts.1 starts.1)
-
--- The columns of a text are those of a program, where its columns are few and their starts fit.
-pub program-columns : (tree : plain.Tree) → AreWords tree → length (columns_of tree) ≤ most_columns → AllByRecursion (λ c. well.StartFits c.start) (columns_of tree)
-    → AllByRecursion (IsColumn (length (created_of tree))) (map program_column (columns_of tree))
-program-columns tree words few starts =
+-- The columns of a text have their texts, where they are few.
+pub columns-texts : (tree : plain.Tree) → AreWords tree → length (columns_of tree) ≤ most_columns → AllByRecursion (TextIs (length (created_of tree))) (columns_of tree)
+columns-texts tree words few =
     let threads : ℕ = length (created_of tree) in
     let own = own_columns_from (owns_of tree) 1 (created_of tree) in
     let counters = counters_from 1 (created_of tree) in
     let sum = length-append (shared_columns tree) (own ++ counters) in
     let more = length-append own counters in
-    columns-are threads (columns_of tree)
-    (AllByRecursion-append (TextIs threads) (shared_columns tree) (own ++ counters) (shared-texts threads tree words)
+    AllByRecursion-append (TextIs threads) (shared_columns tree) (own ++ counters) (shared-texts threads tree words)
     (AllByRecursion-append (TextIs threads) own counters
     (own_columns-texts threads (owns_of tree) 1 (created_of tree) (owns-words tree words) (omega arith) (omega arith) (omega arith))
-    (counters-texts threads 1 (created_of tree) (omega arith) (omega arith))))
-    starts
-
--- The column has a value initially exactly where it is shared.
-abbrev StartIs : stored.Column → Type 0
-StartIs c = StartsWhereShared (program_column c)
-
--- variables have a start
-variables-start : (gs : List plain.Global) → AllByRecursion StartIs (map variable_column gs)
-variables-start [] = tt
-variables-start (g ∷ gs) = ((λ e. refl, λ e. refl), variables-start gs)
-
--- locks have a start
-locks-start : (xs : List Name) → AllByRecursion StartIs (map lock_column xs)
-locks-start [] = tt
-locks-start (x ∷ xs) = ((λ e. refl, λ e. refl), locks-start xs)
-
--- locals have none
-locals-start : (i : ThreadNo) (earlier names : List (List ℕ)) → AllByRecursion StartIs (local_columns i earlier names)
-locals-start i earlier [] = tt
-locals-start i earlier (name ∷ names) = ((λ e. absurd cc, λ e. absurd cc), locals-start i (earlier ++ name ∷ []) names)
-
--- temporaries have none
-temporaries-start : (i : ThreadNo) (earlier n : ℕ) → AllByRecursion StartIs (temporary_columns i earlier n)
-temporaries-start i earlier zero = tt
-temporaries-start i earlier (suc n) = ((λ e. absurd cc, λ e. absurd cc), temporaries-start i (earlier + 1) n)
-
--- nothing of one thread's own has a start
-columns_if-start : (i : ThreadNo) (own : Option OwnVariables) → AllByRecursion StartIs (columns_if i own)
-columns_if-start i None = tt
-columns_if-start i (Some own) =
-    AllByRecursion-append StartIs (local_columns i [] own.locals) (temporary_columns i 0 own.temporaries) (locals-start i [] own.locals) (temporaries-start i 0 own.temporaries)
-
--- nothing of the threads' own has one
-own-start : (owns : List OwnVariables) (i : ℕ) (ns : List ℕ) → AllByRecursion StartIs (own_columns_from owns i ns)
-own-start owns i [] = tt
-own-start owns i (n ∷ ns) =
-    let number : ThreadNo = record { 0 = i } in
-    AllByRecursion-append StartIs (columns_if number (slice_get owns n)) (own_columns_from owns (i + 1) ns) (columns_if-start number (slice_get owns n)) (own-start owns (i + 1) ns)
-
--- the columns in front of the counters
-abbrev pub front_of : plain.Tree → List stored.Column
-front_of tree = shared_columns tree ++ own_columns_from (owns_of tree) 1 (created_of tree)
-
--- Variables and locks have a value initially, and what is a thread's own has none.
-pub front-start : (tree : plain.Tree) → AllByRecursion StartsWhereShared (map program_column (front_of tree))
-front-start tree =
-    let own = own_columns_from (owns_of tree) 1 (created_of tree) in
-    AllByRecursion-map StartIs StartsWhereShared program_column (λ c k. k) (front_of tree)
-    (AllByRecursion-append StartIs (shared_columns tree) own
-    (AllByRecursion-append StartIs (map variable_column (globals_in tree.items)) (map lock_column (locks_in tree.items)) (variables-start (globals_in tree.items)) (locks-start (locks_in tree.items)))
-    (own-start (owns_of tree) 1 (created_of tree)))
+    (counters-texts threads 1 (created_of tree) (omega arith) (omega arith)))

@@ -1,11 +1,10 @@
--- The texts of the columns of a text's program differ.
+-- The texts of the columns of a text differ.
 use Rattle.std.proofs.Common.{◌≡◌, ◌≢◌, ℕ, zero, suc, ◌+◌, ◌<◌, ◌≤◌, pos, Bool, true, cond, List, [], ◌∷◌, ◌++◌, map, length, filter, slice_get, length-append, Option, Some, None, codes, refl, sym, ap, ◌∙◌, arith}
 use Rattle.std.specs.Prelude.{bytes_eq}
 use Rattle.std.specs.List.{AllByRecursion, AllPairs}
 use Rattle.std.proofs.lemmas.List.{length_push}
 use Rattle.std.proofs.lemmas.List.Elements.{filter-append}
 use Rattle.std.proofs.lemmas.Slice.Eq.{bytes_eq-Decides}
-use Rattle.lin_rows.proofs.Lists.{AllByRecursion-append, AllByRecursion-slice_get, AllByRecursion-weaken}
 use Rattle.thr_base.specs.Limits.{most_columns, most_threads}
 use Rattle.thr_base.specs.Number.{number_text}
 use Rattle.thr_base.specs.declared.names.ThreadNo.{ThreadNo}
@@ -15,13 +14,11 @@ use Rattle.c_check.specs.declared.columns.OwnVariables.{OwnVariables}
 use Rattle.c_check.specs.declared.plan.Column.{Column}
 use Rattle.c_check.specs.Program.{broken_in, created_of, globals_in, locks_in}
 use Rattle.c_check.specs.Columns.{columns_if, columns_of, counters_from, local_columns, local_name, lock_column, own_columns_from, owns_of, shared_columns, temporary_columns, thread_columns, variable_column}
-use Rattle.transition_formula.specs.Program.{Column as ProgramColumn}
-use Rattle.thread_cfg.specs.Graph.{program_column}
-use Rattle.thread_cfg.specs.inside.Words.{AreWords, IsWord}
-use Rattle.thread_cfg.proofs.Declared.{names-differ}
-use Rattle.thread_cfg.proofs.Lists.{Apart, apart-append, apart-from, apart-map, apart-pairs, apart_from-map}
-use Rattle.thread_cfg.proofs.OwnNames.{local_name-differs, local_name-same, own_text-same, temporary-counter, temporary-same, word-own_text}
-use Rattle.thread_cfg.proofs.ProgramTexts.{HasWords, declared-few, length-local_columns, length-temporary_columns, owns-words, shared-words}
+use Rattle.c_check.specs.inside.Words.{AreWords, IsWord}
+use Rattle.c_check.proofs.Declared.{names-differ}
+use Rattle.c_check.proofs.Lists.{AllByRecursion-append, AllByRecursion-slice_get, AllByRecursion-weaken, Apart, apart-append, apart-from, apart-map, apart-pairs, apart_from-map}
+use Rattle.c_check.proofs.OwnNames.{local_name-differs, local_name-same, own_text-same, temporary-counter, temporary-same, word-own_text}
+use Rattle.c_check.proofs.ColumnTexts.{HasWords, declared-few, length-local_columns, length-temporary_columns, owns-words, shared-words}
 
 abbrev text_of : Column → List ℕ
 text_of c = c.text
@@ -267,10 +264,8 @@ columns-apart tree none words few short =
     (AllByRecursion-weaken (IsCounter 1 high) (λ d. text_of c ≢ text_of d) (λ d h e. word-own_text c.text h.thread (codes "$pc") word (e ∙ h.text_is)) counters counted))
     shared (shared-words tree words))
 
--- The texts of a program's columns differ.
-pub program-texts : (tree : plain.Tree) → broken_in tree ≡ [] → AreWords tree → length (created_of tree) ≤ most_threads → length (columns_of tree) ≤ most_columns
-    → AllPairs (λ a b. a ≢ b) (map (λ (c : ProgramColumn). c.text) (map program_column (columns_of tree)))
-program-texts tree none words few short =
-    apart-pairs (map (λ (c : ProgramColumn). c.text) (map program_column (columns_of tree)))
-    (apart-map (λ x. x) (λ (c : ProgramColumn). c.text) (map program_column (columns_of tree))
-    (apart-map (λ (c : ProgramColumn). c.text) program_column (columns_of tree) (columns-apart tree none words few short)))
+-- The texts of the columns differ.
+pub columns-differ : (tree : plain.Tree) → broken_in tree ≡ [] → AreWords tree → length (created_of tree) ≤ most_threads → length (columns_of tree) ≤ most_columns
+    → AllPairs (λ a b. a ≢ b) (map (λ (c : Column). c.text) (columns_of tree))
+columns-differ tree none words few short =
+    apart-pairs (map (λ (c : Column). c.text) (columns_of tree)) (apart-map (λ x. x) (λ (c : Column). c.text) (columns_of tree) (columns-apart tree none words few short))

@@ -1,5 +1,5 @@
 -- The texts of threads' own columns, taken apart: the thread and the name, and in a name its mark.
-use Rattle.std.proofs.Common.{◌≡◌, ◌≢◌, ℕ, zero, suc, ◌+◌, ◌<◌, ◌^◌, pos, Bool, true, false, ◌||◌, List, [], ◌∷◌, ◌++◌, codes, refl, sym, subst, ◌∙◌, arith}
+use Rattle.std.proofs.Common.{◌≡◌, ◌≢◌, ℕ, zero, suc, ◌+◌, ◌<◌, ◌^◌, pos, Bool, true, false, ◌||◌, List, [], ◌∷◌, ◌++◌, codes, length, get_or, refl, sym, subst, ◌∙◌, arith}
 use Rattle.std.specs.List.{AllByRecursion, list_all}
 use Rattle.std.specs.Char.{IsAsciiDigit, is_ascii_digit}
 use Rattle.std.proofs.lemmas.Bool.{and_parts, true≢false}
@@ -7,9 +7,8 @@ use Rattle.std.proofs.lemmas.Fmt.{signed_decimal_injective}
 use Rattle.thr_base.specs.Number.{number_text}
 use Rattle.thr_base.specs.ColumnText.{is_name_start, own_text}
 use Rattle.thr_base.proofs.Numbers.{IsTextOf-number_text}
-use Rattle.transition_formula.proofs.Words.{each-from_digits}
 use Rattle.c_check.specs.Columns.{local_name}
-use Rattle.thread_cfg.specs.inside.Words.{IsWord}
+use Rattle.c_check.specs.inside.Words.{IsWord}
 
 -- ---- bytes in front of a mark and behind it
 -- The bytes have not this mark.
@@ -36,6 +35,11 @@ unmarked-differs mark (x ∷ xs) [] vs p e = let same : x ≡ mark = cc in p.0 s
 unmarked-differs mark (x ∷ xs) (u ∷ us) vs p e = let rest : xs ≡ us ++ mark ∷ vs = cc in unmarked-differs mark xs us vs p.1 rest
 
 -- ---- the bytes of numbers and words
+-- what holds of digits holds of each byte of digits
+each-from_digits : (P : ℕ → Type 0) → ((b : ℕ) → IsAsciiDigit b → P b) → (xs : List ℕ) → ((k : ℕ) → k < length xs → IsAsciiDigit (get_or xs k 0)) → AllByRecursion P xs
+each-from_digits P gives [] digits = tt
+each-from_digits P gives (x ∷ xs) digits = (gives x (digits 0 (omega arith)), each-from_digits P gives xs (λ k h. digits (suc k) (omega arith)))
+
 -- a digit is no byte above the digits
 digit-not : (mark b : ℕ) → 57 < mark → IsAsciiDigit b → b ≢ mark
 digit-not mark b h digit e = omega (arith, digit)
