@@ -26,7 +26,7 @@ pub record StepVariables (program : Program) (thread : Thread) (edge : Edge) (mo
 abbrev MeetAll : List Row → List ℤ → ℤ → Type 0
 MeetAll rows x d = AllByRecursion (λ row. MeetsOver row x d) rows
 
-named-meet : (v : Variable → ℤ) (d : ℤ) (moments : Moments) (inputs : List Variable) (rows : List Row) → AllMeetAt v d (named_over moments inputs rows) → MeetAll rows (values v moments inputs) d
+pub named-meet : (v : Variable → ℤ) (d : ℤ) (moments : Moments) (inputs : List Variable) (rows : List Row) → AllMeetAt v d (named_over moments inputs rows) → MeetAll rows (values v moments inputs) d
 named-meet v d moments inputs rows all = subst (λ x. MeetAll rows x d) (values-are v moments inputs) (named-all v d (moments.before ++ (moments.after ++ inputs)) rows all)
 
 meet-named : (v : Variable → ℤ) (d : ℤ) (moments : Moments) (inputs : List Variable) (rows : List Row) → MeetAll rows (values v moments inputs) d → AllMeetAt v d (named_over moments inputs rows)
@@ -38,7 +38,7 @@ length-values v moments inputs =
 
 -- ---- the rows of an edge
 
-to-edge : (program : Program) (thread : Thread) (edge : Edge) (moments : Moments) (inputs : List Variable) (v : Variable → ℤ) (d : ℤ) → StepVariables program thread edge moments inputs
+pub to-edge : (program : Program) (thread : Thread) (edge : Edge) (moments : Moments) (inputs : List Variable) (v : Variable → ℤ) (d : ℤ) → StepVariables program thread edge moments inputs
     → MeetAll (moving_rows program thread edge) (values v moments inputs) d → MeetAll (edge_rows (length program.columns) thread.counter edge) (values v moments inputs) d
 to-edge program thread edge moments inputs v d known all =
     let n = length program.columns in (

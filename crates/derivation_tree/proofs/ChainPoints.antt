@@ -55,7 +55,7 @@ told-of program n t i e thread edge moments is at =
 
 -- ---- where all is shared
 
-shared-all : (home : Home) (columns : List Column) (above fresh : List Variable) → length above ≡ length columns → length fresh ≡ length columns → shared share_all home columns above fresh ≡ above
+pub shared-all : (home : Home) (columns : List Column) (above fresh : List Variable) → length above ≡ length columns → length fresh ≡ length columns → shared share_all home columns above fresh ≡ above
 shared-all home [] [] fresh e f = refl
 shared-all home [] (a ∷ above) fresh e f = absurd (omega arith)
 shared-all home (column ∷ columns) [] fresh e f = absurd (omega arith)

@@ -9,3 +9,16 @@ pub mod Modular
 mod WorkedTrees
 pub mod Derivations
 pub mod ChainPoints
+pub mod Weights
+pub mod Agree
+pub mod Spread
+pub mod Found
+pub mod NodeSums
+pub mod NodeRows
+pub mod Premises
+pub mod TwoPremises
+pub mod SumParts
+pub mod SumSolutions
+pub mod SumLaws
+pub mod ChainRuns
+pub mod FactTrees

@@ -4,22 +4,23 @@ use Rattle.std.specs.List.{AllByRecursion}
 use Rattle.std.proofs.lemmas.Int.{ints}
 use Rattle.std.proofs.lemmas.Grind.{flat_map-append}
 use Rattle.lin_rows.specs.Row.{Row, product_of, MeetsOver}
+use Rattle.lin_rows.specs.System.{IsRationalPoint}
 use Rattle.lin_rows.proofs.Integers.{mul-lt-mul_ℤ, mul_comm_ℤ, mul-zero_ℤ}
 use Rattle.lin_rows.proofs.Points.{product_of-AllZero}
 use Rattle.lin_rows.proofs.Lists.{AllByRecursion-front, AllByRecursion-rest, AllByRecursion-weaken}
 use Rattle.farkas_cert.specs.Cert.{IsContradiction}
-use Rattle.transition_formula.specs.Program.{Program}
+use Rattle.transition_formula.specs.Program.{Program, Column}
 use Rattle.horn_rules.specs.Home.{Home, State, Env as AtEdge, home_width}
 use Rattle.horn_rules.specs.Instance as instance
 use Rattle.horn_rules.proofs.Cases.{shape}
 use Rattle.horn_rules.specs.Scope.{in_scope, columns_of, IsModular}
 use Rattle.derivation_tree.specs.Tree.{Tree, Own, Guar, Env, Inter, size_of}
-use Rattle.derivation_tree.specs.Variable.{Variable, variables_of}
+use Rattle.derivation_tree.specs.Variable.{Variable, variables_of, system_over}
 use Rattle.derivation_tree.specs.Nodes.{Sharing, Moments, Node, moments_of, at_before, node_at, nodes_of, root_moments, tree_nodes, rows_of}
-use Rattle.derivation_tree.specs.System.{share_scope}
-use Rattle.derivation_tree.specs.Solution.{NodeRow, says, Solves, init, own, guar, env, inter}
+use Rattle.derivation_tree.specs.System.{share_scope, share_all}
+use Rattle.derivation_tree.specs.Solution.{NodeRow, says, Solves, IsSolution, init, own, guar, env, inter}
 use Rattle.derivation_tree.specs.Sums.{coefficient_at}
-use Rattle.derivation_tree.specs.Laws.{CutPointsHaveNoModularSolution}
+use Rattle.derivation_tree.specs.Laws.{CutPointsHaveNoModularSolution, FullPointsHaveNoSolution}
 use Rattle.derivation_tree.proofs.Values.{MeetsAt, AllMeetAt}
 use Rattle.derivation_tree.proofs.Numbering.{point-values}
 use Rattle.derivation_tree.proofs.Below.{solved-home}
@@ -137,12 +138,28 @@ no-point row y d positive none wrong h =
 modular-shared : (program : Program) (at : NodeRow) → IsModular program at.home at.row → IsShared program share_scope at
 modular-shared program at is = modular-vanishes (in_scope at.home) (columns_of program at.home) at.row.coefficients is
 
-pub cut-points : CutPointsHaveNoModularSolution
-cut-points program tree (x, d, point) (rows, solution, modular) =
-    let nodes = tree_nodes program share_scope tree in
+-- where all is shared, any row does
+all-shared : (home : Home) (columns : List Column) (xs : List ℤ) → Vanishes (share_all home) columns xs
+all-shared home [] xs = tt
+all-shared home (column ∷ columns) [] = tt
+all-shared home (column ∷ columns) (x ∷ xs) = (λ none. cc, all-shared home columns xs)
+
+any-shared : (program : Program) (rows : List NodeRow) → AreShared program share_all rows
+any-shared program [] = tt
+any-shared program (at ∷ rows) = (all-shared at.home (columns_of program at.home) at.row.coefficients, any-shared program rows)
+
+-- a solution with rows over what is shared has no point of the system
+no-solution : (program : Program) (share : Sharing) (tree : Tree) (rows : List NodeRow) (x : List ℤ) (d : ℤ) → IsSolution program tree rows → AreShared program share rows → ¬ IsRationalPoint (system_over (rows_of (tree_nodes program share tree))) x d
+no-solution program share tree rows x d solution among point =
+    let nodes = tree_nodes program share tree in
     let root = solution.root in
     let v = coefficient_at (variables_of (rows_of nodes)) x in
-    let met = solved-seen program share_scope v d point.positive tree rows root solution.solves
-    (AllByRecursion-weaken (λ (at : NodeRow). IsModular program at.home at.row) (IsShared program share_scope) (modular-shared program) rows modular)
-    0 (root_moments program tree) (root-each program tree) (root-tells program tree root.home) (point-values (rows_of nodes) x d point) in
+    let met = solved-seen program share v d point.positive tree rows root solution.solves among 0 (root_moments program tree) (root-each program tree) (root-tells program tree root.home) (point-values (rows_of nodes) x d point) in
     no-point root.row (map v (seen root.home (root_moments program tree))) d point.positive (solved-row program tree rows root solution.solves).0 solution.contradicts met
+
+pub cut-points : CutPointsHaveNoModularSolution
+cut-points program tree (x, d, point) (rows, solution, modular) =
+    no-solution program share_scope tree rows x d solution (AllByRecursion-weaken (λ (at : NodeRow). IsModular program at.home at.row) (IsShared program share_scope) (modular-shared program) rows modular) point
+
+pub full-points-none : FullPointsHaveNoSolution
+full-points-none program tree (x, d, point) (rows, solution) = no-solution program share_all tree rows x d solution (any-shared program rows) point

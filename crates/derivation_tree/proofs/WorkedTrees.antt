@@ -1,8 +1,10 @@
 -- Small trees with their systems, written by hand: of one thread; of two by rely-guarantee; of two by the rule of Owicki and Gries.
-use Rattle.std.proofs.Common.{◌≡◌, ℕ, List, [], ◌∷◌, Some, None, pos, negsuc, refl}
+use Rattle.std.proofs.Common.{◌≡◌, ℕ, List, [], ◌∷◌, Some, None, pos, negsuc, refl, arith}
+use Rattle.std.proofs.lemmas.Int.{ints}
 use Rattle.lin_rows.specs.Row.{Row, sum_of}
 use Rattle.lin_rows.specs.Atom.{inequality}
-use Rattle.farkas_cert.specs.Cert.{weighted_sum}
+use Rattle.lin_rows.specs.System.{IsPoint}
+use Rattle.farkas_cert.specs.Cert.{Refutes, weighted_sum}
 use Rattle.transition_formula.specs.Program.{Program, Column, Edge}
 use Rattle.transition_formula.specs.Rows.{zeros, unit, equality, column_is}
 use Rattle.horn_rules.specs.Home.{State}
@@ -82,6 +84,12 @@ alone-chain = refl
 alone-refuted : weighted_sum alone_rows ((1, pos 1) ∷ (7, pos 1) ∷ (11, pos 1) ∷ []) ≡ inequality (zeros 6) (negsuc 0)
 alone-refuted = refl
 
+alone-refutes : Refutes (cut_system worked_program alone) ((1, pos 1) ∷ (7, pos 1) ∷ (11, pos 1) ∷ [])
+alone-refutes = record {
+  in_order = (omega arith, tt, (omega arith, tt, (omega arith, omega (arith, ints), tt)));
+  contradicts = record { cancels = (refl, (refl, (refl, (refl, (refl, (refl, tt)))))); negative = omega (arith, ints) };
+}
+
 alone-predicates : predicates_of (tree_nodes worked_program share_scope alone) ((1, pos 1) ∷ (7, pos 1) ∷ (11, pos 1) ∷ [])
     ≡ record { home = State 1 1; atom = inequality (unit 4 0 (pos 1)) (pos 0) }
     ∷ record { home = State 1 2; atom = inequality (unit 4 1 (pos 1)) (pos 0) }
@@ -134,7 +142,11 @@ told-chain : chain_system worked_program told
     }
 told-chain = refl
 
--- A whole point of the chain tells a run in which the second thread writes 5.
+-- A whole point of the chain.
+told-point : IsPoint (chain_system worked_program told) (pos 0 ∷ pos 1 ∷ pos 1 ∷ pos 2 ∷ pos 5 ∷ pos 5 ∷ pos 2 ∷ pos 5 ∷ pos 0 ∷ [])
+told-point = record { whole = refl; meets = (refl, (refl, (refl, (refl, (refl, (refl, (refl, (refl, (refl, (refl, (refl, (omega (arith, ints), tt)))))))))))) }
+
+-- It tells a run in which the second thread writes 5.
 told-run : chain_run worked_program told (pos 0 ∷ pos 1 ∷ pos 1 ∷ pos 2 ∷ pos 5 ∷ pos 5 ∷ pos 2 ∷ pos 5 ∷ pos 0 ∷ [])
     ≡ record {
       start = pos 0 ∷ pos 0 ∷ pos 1 ∷ pos 1 ∷ [];

@@ -138,7 +138,7 @@ nodes_of program share first (Inter f g e) above =
     nodes_of program share first f (at_before moments)
     ++ (nodes_of program share (first + size_of f) g (at_before moments) ++ node_at program n (Inter f g e) moments ∷ [])
 
--- the root has all of its variables for itself
+-- the root, which stands at a location, has all of its variables for itself
 abbrev pub root_moments : Program → Tree → Moments
 root_moments program tree = let own = own_after program (size_of tree) in record { before = own; after = own }
 

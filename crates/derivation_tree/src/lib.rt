@@ -9,7 +9,10 @@ mod refutation;
 mod scope;
 
 pub use kept::Kept;
-pub use laws::{cut_points_have_no_modular_solution, full_points_give_chain_points};
+pub use laws::{
+    chain_points_are_runs, facts_have_trees, full_points_give_chain_points,
+    points_have_no_solution, sums_are_solutions,
+};
 pub use left::{Left, LeftCause};
 pub use refutation::Refutation;
 pub use scope::{Scope, System, TreeLeft};
