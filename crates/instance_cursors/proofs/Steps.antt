@@ -1,13 +1,16 @@
 -- Which steps series have.
-use Rattle.std.proofs.Common.{◌≡◌, ℕ, zero, suc, ◌<◌, ◌≤◌, eqb, Bool, true, false, ◌&&◌, List, [], ◌∷◌, length, refl, ap, arith}
+use Rattle.std.proofs.Common.{◌≡◌, ℕ, zero, suc, ◌<◌, ◌≤◌, eqb, Bool, true, false, not, ◌&&◌, List, [], ◌∷◌, length, refl, ap, arith}
 use Rattle.std.proofs.lemmas.Bool.{eqb-true}
 use Rattle.std.specs.List.{slice_get}
 use Rattle.thr_base.specs.declared.names.RuleName.{RuleName}
 use Rattle.thr_base.specs.declared.names.RuleName.TheVariants.{Rg, Og}
 use Rattle.instance_cursors.specs.declared.layout.EdgeHomes.{EdgeHomes}
-use Rattle.instance_cursors.specs.declared.layout.Layout.{Layout}
+use Rattle.instance_cursors.specs.declared.early.Early.{Early}
 use Rattle.instance_cursors.specs.declared.turns.Series.{Series}
 use Rattle.instance_cursors.specs.declared.turns.Series.TheVariants.{Own, Told, Beside}
+use Rattle.fact_table.specs.declared.live_fact.LiveFact.{LiveFact}
+use Rattle.instance_cursors.specs.Turns.{has_turn, is_early, turn_at}
+use Rattle.instance_cursors.specs.Ways.{Layout}
 use Rattle.instance_cursors.specs.Layout.{are_apart, has_source, has_step, home_at, is_step_home, is_told, last_beside_by, last_step, leads_from, leaves}
 
 pub not_true : (b : Bool) → (b ≡ true → ⊥) → b ≡ false
@@ -32,7 +35,7 @@ past (edge ∷ edges) (suc k) home le = past edges k home (omega arith)
 leaves-above : (rule : RuleName) (layout : Layout) (home step : ℕ) → last_beside_by rule layout < step → leaves rule layout home step ≡ false
 leaves-above Rg layout home step lt = and_right (is_step_home (home_at layout home)) (eqb step 1) (not_one step (λ e. omega (arith, e, lt)))
 leaves-above Og layout home zero lt = refl
-leaves-above Og layout home (suc edge) lt = past layout.edges.items edge home (omega arith)
+leaves-above Og layout home (suc edge) lt = past layout.edges edge home (omega arith)
 
 pub has_step-above : (layout : Layout) (series : Series) (home step : ℕ) → last_step layout series < step → has_step layout series home step ≡ false
 has_step-above layout (Own edge) home step lt = and_left (eqb step 1) (has_source layout edge home) (not_one step (λ e. omega (arith, e, lt)))
@@ -50,3 +53,12 @@ has_step-zero layout (Beside at id) home = and_right (are_apart (home_at layout 
 
 pub not_both : (b : Bool) → b ≡ true → b ≡ false → ⊥
 not_both b passes fails = cc
+
+-- ---- turns
+
+pub has_turn-zero : (layout : Layout) (early : List Early) (series : Series) (f : LiveFact) → has_turn layout early series f 0 ≡ false
+has_turn-zero layout early series f = and_left (has_step layout series f.fact.home.0 0) (not (is_early early series (turn_at f 0))) (has_step-zero layout series f.fact.home.0)
+
+pub has_turn-above : (layout : Layout) (early : List Early) (series : Series) (f : LiveFact) (step : ℕ) → last_step layout series < step → has_turn layout early series f step ≡ false
+has_turn-above layout early series f step lt =
+    and_left (has_step layout series f.fact.home.0 step) (not (is_early early series (turn_at f step))) (has_step-above layout series f.fact.home.0 step lt)

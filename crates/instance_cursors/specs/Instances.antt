@@ -7,7 +7,7 @@ use Rattle.thr_base.specs.declared.names.Instance.TheVariants.{Own as OwnStep, G
 use Rattle.thr_base.specs.declared.names.RuleName.{RuleName}
 use Rattle.thr_base.specs.declared.names.RuleName.TheVariants.{Rg, Og}
 use Rattle.instance_cursors.specs.declared.layout.EdgeHomes.{EdgeHomes}
-use Rattle.instance_cursors.specs.declared.layout.Layout.{Layout}
+use Rattle.instance_cursors.specs.Ways.{Layout}
 use Rattle.instance_cursors.specs.declared.turns.Series.{Series}
 use Rattle.instance_cursors.specs.declared.turns.Series.TheVariants.{Own, Told, Beside}
 use Rattle.instance_cursors.specs.declared.turns.Turn.{Turn}
@@ -18,7 +18,7 @@ number_in (Some edge) = edge.edge
 
 -- the number that an edge of the layout has in its thread
 abbrev pub edge_number : Layout → ℕ → EdgeNo
-edge_number layout edge = number_in (slice_get layout.edges.items edge)
+edge_number layout edge = number_in (slice_get layout.edges edge)
 
 -- the number of the edge that a step, from 1, stands for
 abbrev pub step_number : Layout → ℕ → EdgeNo

@@ -3,11 +3,13 @@ use Rattle.std.specs.Prelude.{ℕ, zero, suc, nat_eq, Bool, true, false, not, �
 use Rattle.thr_base.specs.declared.names.RuleName.{RuleName}
 use Rattle.thr_base.specs.declared.names.RuleName.TheVariants.{Rg, Og}
 use Rattle.thr_base.specs.declared.names.FactId.{FactId}
+use Rattle.thr_base.specs.declared.names.HomeNo.{HomeNo}
+use Rattle.thr_base.specs.declared.names.ThreadNo.{ThreadNo}
 use Rattle.instance_cursors.specs.declared.layout.EdgeHomes.{EdgeHomes}
 use Rattle.instance_cursors.specs.declared.layout.HomeKind.{HomeKind}
 use Rattle.instance_cursors.specs.declared.layout.HomeKind.TheVariants.{State, Step}
 use Rattle.instance_cursors.specs.declared.layout.HomeOf.{HomeOf}
-use Rattle.instance_cursors.specs.declared.layout.Layout.{Layout}
+use Rattle.instance_cursors.specs.Ways.{Layout}
 use Rattle.instance_cursors.specs.declared.turns.Series.{Series}
 use Rattle.instance_cursors.specs.declared.turns.Series.TheVariants.{Own, Told, Beside}
 use Rattle.instance_cursors.specs.declared.turns.Turn.{Turn}
@@ -18,12 +20,12 @@ leads_from None home = false
 leads_from (Some edge) home = nat_eq edge.source.0 home
 
 abbrev pub has_source : Layout → ℕ → ℕ → Bool
-has_source layout edge home = leads_from (slice_get layout.edges.items edge) home
+has_source layout edge home = leads_from (slice_get layout.edges edge) home
 
 -- a home, by number from 1
 abbrev pub home_at : Layout → ℕ → Option HomeOf
 home_at layout zero = None
-home_at layout (suc place) = slice_get layout.homes.items place
+home_at layout (suc place) = slice_get layout.homes place
 
 -- Steps are told to the other threads by rely-guarantee.
 abbrev pub is_told : RuleName → Bool
@@ -66,7 +68,7 @@ has_step layout (Beside at id) home step = are_apart (home_at layout at.0) (home
 -- no series has a step above these
 abbrev pub last_beside_by : RuleName → Layout → ℕ
 last_beside_by Rg layout = 1
-last_beside_by Og layout = length layout.edges.items
+last_beside_by Og layout = length layout.edges
 
 abbrev pub last_beside : Layout → ℕ
 last_beside layout = last_beside_by layout.rule layout
@@ -79,3 +81,29 @@ last_step layout (Beside at id) = last_beside layout
 -- the step of a fact up to which its turns are passed
 abbrev pub step_after : Turn → FactId → ℕ
 step_after passed id = cond (nat_eq id.0 passed.id.0) passed.step 0
+
+-- ---- where the instances of a series lead
+
+abbrev pub no_home : HomeNo
+no_home = record { 0 = 0 }
+
+abbrev pub target_in : Option EdgeHomes → HomeNo
+target_in None = no_home
+target_in (Some edge) = edge.target
+
+abbrev pub told_in : Option EdgeHomes → HomeNo
+told_in None = no_home
+told_in (Some edge) = edge.told
+
+abbrev pub target_of : Layout → Series → HomeNo
+target_of layout (Own edge) = target_in (slice_get layout.edges edge)
+target_of layout (Told edge) = told_in (slice_get layout.edges edge)
+target_of layout (Beside home id) = home
+
+abbrev pub thread_in : Option HomeOf → ThreadNo
+thread_in None = record { 0 = 0 }
+thread_in (Some home) = home.thread
+
+-- the thread of a home
+abbrev pub thread_at : Layout → HomeNo → ThreadNo
+thread_at layout home = thread_in (home_at layout home.0)

@@ -1,7 +1,8 @@
+pub mod Ways
 pub mod Layout
 pub mod Turns
+pub mod Instances
+pub mod Waiting
 pub mod Cursors
 pub mod Choice
-pub mod Instances
-pub mod Complete
 pub mod inside

@@ -1,2 +1,5 @@
--- How the best head is found. No public clause cites it.
+-- What no public clause cites.
 pub mod Found
+pub mod Follows
+pub mod Stored
+pub mod Chosen

@@ -1,65 +1,52 @@
-ghost use Rattle.std.specs.Prelude.{◌≡◌, ◌<◌, ◌⊎◌, None, Some, length, MatchOption};
+ghost use Rattle.std.specs.Prelude.{◌≡◌, ◌<◌, ◌⊎◌, ◌↔◌, IsTrue, false, length, slice_index_or, MatchOption};
+ghost use Rattle.thr_base.specs.declared.names.Instance.TheVariants.{Init};
+ghost use Rattle.instance_cursors.specs.declared.start.Start.{Start as StartOf};
+ghost use Rattle.instance_cursors.specs.declared.turns.Cursor.{Cursor as CursorOf};
 ghost use Rattle.instance_cursors.specs.Choice as specs;
+ghost use Rattle.instance_cursors.specs.inside.Chosen as chosen;
 ghost use Rattle.instance_cursors.specs.inside.Found as inside;
 
-use crate::cursors::{Cursors, Start};
-use crate::key::{Found, key_of};
+use crate::instances::{instance_of, target_of, thread_at};
+use crate::key::Head;
 use crate::layout::Layout;
-use crate::turns::{Cursor, Series, Turn, head, home_at};
-use fact_table::Table;
-use thr_base::{HomeNo, ThreadNo};
+use crate::start::Start;
+use crate::turns::Cursor;
+use thr_base::{HomeNo, Instance, ThreadNo};
 
-/// What may be looked at next: the start of a thread, or the head of a cursor, by its place.
+/// What may be taken next, and the home of which it may give a fact.
 #[derive(Clone, Copy, Debug, PartialEq, Eq)]
-pub enum Choice {
-    Start(usize),
-    Head(usize, Turn),
+pub struct Next {
+    pub instance: Instance,
+    pub home: HomeNo,
 }
 
-/// Chooses what is looked at next: what leads to homes of this thread before what leads to others, and else by the order of keys.
-pub fn choose(cursors: &Cursors, layout: &Layout, table: &Table, thread: ThreadNo) -> Option<Choice>
-    ensures { MatchOption result (specs.NothingIsOpen layout.now None cursors.now table.now.live) (specs.IsChoice layout.now thread cursors.now table.now.live) }
-{
-    match open_of(cursors, layout, table, Some(thread)) {
-        Some(choice) => Some(choice),
-        None => open_of(cursors, layout, table, None),
-    }
-}
-
-/// The first that is open of a thread, or of all.
-fn open_of(
-    cursors: &Cursors,
-    layout: &Layout,
-    table: &Table,
-    only: Option<ThreadNo>,
-) -> Option<Choice>
-    ensures { MatchOption result (specs.NothingIsOpen layout.now only cursors.now table.now.live) (specs.IsOpen layout.now only cursors.now table.now.live) }
-{
-    if let Some(place) = first_start(cursors.starts(), only) {
-        return Some(Choice::Start(place));
-    }
-    match best_head(cursors.cursors(), layout, table, only) {
-        Some(found) => Some(Choice::Head(found.place, found.turn)),
-        None => None,
-    }
+/// The head of the cursor at a place.
+#[derive(Clone, Copy)]
+pub(crate) struct Found {
+    pub(crate) place: usize,
+    pub(crate) head: Head,
 }
 
 /// The first start that was not taken.
-fn first_start(starts: &[Start], only: Option<ThreadNo>) -> Option<usize>
-    ensures { MatchOption result (specs.AllAreTaken only starts.now) (specs.IsOpenStart only starts.now) }
+pub(crate) fn first_start(
+    layout: &Layout,
+    starts: &[Start],
+    only: Option<ThreadNo>,
+) -> Option<usize>
+    ensures { MatchOption result (specs.AllAreTaken layout.now only starts.now) (specs.IsOpenStart layout.now only starts.now) }
 {
     for place in 0..starts.len() {
-        if is_open(starts[place], only) {
+        if is_open(layout, starts[place], only) {
             return Some(place);
         }
     }
     None
 }
 
-fn is_open(start: Start, only: Option<ThreadNo>) -> bool
-    ensures { result ≡ specs.is_open only start }
+fn is_open(layout: &Layout, start: Start, only: Option<ThreadNo>) -> bool
+    ensures { result ≡ specs.is_open layout.now only start }
 {
-    !start.taken && is_wanted(start.thread, only)
+    !start.taken && is_wanted(thread_at(layout, start.home), only)
 }
 
 fn is_wanted(thread: ThreadNo, only: Option<ThreadNo>) -> bool
@@ -71,74 +58,48 @@ fn is_wanted(thread: ThreadNo, only: Option<ThreadNo>) -> bool
     }
 }
 
-/// The thread of the homes to which a series leads.
-fn thread_of(layout: &Layout, series: Series) -> ThreadNo
-    ensures { result ≡ specs.thread_of layout.now series }
-{
-    match series {
-        Series::Own(edge) => edge_thread(layout, edge),
-        Series::Told(edge) => edge_thread(layout, edge),
-        Series::Beside(home, _) => home_thread(layout, home),
-    }
-}
-
-fn edge_thread(layout: &Layout, edge: u32) -> ThreadNo
-    ensures { result ≡ inside.thread_of_edge layout.now edge }
-{
-    match layout.edges.get(edge as usize) {
-        Some(edge) => edge.thread,
-        None => ThreadNo(0),
-    }
-}
-
-fn home_thread(layout: &Layout, home: HomeNo) -> ThreadNo
-    ensures { result ≡ inside.thread_of_home layout.now home.0 }
-{
-    match home_at(layout, home) {
-        Some(home) => home.thread,
-        None => ThreadNo(0),
-    }
-}
-
 /// The head with the least key.
-fn best_head(
-    cursors: &[Cursor],
+pub(crate) fn best_head(
     layout: &Layout,
-    table: &Table,
+    cursors: &[Cursor],
+    heads: &[Option<Head>],
     only: Option<ThreadNo>,
 ) -> Option<Found>
-    ensures { MatchOption result (specs.AllWantedArePassed layout.now only cursors.now table.now.live) (λ found. specs.IsOpenHead layout.now only cursors.now table.now.live found.place found.turn) }
+    requires { length heads.now ≡ length cursors.now }
+    ensures { MatchOption result (specs.NoneHasHead layout.now only cursors.now heads.now) (λ found. specs.HasHead layout.now only cursors.now heads.now found.place found.head) }
 {
     let mut best = None;
     for place in 0..cursors.len() {
-        let found = head_at(cursors, layout, table, only, place);
+        let found = head_at(layout, cursors, heads, only, place);
         best = better(best, found);
     }
     best
 }
 
 fn head_at(
-    cursors: &[Cursor],
     layout: &Layout,
-    table: &Table,
+    cursors: &[Cursor],
+    heads: &[Option<Head>],
     only: Option<ThreadNo>,
     place: usize,
 ) -> Option<Found>
-    requires { place < length cursors.now }
-    ensures { MatchOption result (specs.IsNotOpen layout.now only cursors.now table.now.live place) (λ found. specs.IsOpenHead layout.now only cursors.now table.now.live found.place found.turn) }
+    requires count { length heads.now ≡ length cursors.now }
+    requires place { place < length cursors.now }
+    ensures { MatchOption result (specs.HasNoHead layout.now only cursors.now heads.now place) (λ found. specs.HasHead layout.now only cursors.now heads.now found.place found.head) }
 {
+    let head = heads[place]?;
     let cursor = cursors[place];
-    if !is_wanted(thread_of(layout, cursor.series), only) {
-        return None;
+    if leads_there(layout, cursor, only) {
+        Some(Found { place, head })
+    } else {
+        None
     }
-    match head(layout, table.facts(), cursor) {
-        Some(turn) => Some(Found {
-            place,
-            turn,
-            key: key_of(layout, table, cursor.series, turn),
-        }),
-        None => None,
-    }
+}
+
+fn leads_there(layout: &Layout, cursor: Cursor, only: Option<ThreadNo>) -> bool
+    ensures { result ≡ specs.leads_there layout.now only cursor.series }
+{
+    is_wanted(thread_at(layout, target_of(layout, cursor.series)), only)
 }
 
 /// The one with the lesser key.
@@ -157,9 +118,50 @@ fn better(one: Option<Found>, other: Option<Found>) -> Option<Found>
 fn lesser(first: Found, second: Found) -> Found
     ensures { (result ≡ first) ⊎ (result ≡ second) }
 {
-    if second.key < first.key {
+    if second.head.key < first.head.key {
         second
     } else {
         first
     }
+}
+
+pub(crate) fn next_start(starts: &[Start], place: usize) -> Next
+    requires { place < length starts.now }
+    ensures { (d : StartOf) → result ≡ chosen.next_start (slice_index_or starts.now place d) }
+{
+    let start = starts[place];
+    Next {
+        instance: Instance::Init(start.thread),
+        home: start.home,
+    }
+}
+
+pub(crate) fn next_head(layout: &Layout, cursors: &[Cursor], found: Found) -> Next
+    requires { found.place < length cursors.now }
+    ensures { (d : CursorOf) → result ≡ chosen.next_turn layout.now (slice_index_or cursors.now found.place d) found.head.turn }
+{
+    let series = cursors[found.place].series;
+    Next {
+        instance: instance_of(layout, series, found.head.turn),
+        home: target_of(layout, series),
+    }
+}
+
+/// The home of a thread's start, if it was not taken.
+pub(crate) fn open_start(starts: &[Start], thread: ThreadNo) -> Option<HomeNo>
+    ensures { MatchOption result (chosen.HasNoStart starts.now thread) (chosen.HasStart starts.now thread) }
+{
+    for place in 0..starts.len() {
+        let start = starts[place];
+        if is_untaken(start, thread) {
+            return Some(start.home);
+        }
+    }
+    None
+}
+
+fn is_untaken(start: Start, thread: ThreadNo) -> bool
+    ensures { IsTrue result ↔ ((start.taken ≡ false) × (Init start.thread ≡ Init thread)) }
+{
+    !start.taken && start.thread == thread
 }

@@ -1,295 +1,219 @@
-ghost use Rattle.std.specs.Prelude.{◌≡◌, ◌+◌, ◌<◌, ◌≤◌, ◌↔◌, ◌++◌, ◌∷◌, [], ◌^◌, length, map, filter, take, IfOk, IsTrue};
-ghost use Rattle.std.specs.Vec.{vec_capacity};
-ghost use Rattle.instance_cursors.specs.Cursors as specs;
+ghost use Rattle.std.specs.Prelude.{◌≡◌, ◌+◌, ◌<◌, Bool, false, length, filter, IfOk, IfErr, MatchOption};
+ghost use Rattle.std.specs.List.{Contains};
+ghost use Rattle.thr_base.specs.declared.names.Instance.TheVariants.{Init};
+ghost use Rattle.thr_base.specs.declared.names.ThreadNo.{ThreadNo as Thread};
+ghost use Rattle.fact_table.specs.declared.live_fact.LiveFact.{LiveFact as Live};
+ghost use Rattle.instance_cursors.specs.Waiting as specs;
+ghost use Rattle.instance_cursors.specs.declared.start.Start.{Start as StartOf};
+ghost use Rattle.instance_cursors.specs.inside.Chosen as chosen;
 
+use crate::choosing::{Next, best_head, first_start, next_head, next_start, open_start};
+use crate::early::Early;
+use crate::finding::{find, home_ahead, take_early};
+use crate::heads::{find_all, head_of, is_head_at, look_at, move_on};
+use crate::key::Head;
 use crate::layout::Layout;
-use crate::turns::{Cursor, Series, Turn};
-use fact_table::Table;
+use crate::moving::{
+    at_beginning, early_back, edge_cursors, keep_live, no_heads, push_cursor, push_fact, push_head,
+    set_cursors_back, set_facts, set_starts_back, take_thread,
+};
+use crate::start::Start;
+use crate::turns::{Cursor, Series};
+use fact_table::LiveFact;
 use std::alloc::{AllocError, Global};
 use std::marker::Model;
-use thr_base::{FactId, HomeNo, ThreadNo};
+use thr_base::{HomeNo, Instance, ThreadNo};
 
-/// A thread's start, the instance without premises: whether it was taken.
-#[derive(Clone, Copy, Debug, PartialEq, Eq)]
-pub struct Start {
-    pub thread: ThreadNo,
-    pub home: HomeNo,
-    pub taken: bool,
-}
-
-/// The starts of all threads and the cursors of all series: two for each edge, and one for each live fact.
+/// The instances that are open: those that lead from live facts and were not taken. Each thread has a start, each edge two cursors and
+/// each live fact one, with its head beside it.
 #[derive(Drop)]
 pub struct Cursors {
-    room: usize,
+    layout: Layout,
+    room: u32,
+    given: u32,
+    facts: Vec<LiveFact>,
     starts: Vec<Start>,
     cursors: Vec<Cursor>,
+    heads: Vec<Option<Head>>,
+    early: Vec<Early>,
 }
 
 impl Model for Cursors {
-    ghost use Rattle.instance_cursors.specs.Cursors.{CursorList};
+    ghost use Rattle.instance_cursors.specs.Waiting.{Waiting};
 
-    ghost Value = { CursorList };
+    ghost Value = { Waiting };
 
-    ghost use Rattle.std.specs.Prelude.{◌≤◌, length};
-    ghost use Rattle.std.specs.Vec.{vec_capacity};
+    ghost use Rattle.instance_cursors.specs.inside.Stored.{IsStored, seen};
 
-    ghost view = { λ inside. record {
-      room = inside.room;
-      starts = inside.starts.items;
-      cursors = inside.cursors.items;
-    } };
+    ghost view = { seen };
 
-    ghost invariant = { λ inside. inside.room ≤ vec_capacity inside.cursors };
+    ghost invariant = { IsStored };
 }
 
 impl Cursors {
-    /// No start is taken yet, and no fact is live: two cursors for each edge, with room for one more for each of so many facts.
+    /// Nothing is live yet, and no start is taken. It has room for so many facts.
     pub fn new(
         alloc: Global,
-        layout: &Layout,
+        layout: Layout,
         starts: Vec<Start>,
         facts: u32,
     ) -> Result<Cursors, AllocError>
-        ensures starts { IfOk result (λ made. made.starts ≡ starts.items) }
-        ensures cursors { IfOk result (λ made. made.cursors ≡ specs.edge_cursors (length layout.now.edges.items)) }
-        ensures room { IfOk result (λ made. made.room ≡ length made.cursors + facts) }
+        requires { (start : StartOf) → Contains starts.items start → start.taken ≡ false }
+        ensures { IfOk result (specs.Begins layout starts.items facts) }
     {
-        let mut cursors = edge_cursors(alloc, layout.edges.len())?;
+        let mut cursors = edge_cursors(alloc, layout.edge_count())?;
         cursors.reserve(facts as usize)?;
+        let mut heads = no_heads(alloc, cursors.len())?;
+        heads.reserve(facts as usize)?;
+        let live = Vec::with_capacity(alloc, facts as usize)?;
+        find_all(&layout, &[], &live, &cursors, &mut heads);
         Ok(Cursors {
-            room: cursors.len() + facts as usize,
+            layout,
+            room: facts,
+            given: 0,
+            facts: live,
             starts,
             cursors,
+            heads,
+            early: Vec::new(alloc),
         })
     }
 
-    pub fn starts(&self) -> &[Start]
-        ensures { result.now ≡ self.now.starts }
+    /// What may be taken next: what leads to homes of this thread before what leads to others, and else by the order of keys.
+    pub fn choose(&self, thread: ThreadNo) -> Option<Next>
+        ensures { MatchOption result (specs.NoneIsOpen self.now) (specs.IsNext self.now thread) }
     {
-        self.starts.as_slice()
+        match self.open_in(Some(thread)) {
+            Some(next) => Some(next),
+            None => self.open_in(None),
+        }
     }
 
-    pub fn cursors(&self) -> &[Cursor]
-        ensures { result.now ≡ self.now.cursors }
+    /// The first that is open of a thread, or of all.
+    fn open_in(&self, only: Option<ThreadNo>) -> Option<Next>
+        ensures { MatchOption result (chosen.NoneIsWanted only self.now) (chosen.IsWanted only self.now) }
     {
-        self.cursors.as_slice()
+        if let Some(place) = first_start(&self.layout, &self.starts, only) {
+            return Some(next_start(&self.starts, place));
+        }
+        match best_head(&self.layout, &self.cursors, &self.heads, only) {
+            Some(found) => Some(next_head(&self.layout, &self.cursors, found)),
+            None => None,
+        }
     }
 
-    /// Whether one more fact may come.
-    pub fn has_room(&self) -> bool
-        ensures { IsTrue result ↔ (length self.now.cursors < self.now.room) }
+    /// The home to which an instance leads, if it is open.
+    pub fn home_if_open(&self, instance: Instance) -> Option<HomeNo>
+        ensures { MatchOption result (specs.IsOpen self.now instance → ⊥) (specs.OpensTo self.now instance) }
     {
-        self.cursors.len() < self.room
+        match instance {
+            Instance::Init(thread) => self.home_of_start(thread),
+            _ => self.home_of_turn(instance),
+        }
     }
 
-    /// A fact became live: it has a cursor, at its beginning. It takes no memory.
-    pub fn came(&mut self, home: HomeNo, id: FactId)
-        requires { length self.old.cursors < self.old.room }
-        ensures { self.new ≡ record self.old { cursors = self.old.cursors ++ specs.at_beginning (specs.beside home id) ∷ [] } }
+    fn home_of_start(&self, thread: ThreadNo) -> Option<HomeNo>
+        ensures { MatchOption result (specs.IsOpen self.now (Init thread) → ⊥) (specs.OpensTo self.now (Init thread)) }
     {
-        let cursor = at_beginning(Series::Beside(home, id));
-        if self.cursors.push(cursor).is_err() {
+        open_start(&self.starts, thread)
+    }
+
+    fn home_of_turn(&self, instance: Instance) -> Option<HomeNo>
+        requires { (thread : Thread) → Init thread ≡ instance → ⊥ }
+        ensures { MatchOption result (specs.IsOpen self.now instance → ⊥) (specs.OpensTo self.now instance) }
+    {
+        match find(&self.layout, &self.facts, &self.cursors, instance) {
+            Some(at) => home_ahead(&self.layout, &self.early, &self.cursors, at),
+            None => None,
+        }
+    }
+
+    /// An open instance is taken. Where this answers that there is no memory, nothing has changed.
+    pub fn take(&mut self, instance: Instance) -> Result<(), AllocError>
+        requires { specs.IsOpen self.old instance }
+        ensures closes { IfOk result (λ _. specs.Closes self.old instance self.new) }
+        ensures err { IfErr result (λ _. self.new ≡ self.old) }
+    {
+        match instance {
+            Instance::Init(thread) => {
+                self.start(thread);
+                Ok(())
+            }
+            _ => self.take_turn(instance),
+        }
+    }
+
+    fn start(&mut self, thread: ThreadNo)
+        ensures { specs.Closes self.old (Init thread) self.new }
+    {
+        take_thread(&mut self.starts, thread);
+    }
+
+    /// An open instance is taken that is no start.
+    fn take_turn(&mut self, instance: Instance) -> Result<(), AllocError>
+        requires is_open { specs.IsOpen self.old instance }
+        requires no_start { (thread : Thread) → Init thread ≡ instance → ⊥ }
+        ensures closes { IfOk result (λ _. specs.Closes self.old instance self.new) }
+        ensures err { IfErr result (λ _. self.new ≡ self.old) }
+    {
+        let Some(at) = find(&self.layout, &self.facts, &self.cursors, instance) else {
             unreachable!()
+        };
+        if is_head_at(&self.heads, at) {
+            move_on(
+                &self.layout,
+                &self.early,
+                &self.facts,
+                &mut self.cursors,
+                &mut self.heads,
+                at,
+            );
+            Ok(())
+        } else {
+            take_early(&mut self.early, &self.cursors, at)
         }
     }
 
-    /// Facts went: the cursors of those that are no longer live go too.
-    pub fn went(&mut self, table: &Table)
-        ensures { self.new ≡ record self.old { cursors = filter (specs.is_of_live table.now.live) self.old.cursors } }
+    /// A fact became live, by the next id. It takes no memory.
+    pub fn came(&mut self, fact: LiveFact)
+        requires room { length self.old.live < self.old.room }
+        requires next { fact.id.0 ≡ self.old.given + 1 }
+        ensures { specs.Opens self.old fact self.new }
     {
-        keep_live(&mut self.cursors, table);
+        let cursor = at_beginning(Series::Beside(fact.fact.home, fact.id));
+        push_fact(&mut self.facts, fact);
+        look_at(
+            &self.layout,
+            &self.early,
+            &self.facts,
+            fact,
+            &self.cursors,
+            &mut self.heads,
+        );
+        push_head(
+            &mut self.heads,
+            head_of(&self.layout, &self.early, &self.facts, cursor),
+        );
+        push_cursor(&mut self.cursors, cursor);
+        self.given = fact.id.0;
     }
 
-    /// A thread's start is taken.
-    pub fn start(&mut self, place: usize)
-        requires { place < length self.old.starts }
-        ensures { self.new ≡ record self.old { starts = specs.taken_at self.old.starts place } }
+    /// Facts went, and these homes changed. It takes no memory.
+    pub fn changed(&mut self, facts: &[LiveFact], homes: &[HomeNo])
+        requires { (keep : Live → Bool) × (facts.now ≡ filter keep self.old.live) }
+        ensures { specs.Reopens self.old facts.now homes.now self.new }
     {
-        take_at(&mut self.starts, place);
-    }
-
-    /// A cursor moves on past a turn.
-    pub fn pass(&mut self, place: usize, turn: Turn)
-        requires { place < length self.old.cursors }
-        ensures { self.new ≡ record self.old { cursors = specs.passed_at self.old.cursors place turn } }
-    {
-        pass_at(&mut self.cursors, place, turn);
-    }
-
-    /// Sets to the beginning what leads to these homes, and nothing else.
-    pub fn set_back(&mut self, layout: &Layout, homes: &[HomeNo])
-        ensures { self.new ≡ record self.old {
-          starts = map (specs.start_back homes.now) self.old.starts;
-          cursors = map (specs.cursor_back layout.now homes.now) self.old.cursors;
-        } }
-    {
+        set_facts(&mut self.facts, facts);
+        keep_live(&mut self.cursors, facts);
+        set_cursors_back(&mut self.cursors, &self.layout, homes);
         set_starts_back(&mut self.starts, homes);
-        set_cursors_back(&mut self.cursors, layout, homes);
-    }
-}
-
-/// A cursor that has passed nothing.
-pub(crate) fn at_beginning(series: Series) -> Cursor
-    ensures { result ≡ specs.at_beginning series }
-{
-    Cursor {
-        series,
-        passed: Turn {
-            id: FactId(0),
-            step: 0,
-        },
-    }
-}
-
-fn edge_cursors(alloc: Global, edges: usize) -> Result<Vec<Cursor>, AllocError>
-    requires { edges < 2 ^ 32 }
-    ensures { IfOk result (λ cursors. cursors.items ≡ specs.edge_cursors edges) }
-{
-    let mut cursors = Vec::new(alloc);
-    for edge in 0..edges as u32 {
-        cursors.push(at_beginning(Series::Own(edge)))?;
-        cursors.push(at_beginning(Series::Told(edge)))?;
-    }
-    Ok(cursors)
-}
-
-/// Whether a cursor is of an edge, or of a live fact.
-fn is_of_live(table: &Table, cursor: Cursor) -> bool
-    ensures { result ≡ specs.is_of_live table.now.live cursor }
-{
-    match cursor.series {
-        Series::Own(_) => true,
-        Series::Told(_) => true,
-        Series::Beside(_, id) => is_live(table, id),
-    }
-}
-
-fn is_live(table: &Table, id: FactId) -> bool
-    ensures { result ≡ specs.is_live table.now.live id }
-{
-    match table.kept(id) {
-        Some(_) => true,
-        None => false,
-    }
-}
-
-fn keep_live(cursors: &mut Vec<Cursor>, table: &Table)
-    ensures cursors { cursors.new.items ≡ filter (specs.is_of_live table.now.live) cursors.old.items }
-    ensures capacity { vec_capacity cursors.new ≡ vec_capacity cursors.old }
-{
-    let kept = move_live(cursors, table);
-    cursors.truncate(kept);
-}
-
-/// Moves the cursors that stay to the front, and says how many they are.
-fn move_live(cursors: &mut [Cursor], table: &Table) -> usize
-    ensures { take result cursors.new ≡ filter (specs.is_of_live table.now.live) cursors.old }
-{
-    let mut kept = 0;
-    for place in 0..cursors.len() {
-        let cursor = cursors[place];
-        if is_of_live(table, cursor) {
-            cursors[kept] = cursor;
-            kept += 1;
-        }
-    }
-    kept
-}
-
-fn take_at(starts: &mut Vec<Start>, place: usize)
-    requires { place < length starts.old.items }
-    ensures { starts.new.items ≡ specs.taken_at starts.old.items place }
-{
-    let start = starts[place];
-    starts[place] = Start {
-        taken: true,
-        ..start
-    };
-}
-
-fn pass_at(cursors: &mut Vec<Cursor>, place: usize, turn: Turn)
-    requires { place < length cursors.old.items }
-    ensures cursors { cursors.new.items ≡ specs.passed_at cursors.old.items place turn }
-    ensures capacity { vec_capacity cursors.new ≡ vec_capacity cursors.old }
-{
-    let cursor = cursors[place];
-    cursors[place] = Cursor {
-        passed: turn,
-        ..cursor
-    };
-}
-
-fn is_among(homes: &[HomeNo], home: HomeNo) -> bool
-    ensures { result ≡ specs.is_among homes.now home }
-{
-    homes.contains(&home)
-}
-
-/// The home to which the instances of a series lead.
-fn leads_to(layout: &Layout, homes: &[HomeNo], series: Series) -> bool
-    ensures { result ≡ specs.leads_to layout.now homes.now series }
-{
-    match series {
-        Series::Own(edge) => match layout.edges.get(edge as usize) {
-            Some(edge) => is_among(homes, edge.target),
-            None => false,
-        },
-        Series::Told(edge) => match layout.edges.get(edge as usize) {
-            Some(edge) => is_among(homes, edge.told),
-            None => false,
-        },
-        Series::Beside(home, _) => is_among(homes, home),
-    }
-}
-
-fn cursor_back(layout: &Layout, homes: &[HomeNo], cursor: Cursor) -> Cursor
-    ensures { result ≡ specs.cursor_back layout.now homes.now cursor }
-{
-    if leads_to(layout, homes, cursor.series) {
-        at_beginning(cursor.series)
-    } else {
-        cursor
-    }
-}
-
-fn start_back(homes: &[HomeNo], start: Start) -> Start
-    ensures { result ≡ specs.start_back homes.now start }
-{
-    if is_among(homes, start.home) {
-        Start {
-            taken: false,
-            ..start
-        }
-    } else {
-        start
-    }
-}
-
-fn set_starts_back(starts: &mut Vec<Start>, homes: &[HomeNo])
-    ensures { starts.new.items ≡ map (specs.start_back homes.now) starts.old.items }
-{
-    starts_back(starts, homes);
-}
-
-fn starts_back(starts: &mut [Start], homes: &[HomeNo])
-    ensures { starts.new ≡ map (specs.start_back homes.now) starts.old }
-{
-    for start in starts.iter_mut() {
-        *start = start_back(homes, *start);
-    }
-}
-
-fn set_cursors_back(cursors: &mut Vec<Cursor>, layout: &Layout, homes: &[HomeNo])
-    ensures cursors { cursors.new.items ≡ map (specs.cursor_back layout.now homes.now) cursors.old.items }
-    ensures capacity { vec_capacity cursors.new ≡ vec_capacity cursors.old }
-{
-    cursors_back(cursors, layout, homes);
-}
-
-fn cursors_back(cursors: &mut [Cursor], layout: &Layout, homes: &[HomeNo])
-    ensures { cursors.new ≡ map (specs.cursor_back layout.now homes.now) cursors.old }
-{
-    for cursor in cursors.iter_mut() {
-        *cursor = cursor_back(layout, homes, *cursor);
+        early_back(&mut self.early, &self.layout, homes);
+        find_all(
+            &self.layout,
+            &self.early,
+            &self.facts,
+            &self.cursors,
+            &mut self.heads,
+        );
     }
 }

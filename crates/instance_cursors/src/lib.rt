@@ -1,23 +1,24 @@
-//! Which instances of the rules are still to be looked at, told by cursors that go over live facts by rising id. The layers above learn
-//! what is chosen next, that something is wherever something is open, and that setting back opens exactly what leads to changed homes.
+//! Which instances of the rules are open, told by cursors that go over live facts by rising id, each with its head. The layers above
+//! learn that something is chosen wherever something is open, and exactly what a taken instance, a fact that comes, and changed homes
+//! do to what is open.
 #![tactic(auto)]
 
 mod choosing;
-mod complete_laws;
 mod cursors;
+mod early;
+mod finding;
+mod heads;
 mod instances;
 mod key;
-mod laws;
 mod layout;
+mod moving;
+mod start;
 mod turns;
 
-pub use choosing::{Choice, choose};
-pub use complete_laws::{no_heads_pass_all, series_keep_their_cursors};
-pub use cursors::{Cursors, Start};
-pub use instances::instance_of;
-pub use laws::{beginnings_pass_nothing, heads_are_open, passing_moves_one};
+pub use choosing::Next;
+pub use cursors::Cursors;
+pub use early::Early;
+pub use key::{Head, Key};
 pub use layout::{EdgeHomes, HomeKind, HomeOf, Layout};
-pub use turns::{Cursor, Series, Turn, head};
-
-#[cfg(test)]
-mod tests;
+pub use start::Start;
+pub use turns::{Cursor, Series, Turn};

@@ -2,8 +2,9 @@ ghost use Rattle.std.specs.Prelude.{◌≡◌, ◌<◌, ◌≤◌, MatchOption, 
 ghost use Rattle.std.specs.List.Sorted.{IsPartitionPoint};
 ghost use Rattle.thr_base.specs.Held.{Rise};
 ghost use Rattle.instance_cursors.specs.Layout as specs;
-ghost use Rattle.instance_cursors.specs.Turns.{AllArePassed, HoldsNoneAfter, IsHead, IsNextAfter};
+ghost use Rattle.instance_cursors.specs.Turns.{AllArePassed, HoldsNoneAfter, IsHead, IsNextAfter, has_turn as has_turn_of};
 
+use crate::early::{Early, is_early};
 use crate::layout::{HomeKind, HomeOf, Layout};
 use fact_table::LiveFact;
 use thr_base::{FactId, HomeNo, RuleName};
@@ -31,23 +32,23 @@ pub struct Cursor {
     pub passed: Turn,
 }
 
-/// The first turn of a cursor's series that is not passed.
-pub fn head(layout: &Layout, facts: &[LiveFact], cursor: Cursor) -> Option<Turn>
+/// The first turn of a cursor's series that was neither passed nor taken early.
+pub fn head(layout: &Layout, early: &[Early], facts: &[LiveFact], cursor: Cursor) -> Option<Turn>
     requires { Rise 0 (map (λ f. f.id.0) facts.now) }
-    ensures { MatchOption result (AllArePassed layout.now cursor facts.now) (IsHead layout.now cursor facts.now) }
+    ensures { MatchOption result (AllArePassed layout.now early.now cursor facts.now) (IsHead layout.now early.now cursor facts.now) }
 {
     let first = first_from(facts, cursor.passed.id);
     for place in first..facts.len() {
         let fact = facts[place];
         let after = step_after(cursor.passed, fact.id);
-        if let Some(step) = next_step(layout, cursor.series, fact.fact.home, after) {
+        if let Some(step) = next_step(layout, early, cursor.series, fact, after) {
             return Some(Turn { id: fact.id, step });
         }
     }
     None
 }
 
-fn first_from(facts: &[LiveFact], id: FactId) -> usize
+pub(crate) fn first_from(facts: &[LiveFact], id: FactId) -> usize
     requires { Rise 0 (map (λ f. f.id.0) facts.now) }
     ensures within { result ≤ length facts.now }
     ensures first { IsPartitionPoint (λ f. nat_lt f.id.0 id.0 ≡ true) (λ f. nat_lt f.id.0 id.0 ≡ false) facts.now result }
@@ -62,19 +63,32 @@ fn step_after(passed: Turn, id: FactId) -> u32
     if id.0 == passed.id.0 { passed.step } else { 0 }
 }
 
-/// The first step of a series at a home after another one.
-fn next_step(layout: &Layout, series: Series, home: HomeNo, after: u32) -> Option<u32>
-    ensures { MatchOption result (HoldsNoneAfter (specs.has_step layout.now series home.0) after) (IsNextAfter (specs.has_step layout.now series home.0) after) }
+/// The first turn of a fact in a series after a step, by its own step.
+pub(crate) fn next_step(
+    layout: &Layout,
+    early: &[Early],
+    series: Series,
+    fact: LiveFact,
+    after: u32,
+) -> Option<u32>
+    ensures { MatchOption result (HoldsNoneAfter (has_turn_of layout.now early.now series fact) after) (IsNextAfter (has_turn_of layout.now early.now series fact) after) }
 {
     for passed in after..last_step(layout, series) {
-        if has_step(layout, series, home, passed + 1) {
+        if has_turn(layout, early, series, fact, passed + 1) {
             return Some(passed + 1);
         }
     }
     None
 }
 
-fn last_step(layout: &Layout, series: Series) -> u32
+fn has_turn(layout: &Layout, early: &[Early], series: Series, fact: LiveFact, step: u32) -> bool
+    ensures { result ≡ has_turn_of layout.now early.now series fact step }
+{
+    has_step(layout, series, fact.fact.home, step)
+        && !is_early(early, series, Turn { id: fact.id, step })
+}
+
+pub(crate) fn last_step(layout: &Layout, series: Series) -> u32
     ensures { result ≡ specs.last_step layout.now series }
 {
     match series {
@@ -87,19 +101,19 @@ fn last_step(layout: &Layout, series: Series) -> u32
 fn last_beside(layout: &Layout) -> u32
     ensures { result ≡ specs.last_beside layout.now }
 {
-    match layout.rule {
+    match layout.rule() {
         RuleName::Rg => 1,
-        RuleName::Og => layout.edges.len() as u32,
+        RuleName::Og => layout.edge_count(),
     }
 }
 
-fn has_step(layout: &Layout, series: Series, home: HomeNo, step: u32) -> bool
+pub(crate) fn has_step(layout: &Layout, series: Series, home: HomeNo, step: u32) -> bool
     ensures { result ≡ specs.has_step layout.now series home.0 step }
 {
     match series {
         Series::Own(edge) => step == 1 && has_source(layout, edge, home),
         Series::Told(edge) => step == 1 && is_told(layout) && has_source(layout, edge, home),
-        Series::Beside(at, _) => are_apart(home_at(layout, at), home_at(layout, home))
+        Series::Beside(at, _) => are_apart(layout.home(at), layout.home(home))
             && leaves(layout, home, step),
     }
 }
@@ -107,7 +121,7 @@ fn has_step(layout: &Layout, series: Series, home: HomeNo, step: u32) -> bool
 fn has_source(layout: &Layout, edge: u32, home: HomeNo) -> bool
     ensures { result ≡ specs.has_source layout.now edge home.0 }
 {
-    match layout.edges.get(edge as usize) {
+    match layout.edge(edge) {
         Some(edge) => edge.source.0 == home.0,
         None => false,
     }
@@ -116,20 +130,10 @@ fn has_source(layout: &Layout, edge: u32, home: HomeNo) -> bool
 fn is_told(layout: &Layout) -> bool
     ensures { result ≡ specs.is_told layout.now.rule }
 {
-    match layout.rule {
+    match layout.rule() {
         RuleName::Rg => true,
         RuleName::Og => false,
     }
-}
-
-/// A home, by number from 1.
-pub(crate) fn home_at(layout: &Layout, home: HomeNo) -> Option<HomeOf>
-    ensures { result ≡ specs.home_at layout.now home.0 }
-{
-    if home.0 == 0 {
-        return None;
-    }
-    layout.homes.get(home.0 as usize - 1).copied()
 }
 
 fn is_state(kind: HomeKind) -> bool
@@ -166,8 +170,8 @@ fn is_step_home(home: Option<HomeOf>) -> bool
 fn leaves(layout: &Layout, home: HomeNo, step: u32) -> bool
     ensures { result ≡ specs.leaves layout.now.rule layout.now home.0 step }
 {
-    match layout.rule {
-        RuleName::Rg => is_step_home(home_at(layout, home)) && step == 1,
+    match layout.rule() {
+        RuleName::Rg => is_step_home(layout.home(home)) && step == 1,
         RuleName::Og => leaves_by_edge(layout, home, step),
     }
 }

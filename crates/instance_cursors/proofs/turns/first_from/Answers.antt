@@ -1,7 +1,7 @@
 use Rattle.std.proofs.Common.{ltb, rules}
 use Rattle.std.proofs.lemmas.List.Sorted.{IsPartitionPoint-from_clause, IsPartitionedBy-ltb}
 use Rattle.fact_table.specs.declared.live_fact.LiveFact.{LiveFact}
-use Rattle.instance_cursors.proofs.Heads.{ids_rise}
+use Rattle.instance_cursors.proofs.HeadSearch.{ids_rise}
 use Rattle.instance_cursors.proofs.turns.first_from.Goals as goal
 
 pub returns-clause-first : goal.returns-clause-first

@@ -1,6 +1,0 @@
-use Rattle.std.proofs.Common.{◌≡◌, ◌++◌, take, drop, map}
-use Rattle.instance_cursors.specs.Cursors.{start_back}
-use Rattle.instance_cursors.proofs.cursors.starts_back.Given as goal
-
-abbrev pub invariant-loop-start : goal.invariant-loop-start
-invariant-loop-start l = l.starts ≡ map (start_back l.homes) (take l.start-index l.fn.starts) ++ drop l.start-index l.fn.starts
