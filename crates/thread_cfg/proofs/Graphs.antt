@@ -1,5 +1,5 @@
 -- The program of a text has the same steps as the text, and fails where it fails.
-use Rattle.std.proofs.Common.{◌≡◌, ◌↔◌, ℕ, zero, suc, ◌+◌, ◌-◌, ◌≤◌, nat_lt, Bool, true, false, List, [], ◌∷◌, ◌++◌, length, map, take, flat_map, Some, Ok, inl, inr, refl, sym, ap, subst, arith, length-append, append_assoc, ltb-false, ◌∙◌}
+use Rattle.std.proofs.Common.{◌≡◌, ◌↔◌, ℕ, zero, suc, ◌+◌, ◌-◌, ◌≤◌, nat_lt, ℤ, Bool, true, false, List, [], ◌∷◌, ◌++◌, length, map, take, flat_map, Some, Ok, inl, inr, refl, sym, ap, subst, arith, length-append, append_assoc, ltb-false, ◌∙◌}
 use Rattle.std.specs.Prelude.{Contains}
 use Rattle.std.specs.List.{AllByRecursion}
 use Rattle.std.proofs.lemmas.List.{length-map}
@@ -13,20 +13,23 @@ use Rattle.c_check.specs.Check.{IsPlanOf}
 use Rattle.c_check.specs.Columns.{columns_of, counters_from, own_columns_from, own_count, owns_of, shared_columns, threads_from}
 use Rattle.c_check.specs.WellFormed.{IsWellFormedPlan}
 use Rattle.transition_formula.specs.Program.{Edge, IsEdgeOf, IsProgram, Thread, at_number}
+use Rattle.transition_formula.specs.Run.{Fails, IsRun, Run}
 use Rattle.thread_cfg.specs.Threads.{Running, threads_running}
-use Rattle.thread_cfg.specs.Graph.{actions_of, edges_from, locations_of, program_column, program_of, refusals_from, refusals_of, thread_graph, thread_refusals}
+use Rattle.thread_cfg.specs.Graph.{actions_of, edges_from, locations_of, program_of, refusals_from, refusals_of, thread_graph, thread_refusals}
 use Rattle.thread_cfg.specs.SameSteps.{SameSteps}
 use Rattle.thread_cfg.specs.Action.{Action, Alternative}
 use Rattle.thread_cfg.specs.Edge.{alternative_edge}
 use Rattle.thread_cfg.specs.EdgeLaws.{IsEdgeOfAction}
-use Rattle.thread_cfg.specs.Interleaving.{ProgramFails, TextFails, ThreadFails, ThreadReachesFailure, value_columns}
-use Rattle.thread_cfg.specs.Telling.{StatesTellConfigurations}
+use Rattle.thread_cfg.specs.Columns.{program_column, value_columns}
+use Rattle.thread_cfg.specs.Interleaving.{TextFails, ThreadFails, ThreadReachesFailure}
+use Rattle.thread_cfg.specs.Telling.{RunsTellInterleavings}
 use Rattle.thread_cfg.specs.Within.{EventsWithin}
 use Rattle.thread_cfg.proofs.Edges.{edge-from}
 use Rattle.thread_cfg.proofs.Numbered.{Has, cons-empty, edge-at, empty-behind, empty-front, none-some, number-has, some-same}
 use Rattle.thread_cfg.proofs.RunningThreads.{actions-within, running-is, threads-running}
 use Rattle.thread_cfg.proofs.Sameness.{IsGraphOf, same-steps}
-use Rattle.thread_cfg.proofs.Interleavings.{IsKnown, all-has, fails-alike, states-tell, threads-fail-alike}
+use Rattle.thread_cfg.proofs.Interleavings.{IsKnown, all-has}
+use Rattle.thread_cfg.proofs.Alike.{fails-alike, runs-tell, threads-fail-alike}
 
 -- ---- lists
 
@@ -161,16 +164,16 @@ module _ (tree : plain.Tree) (plan : Plan) (is : IsPlanOf tree plan) (well : IsW
   }
 
   -- and it fails where the text does
-  pub programs-fail-alike : IsProgram (program_of tree) → ProgramFails (program_of tree) ↔ TextFails tree
+  pub programs-fail-alike : IsProgram (program_of tree) → ((run : Run) × (last : List ℤ) × IsRun (program_of tree) run last × Fails (program_of tree) run) ↔ TextFails tree
   programs-fail-alike program = fails-alike tree (program_of tree) (known program)
 
   -- thread by thread
   pub programs-threads-fail-alike : IsProgram (program_of tree) → (i : ℕ) → ThreadReachesFailure (program_of tree) i ↔ ThreadFails tree i
   programs-threads-fail-alike program i = threads-fail-alike tree (program_of tree) (known program) i
 
-  -- its states tell what interleavings come to
-  pub programs-states-tell : IsProgram (program_of tree) → StatesTellConfigurations tree (program_of tree)
-  programs-states-tell program = states-tell tree (program_of tree) (known program)
+  -- its runs go step by step as interleavings do
+  pub programs-runs-tell : IsProgram (program_of tree) → RunsTellInterleavings tree (program_of tree)
+  programs-runs-tell program = runs-tell tree (program_of tree) (known program)
 
   -- each of its edges is that of a way on
   pub edge-of-action : (i e : ℕ) (thread : Thread) (edge : Edge) → IsEdgeOf (program_of tree) i e thread edge → IsEdgeOfAction tree i thread edge

@@ -1,4 +1,4 @@
--- Runs of a program that has the same steps as a text fail where interleavings of the text do.
+-- A program that has the same steps as a text: each step of the one, from a state that tells a configuration, is a step of the other from there.
 use Rattle.std.proofs.Common.{◌≡◌, Bool, true, false, ◌==◌, ◌↔◌, ℕ, zero, suc, ◌+◌, ◌-◌, ◌<◌, ◌≤◌, ℤ, pos, List, [], ◌∷◌, ◌++◌, length, map, Option, Some, None, option_map, inl, inr, refl, sym, ap, subst, arith, slice_get, slice_set, length-append, ◌∙◌}
 use Rattle.std.proofs.lemmas.List.{length-map}
 use Rattle.std.proofs.lemmas.Bool.Decides.{Decides-eqb, not_from_Decides}
@@ -13,11 +13,10 @@ use Rattle.transition_formula.specs.Step.{IsInitial, Steps, after_step, after_se
 use Rattle.transition_formula.specs.Run.{Leads, Reaches, RunStep}
 use Rattle.thread_cfg.specs.Source.{DoesFirst, Frame, SourceSteps, Standing, read_as}
 use Rattle.thread_cfg.specs.Threads.{Running, threads_running}
-use Rattle.thread_cfg.specs.Graph.{program_column}
+use Rattle.thread_cfg.specs.Columns.{program_column, value_columns}
 use Rattle.thread_cfg.specs.SameSteps.{HasSameSteps, SameSteps, standing_as, state_of}
-use Rattle.thread_cfg.specs.Interleaving.{ComesTo, Configuration, Interleaves, MayStartAll, ProgramFails, TextFails, ThreadFails, ThreadReachesFailure, value_columns}
-use Rattle.thread_cfg.specs.Telling.{IsReached, IsTold, StatesTellConfigurations, StepsBy, Tells}
-use Rattle.transition_formula.proofs.Runs.{failing-runs, failing-states, runs-end}
+use Rattle.thread_cfg.specs.Interleaving.{Configuration, Interleaves, SourceStep}
+use Rattle.thread_cfg.specs.Telling.{StepsBy, Tells}
 use Rattle.thread_cfg.proofs.Entries.{read-branch}
 use Rattle.thread_cfg.proofs.Fronts.{counter-get, get-all, get-below, length-slice_set, numbered-get, numbered-same, numbered-set, pos-same}
 use Rattle.thread_cfg.proofs.Starts.{get-ones, initial-starts, length-counters, length-ones, ones, start-length, starts-initial}
@@ -56,7 +55,7 @@ as-steps : (frame : Frame) (values after : List ℤ) (standing next : Standing) 
 as-steps frame values after Standing.Failed next h = h
 as-steps frame values after (Standing.Doing is) next h = subst (λ x. DoesFirst frame values x after next) (read-read is) h
 
-failed-as : (standing : Standing) → standing_as standing ≡ Standing.Failed → standing ≡ Standing.Failed
+pub failed-as : (standing : Standing) → standing_as standing ≡ Standing.Failed → standing ≡ Standing.Failed
 failed-as Standing.Failed e = refl
 failed-as (Standing.Doing is) e = absurd (subst (λ s. elim s as (λ _. Type 0) [ Standing.Doing y ↦ Unit {0} | Standing.Failed ↦ ⊥ ]) e tt)
 
@@ -78,10 +77,10 @@ module _ (tree : plain.Tree) (program : Program) (known : IsKnown tree program) 
   lefts_of i (Some t) e = (known.same.steps_are i t e).left
 
   -- what is left at the locations of the i-th thread
-  left_at : ℕ → ℕ → Option Standing
+  pub left_at : ℕ → ℕ → Option Standing
   left_at i = lefts_of i (at_number (threads_running tree) i) refl
 
-  same-at : (i : ℕ) (t : Running) → at_number (threads_running tree) i ≡ Some t → StepsBy tree program (left_at i) t
+  pub same-at : (i : ℕ) (t : Running) → at_number (threads_running tree) i ≡ Some t → StepsBy tree program (left_at i) t
   unfolding left_at lefts_of
   same-at i t e = let h = by (at_number (threads_running tree) i) refl e in record { steps = h.0; left_is = h.1 }
     where
@@ -94,7 +93,7 @@ module _ (tree : plain.Tree) (program : Program) (known : IsKnown tree program) 
 
   -- ---- states that tell configurations
 
-  abbrev Shows : Configuration → List ℤ → Type 0
+  abbrev pub Shows : Configuration → List ℤ → Type 0
   Shows = Tells tree left_at
 
   tells-next : (c : Configuration) (before : List ℤ) (t : Shows c before) (i to : ℕ) (next : Standing) (values : List ℤ) → 1 ≤ i → i ≤ k → length values ≡ n
@@ -122,7 +121,7 @@ module _ (tree : plain.Tree) (program : Program) (known : IsKnown tree program) 
           t.stand j l st (numbered-set t.locations i j to l some differ at) (numbered-set c.standings i j next st some differ stands)
 
   -- the counter of the i-th thread
-  counter-is : (i : ℕ) (thread : Thread) → IsThreadOf program i thread → (thread.counter ≡ n + (i - 1)) × (1 ≤ i) × (i ≤ k)
+  pub counter-is : (i : ℕ) (thread : Thread) → IsThreadOf program i thread → (thread.counter ≡ n + (i - 1)) × (1 ≤ i) × (i ≤ k)
   counter-is i thread e =
       let is = known.is_program.threads_are i thread e in
       let at = numbered-get program.threads i thread e in
@@ -135,10 +134,12 @@ module _ (tree : plain.Tree) (program : Program) (known : IsKnown tree program) 
 
   -- ---- a step of the program is one of the text
 
-  record StepsOn (c : Configuration) (after : List ℤ) : Type 0 where
-    next : Configuration
-    interleaves : Interleaves tree c next
-    tells : Shows next after
+  pub record StepsOn (c : Configuration) (taken : RunStep) (after : List ℤ) : Type 0 where
+    pub done : SourceStep
+    pub same_thread : taken.thread ≡ done.thread
+    pub next : Configuration
+    pub interleaves : Interleaves tree done c next
+    pub tells : Shows next after
 
   after-length : (thread : Thread) (edge : Edge) (before inputs : List ℤ) → length (after_step thread edge before inputs) ≡ length before
   after-length thread edge before inputs =
@@ -151,7 +152,7 @@ module _ (tree : plain.Tree) (program : Program) (known : IsKnown tree program) 
   values-length : (values counters : List ℤ) (m : ℕ) → length (values ++ counters) ≡ m + length counters → length values ≡ m
   values-length values counters m e = let a = length-append values counters in omega (arith, a, e)
 
-  program-steps : (c : Configuration) (taken : RunStep) (before after : List ℤ) → Shows c before → Leads program taken before after → StepsOn c after
+  pub program-steps : (c : Configuration) (taken : RunStep) (before after : List ℤ) → Shows c before → Leads program taken before after → StepsOn c taken after
   program-steps c taken before after t leads = go (get-all (threads_running tree) i (counter.1) counter.2) (get-all t.locations i counter.1 (omega (arith, counter.2, t.locations_length)))
       (get-all c.standings i counter.1 (omega (arith, counter.2, t.standings_length)))
     where
@@ -162,7 +163,7 @@ module _ (tree : plain.Tree) (program : Program) (known : IsKnown tree program) 
       counter = counter-is i leads.of_thread leads.edge_is.thread_is
 
       go : (running : (x : Running) × (at_number (threads_running tree) i ≡ Some x)) (at : (x : ℕ) × (at_number t.locations i ≡ Some x))
-          (stands : (x : Standing) × (at_number c.standings i ≡ Some x)) → StepsOn c after
+          (stands : (x : Standing) × (at_number c.standings i ≡ Some x)) → StepsOn c taken after
       go running at stands =
           let thread_no : running.0.frame.thread ≡ i = known.same.numbered_so i running.0 running.1 in
           let alike = same-at i running.0 running.1 in
@@ -183,12 +184,12 @@ module _ (tree : plain.Tree) (program : Program) (known : IsKnown tree program) 
           values-length s.after (map pos (slice_set t.locations (i - 1) s.to)) n
           (ap length (sym state_is) ∙ ap length leads.steps.leads ∙ after-length leads.of_thread leads.by_edge before taken.inputs ∙ ap length t.state_is ∙ state-length c.values t.locations s.to t.values_length) in
           record {
+            done = record { thread = i; values = s.after; standing = s.next };
+            same_thread = refl;
             next = record { values = s.after; standings = slice_set c.standings (i - 1) s.next };
             interleaves = record {
-              i = i;
               running = running.0;
               standing = stands.0;
-              next = s.next;
               thread_is = running.1;
               stands = stands.1;
               steps = as-steps running.0.frame c.values s.after stands.0 s.next (subst (λ x. SourceSteps running.0.frame c.values x s.after s.next) standing_is s.steps);
@@ -207,57 +208,59 @@ module _ (tree : plain.Tree) (program : Program) (known : IsKnown tree program) 
 
   -- ---- a step of the text is one of the program
 
-  record IsStep (before : List ℤ) (c : Configuration) : Type 0 where
-    taken : RunStep
-    after : List ℤ
-    leads : Leads program taken before after
-    tells : Shows c after
+  pub record IsStep (before : List ℤ) (done : SourceStep) (c : Configuration) : Type 0 where
+    pub taken : RunStep
+    pub same_thread : taken.thread ≡ done.thread
+    pub after : List ℤ
+    pub leads : Leads program taken before after
+    pub tells : Shows c after
 
-  text-steps : (c next : Configuration) (before : List ℤ) → Shows c before → Interleaves tree c next → IsStep before next
-  text-steps c next before t s =
-      go (get-all t.locations s.i at.0 (omega (arith, below, at.0, t.standings_length, t.locations_length)))
+  pub text-steps : (c next : Configuration) (done : SourceStep) (before : List ℤ) → Shows c before → Interleaves tree done c next → IsStep before done next
+  text-steps c next done before t s =
+      go (get-all t.locations done.thread at.0 (omega (arith, below, at.0, t.standings_length, t.locations_length)))
     where
-      at : (1 ≤ s.i) × (slice_get c.standings (s.i - 1) ≡ Some s.standing)
-      at = numbered-get c.standings s.i s.standing s.stands
+      at : (1 ≤ done.thread) × (slice_get c.standings (done.thread - 1) ≡ Some s.standing)
+      at = numbered-get c.standings done.thread s.standing s.stands
 
-      below : s.i - 1 < length c.standings
-      below = get-below c.standings (s.i - 1) s.standing at.1
+      below : done.thread - 1 < length c.standings
+      below = get-below c.standings (done.thread - 1) s.standing at.1
 
-      go : (l : (x : ℕ) × (at_number t.locations s.i ≡ Some x)) → IsStep before next
+      go : (l : (x : ℕ) × (at_number t.locations done.thread ≡ Some x)) → IsStep before done next
       go l =
-          let thread_no : s.running.frame.thread ≡ s.i = known.same.numbered_so s.i s.running s.thread_is in
-          let alike = same-at s.i s.running s.thread_is in
-          let r = alike.steps.by_edges c.values t.locations l.0 (standing_as s.standing) next.values s.next t.values_length t.locations_length
+          let thread_no : s.running.frame.thread ≡ done.thread = known.same.numbered_so done.thread s.running s.thread_is in
+          let alike = same-at done.thread s.running s.thread_is in
+          let r = alike.steps.by_edges c.values t.locations l.0 (standing_as s.standing) done.values done.standing t.values_length t.locations_length
           (subst (λ m. at_number t.locations m ≡ Some l.0) (sym thread_no) l.1)
-          (subst (λ x. x l.0 ≡ Some (standing_as s.standing)) (sym alike.left_is) (t.stand s.i l.0 s.standing l.1 s.stands))
-          (steps-as s.running.frame c.values next.values s.standing s.next s.steps) in
+          (subst (λ x. x l.0 ≡ Some (standing_as s.standing)) (sym alike.left_is) (t.stand done.thread l.0 s.standing l.1 s.stands))
+          (steps-as s.running.frame c.values done.values s.standing done.standing s.steps) in
           let e = r.2 in
-          let lands : left_at s.i r.0 ≡ Some (standing_as s.next) = subst (λ x. x r.0 ≡ Some (standing_as s.next)) alike.left_is r.1 in
-          let steps : Steps e.thread e.edge before e.inputs (state_of next.values (slice_set t.locations (s.i - 1) r.0)) =
-          subst (λ x. Steps e.thread e.edge x e.inputs (state_of next.values (slice_set t.locations (s.i - 1) r.0))) (sym t.state_is)
-          (subst (λ m. Steps e.thread e.edge (state_of c.values t.locations) e.inputs (state_of next.values (slice_set t.locations (m - 1) r.0))) thread_no e.steps) in
-          let values_are : length next.values ≡ n =
-          values-length next.values (map pos (slice_set t.locations (s.i - 1) r.0)) n
+          let lands : left_at done.thread r.0 ≡ Some (standing_as done.standing) = subst (λ x. x r.0 ≡ Some (standing_as done.standing)) alike.left_is r.1 in
+          let steps : Steps e.thread e.edge before e.inputs (state_of done.values (slice_set t.locations (done.thread - 1) r.0)) =
+          subst (λ x. Steps e.thread e.edge x e.inputs (state_of done.values (slice_set t.locations (done.thread - 1) r.0))) (sym t.state_is)
+          (subst (λ m. Steps e.thread e.edge (state_of c.values t.locations) e.inputs (state_of done.values (slice_set t.locations (m - 1) r.0))) thread_no e.steps) in
+          let values_are : length done.values ≡ n =
+          values-length done.values (map pos (slice_set t.locations (done.thread - 1) r.0)) n
           (ap length steps.leads ∙ after-length e.thread e.edge before e.inputs ∙ ap length t.state_is ∙ state-length r.0) in
           record {
-            taken = record { thread = s.i; edge = e.e; inputs = e.inputs };
-            after = state_of next.values (slice_set t.locations (s.i - 1) r.0);
+            taken = record { thread = done.thread; edge = e.e; inputs = e.inputs };
+            same_thread = refl;
+            after = state_of done.values (slice_set t.locations (done.thread - 1) r.0);
             leads = record {
               of_thread = e.thread;
               by_edge = e.edge;
               edge_is = subst (λ m. IsEdgeOf program m e.e e.thread e.edge) thread_no e.edge_is;
               steps = steps;
             };
-            tells = subst (λ ss. Shows (record { values = next.values; standings = ss }) (state_of next.values (slice_set t.locations (s.i - 1) r.0))) (sym s.leads)
-                (tells-next c before t s.i r.0 s.next next.values at.0 (omega (arith, below, at.0, t.standings_length)) values_are lands);
+            tells = subst (λ x. Shows x (state_of done.values (slice_set t.locations (done.thread - 1) r.0))) (sym s.leads)
+                (tells-next c before t done.thread r.0 done.standing done.values at.0 (omega (arith, below, at.0, t.standings_length)) values_are lands);
           }
         where
-          state-length : (to : ℕ) → length (state_of c.values t.locations) ≡ n + length (map pos (slice_set t.locations (s.i - 1) to))
+          state-length : (to : ℕ) → length (state_of c.values t.locations) ≡ n + length (map pos (slice_set t.locations (done.thread - 1) to))
           state-length to =
               let a = length-append c.values (map pos t.locations) in
               let b = length-map t.locations pos in
-              let d = length-map (slice_set t.locations (s.i - 1) to) pos in
-              let f = length-slice_set t.locations (s.i - 1) to in omega (arith, a, b, d, f, t.values_length)
+              let d = length-map (slice_set t.locations (done.thread - 1) to) pos in
+              let f = length-slice_set t.locations (done.thread - 1) to in omega (arith, a, b, d, f, t.values_length)
 
   -- ---- starts
 
@@ -269,7 +272,7 @@ module _ (tree : plain.Tree) (program : Program) (known : IsKnown tree program) 
   mapped-get (t ∷ ts) (suc (suc i)) st e = mapped-get ts (suc i) st e
 
   -- the configuration at the start that has these values
-  start_with : List ℤ → Configuration
+  unfoldable pub start_with : List ℤ → Configuration
   start_with values = record { values = values; standings = map (λ (t : Running). Standing.Doing (function_items t.function)) (threads_running tree) }
 
   value-count : length (value_columns tree) ≡ n
@@ -278,7 +281,7 @@ module _ (tree : plain.Tree) (program : Program) (known : IsKnown tree program) 
       let b = length-append (value_columns tree) (counters_from 1 (created_of tree)) in
       let d = length-counters 1 (created_of tree) in omega (arith, a, b, d, known.created_are)
 
-  start-tells : (values : List ℤ) → MayStartAll (value_columns tree) values → Shows (start_with values) (values ++ map pos (ones (created_of tree)))
+  pub start-tells : (values : List ℤ) → IsInitial (map program_column (value_columns tree)) values → Shows (start_with values) (values ++ map pos (ones (created_of tree)))
   unfolding start_with
   start-tells values h = record {
     locations = ones (created_of tree);
@@ -298,153 +301,7 @@ module _ (tree : plain.Tree) (program : Program) (known : IsKnown tree program) 
           subst (λ x. left_at i x ≡ Some (standing_as st)) (sym one)
           (subst (λ s. left_at i 1 ≡ Some (standing_as s)) (sym m.2) (subst (λ f. f 1 ≡ Some (Standing.Doing (read_as (function_items m.0.function)))) alike.left_is alike.steps.begins))
 
-  initial-columns : (state : List ℤ) → IsInitial program.columns state ↔ IsInitial (map program_column (value_columns tree ++ counters_from 1 (created_of tree))) state
+  pub initial-columns : (state : List ℤ) → IsInitial program.columns state ↔ IsInitial (map program_column (value_columns tree ++ counters_from 1 (created_of tree))) state
   initial-columns state =
       let e : program.columns ≡ map program_column (value_columns tree ++ counters_from 1 (created_of tree)) = known.columns_are ∙ ap (map program_column) known.counters_are in
       (λ h. subst (λ cs. IsInitial cs state) e h, λ h. subst (λ cs. IsInitial cs state) (sym e) h)
-
-  -- ---- whatever is come to
-
-  reaches-comes : (state : List ℤ) → Reaches program state → IsTold tree left_at state
-  unfolding start_with
-  reaches-comes state (Reaches.start s h) =
-      let starts = initial-starts (value_columns tree) 1 (created_of tree) state ((initial-columns state).0 h) in
-      record {
-        configuration = start_with starts.values;
-        comes = ComesTo.start (start_with starts.values) (record { values_start = starts.may_start; standings_are = refl });
-        tells = subst (Shows (start_with starts.values)) (sym starts.state_is) (start-tells starts.values starts.may_start);
-      }
-  reaches-comes state (Reaches.step taken before after r leads) =
-      let told = reaches-comes before r in
-      let on = program-steps told.configuration taken before state told.tells leads in
-      record { configuration = on.next; comes = ComesTo.step told.configuration on.next told.comes on.interleaves; tells = on.tells }
-
-  comes-reaches : (c : Configuration) → ComesTo tree c → IsReached tree program left_at c
-  unfolding start_with
-  comes-reaches c (ComesTo.start d s) =
-      record {
-        state = c.values ++ map pos (ones (created_of tree));
-        reaches = Reaches.start (c.values ++ map pos (ones (created_of tree)))
-            ((initial-columns (c.values ++ map pos (ones (created_of tree)))).1 (starts-initial (value_columns tree) 1 (created_of tree) c.values s.values_start));
-        tells = subst (λ ss. Shows (record { values = c.values; standings = ss }) (c.values ++ map pos (ones (created_of tree)))) (sym s.standings_are) (start-tells c.values s.values_start);
-      }
-  comes-reaches c (ComesTo.step before after r s) =
-      let reached = comes-reaches before r in
-      let by = text-steps before c reached.state reached.tells s in
-      record { state = by.after; reaches = Reaches.step by.taken reached.state by.after reached.reaches by.leads; tells = by.tells }
-
-  -- ---- failing
-
-  -- a thread is at location 0 exactly where it has failed
-  failed-at-zero : (c : Configuration) (state : List ℤ) (t : Shows c state) (i l : ℕ) → at_number t.locations i ≡ Some l
-      → (l ≡ 0) ↔ (at_number c.standings i ≡ Some Standing.Failed)
-  failed-at-zero c state t i l at = (to_failed, to_zero)
-    where
-      place : (1 ≤ i) × (slice_get t.locations (i - 1) ≡ Some l)
-      place = numbered-get t.locations i l at
-
-      below : i - 1 < length t.locations
-      below = get-below t.locations (i - 1) l place.1
-
-      running : (x : Running) × (at_number (threads_running tree) i ≡ Some x)
-      running = get-all (threads_running tree) i place.0 (omega (arith, below, place.0, t.locations_length))
-
-      stands : (x : Standing) × (at_number c.standings i ≡ Some x)
-      stands = get-all c.standings i place.0 (omega (arith, below, place.0, t.locations_length, t.standings_length))
-
-      alike : StepsBy tree program (left_at i) running.0
-      alike = same-at i running.0 running.1
-
-      to_failed : l ≡ 0 → at_number c.standings i ≡ Some Standing.Failed
-      to_failed zero_is =
-          let left_is : left_at i 0 ≡ Some (standing_as stands.0) = subst (λ m. left_at i m ≡ Some (standing_as stands.0)) zero_is (t.stand i l stands.0 at stands.1) in
-          let failed : standing_as stands.0 ≡ Standing.Failed =
-          some-same (standing_as stands.0) Standing.Failed (sym left_is ∙ subst (λ f. f 0 ≡ Some Standing.Failed) alike.left_is alike.steps.fails) in
-          stands.1 ∙ ap Some (failed-as stands.0 failed)
-
-      to_zero : at_number c.standings i ≡ Some Standing.Failed → l ≡ 0
-      to_zero failed = alike.steps.fails_alone l (subst (λ x. x l ≡ Some Standing.Failed) (sym alike.left_is) (t.stand i l Standing.Failed at failed))
-
-  -- the counter of a thread has its location
-  counter-holds : (c : Configuration) (state : List ℤ) (t : Shows c state) (i l : ℕ) (thread : Thread) → IsThreadOf program i thread
-      → at_number t.locations i ≡ Some l → slice_get state thread.counter ≡ Some (pos l)
-  counter-holds c state t i l thread thread_is at =
-      let counter = counter-is i thread thread_is in
-      let place : length c.values + (i - 1) ≡ thread.counter = omega (arith, counter.0, t.values_length) in
-      subst (λ x. slice_get x thread.counter ≡ Some (pos l)) (sym t.state_is)
-      (subst (λ m. slice_get (state_of c.values t.locations) m ≡ Some (pos l)) place
-      (counter-get c.values t.locations (i - 1) ∙ ap (option_map pos) (numbered-get t.locations i l at).1))
-
-  -- where a run brings a thread to location 0, an interleaving makes it fail
-  at-zero : (state : List ℤ) → Reaches program state → (i : ℕ) (thread : Thread) → IsThreadOf program i thread → slice_get state thread.counter ≡ Some (pos 0)
-      → ThreadFails tree i
-  at-zero state reached i thread thread_is fails =
-      let told = reaches-comes state reached in
-      let counter = counter-is i thread thread_is in
-      let l = get-all told.tells.locations i counter.1 (omega (arith, counter.2, told.tells.locations_length)) in
-      let holds = counter-holds told.configuration state told.tells i l.0 thread thread_is l.1 in
-      let zero_is : l.0 ≡ 0 = pos-same l.0 0 (some-same (pos l.0) (pos 0) (sym holds ∙ fails)) in
-      record { configuration = told.configuration; comes = told.comes; failed = (failed-at-zero told.configuration state told.tells i l.0 l.1).0 zero_is }
-
-  -- A run comes to a state in which the i-th thread is at location 0.
-  record ComesToZero (i : ℕ) : Type 0 where
-    state : List ℤ
-    reaches : Reaches program state
-    thread : Thread
-    thread_is : IsThreadOf program i thread
-    fails : slice_get state thread.counter ≡ Some (pos 0)
-
-  -- where an interleaving makes a thread fail, a run brings it to location 0
-  zero-at : (i : ℕ) → ThreadFails tree i → ComesToZero i
-  zero-at i f =
-      let r = comes-reaches f.configuration f.comes in
-      let t = r.tells in
-      let at = numbered-get f.configuration.standings i Standing.Failed f.failed in
-      let below = get-below f.configuration.standings (i - 1) Standing.Failed at.1 in
-      let running = get-all (threads_running tree) i at.0 (omega (arith, below, at.0, t.standings_length)) in
-      let l = get-all t.locations i at.0 (omega (arith, below, at.0, t.standings_length, t.locations_length)) in
-      let alike = same-at i running.0 running.1 in
-      let zero_is : l.0 ≡ 0 = (failed-at-zero f.configuration r.state t i l.0 l.1).1 f.failed in
-      let thread_is : IsThreadOf program i alike.steps.thread =
-      subst (λ m. at_number program.threads m ≡ Some alike.steps.thread) (known.same.numbered_so i running.0 running.1) alike.steps.thread_is in
-      record {
-        state = r.state;
-        reaches = r.reaches;
-        thread = alike.steps.thread;
-        thread_is = thread_is;
-        fails = subst (λ m. slice_get r.state alike.steps.thread.counter ≡ Some (pos m)) zero_is (counter-holds f.configuration r.state t i l.0 alike.steps.thread thread_is l.1);
-      }
-
-  -- a run of the program brings a thread to location 0 exactly where an interleaving of the text makes it fail
-  pub threads-fail-alike : (i : ℕ) → ThreadReachesFailure program i ↔ ThreadFails tree i
-  threads-fail-alike i = (λ f. at-zero f.last ((runs-end program f.last).1 (f.run, f.is_run)) i f.thread f.thread_is f.fails, λ f. ends (zero-at i f))
-    where
-      ends : ComesToZero i → ThreadReachesFailure program i
-      ends z =
-          let run = (runs-end program z.state).0 z.reaches in
-          record { run = run.0; last = z.state; is_run = run.1; thread = z.thread; thread_is = z.thread_is; fails = z.fails }
-
-  -- a run of the program fails exactly where an interleaving of the text does
-  pub fails-alike : ProgramFails program ↔ TextFails tree
-  fails-alike = (to_text, to_program)
-    where
-      to_text : ProgramFails program → TextFails tree
-      to_text f =
-          let s = failing-runs program f.run f.last f.is_run f.fails in
-          let t = at-zero s.0 s.1 s.2.i s.2.thread s.2.thread_is s.2.fails in
-          record { configuration = t.configuration; comes = t.comes; fails = record { i = s.2.i; failed = t.failed } }
-
-      to_program : TextFails tree → ProgramFails program
-      to_program f =
-          let z = zero-at f.fails.i (record { configuration = f.configuration; comes = f.comes; failed = f.fails.failed }) in
-          let run = (runs-end program z.state).0 z.reaches in
-          record {
-            run = run.0;
-            last = z.state;
-            is_run = run.1;
-            fails = failing-states program run.0 z.state run.1 (record { i = f.fails.i; thread = z.thread; thread_is = z.thread_is; fails = z.fails });
-          }
-
-  -- each state that a run comes to tells what an interleaving comes to, and the other way round
-  pub states-tell : StatesTellConfigurations tree program
-  states-tell = record { left = left_at; steps = same-at; told = reaches-comes; reached = comes-reaches; failed = failed-at-zero }

@@ -16,6 +16,7 @@ pub mod Fronts
 pub mod Sameness
 pub mod Starts
 pub mod Interleavings
+pub mod Alike
 pub mod WorkedWords
 pub mod WorkedTests
 pub mod WorkedGraphs

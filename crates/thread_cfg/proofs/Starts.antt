@@ -3,8 +3,7 @@ use Rattle.std.proofs.Common.{◌≡◌, ℕ, zero, suc, ◌+◌, ℤ, pos, List
 use Rattle.c_check.specs.declared.plan.Column as stored
 use Rattle.c_check.specs.Columns.{counters_from}
 use Rattle.transition_formula.specs.Step.{IsInitial}
-use Rattle.thread_cfg.specs.Graph.{program_column}
-use Rattle.thread_cfg.specs.Interleaving.{MayStartAll}
+use Rattle.thread_cfg.specs.Columns.{program_column}
 use Rattle.thread_cfg.proofs.Numbered.{none-some, some-same}
 
 -- ---- starts
@@ -35,7 +34,7 @@ start-counters i (n ∷ ns) = (refl, start-counters (i + 1) ns)
 -- The state has values that the variables may start with, and each thread at location 1.
 pub record StartsAs (front : List stored.Column) (created : List ℕ) (state : List ℤ) : Type 0 where
   pub values : List ℤ
-  pub may_start : MayStartAll front values
+  pub may_start : IsInitial (map program_column front) values
   pub state_is : state ≡ values ++ map pos (ones created)
 
 pub initial-starts : (front : List stored.Column) (i : ℕ) (created : List ℕ) (state : List ℤ) → IsInitial (map program_column (front ++ counters_from i created)) state → StartsAs front created state
@@ -45,13 +44,13 @@ initial-starts (c ∷ front) i created (v ∷ state) h =
     let more = initial-starts front i created state h.1 in
     record { values = v ∷ more.values; may_start = (h.0, more.may_start); state_is = ap (λ l. v ∷ l) more.state_is }
 
-pub starts-initial : (front : List stored.Column) (i : ℕ) (created : List ℕ) (values : List ℤ) → MayStartAll front values → IsInitial (map program_column (front ++ counters_from i created)) (values ++ map pos (ones created))
+pub starts-initial : (front : List stored.Column) (i : ℕ) (created : List ℕ) (values : List ℤ) → IsInitial (map program_column front) values → IsInitial (map program_column (front ++ counters_from i created)) (values ++ map pos (ones created))
 starts-initial [] i created [] h = start-counters i created
 starts-initial [] i created (v ∷ values) h = absurd h
 starts-initial (c ∷ front) i created [] h = absurd h
 starts-initial (c ∷ front) i created (v ∷ values) h = (h.0, starts-initial front i created values h.1)
 
-pub start-length : (front : List stored.Column) (values : List ℤ) → MayStartAll front values → length values ≡ length front
+pub start-length : (front : List stored.Column) (values : List ℤ) → IsInitial (map program_column front) values → length values ≡ length front
 start-length [] [] h = refl
 start-length [] (v ∷ values) h = absurd h
 start-length (c ∷ front) [] h = absurd h

@@ -1,5 +1,5 @@
 -- The program of a text steps as the text does, and fails where it fails.
-use Rattle.std.proofs.Common.{ℕ, List, map, refl, sym, subst, ◌↔◌}
+use Rattle.std.proofs.Common.{ℕ, ℤ, List, map, refl, sym, subst, ◌↔◌}
 use Rattle.c_tree.specs.declared.item.Tree.{Tree}
 use Rattle.c_tree.specs.Seen.{plain_tree}
 use Rattle.c_check.specs.declared.plan.Plan.{Plan}
@@ -7,14 +7,15 @@ use Rattle.c_check.specs.Program.{functions_of}
 use Rattle.c_check.specs.Check.{stored_function}
 use Rattle.c_check.specs.Columns.{columns_of, threads_of}
 use Rattle.transition_formula.specs.Program.{IsEdgeOf, IsProgram, Program}
+use Rattle.transition_formula.specs.Run.{Fails, IsRun, Run}
 use Rattle.thread_cfg.specs.Graph.{program_of}
 use Rattle.thread_cfg.specs.SameSteps.{SameSteps}
-use Rattle.thread_cfg.specs.Interleaving.{ProgramFails, TextFails, ThreadFails, ThreadReachesFailure}
-use Rattle.thread_cfg.specs.Telling.{StatesTellConfigurations}
-use Rattle.thread_cfg.specs.Laws.{EdgesAreOfActions, ProgramsStepAlike, ReachedStatesTellInterleavings, TextsFailAlike, ThreadsFailAlike}
+use Rattle.thread_cfg.specs.Interleaving.{TextFails, ThreadFails, ThreadReachesFailure}
+use Rattle.thread_cfg.specs.Telling.{RunsTellInterleavings}
+use Rattle.thread_cfg.specs.Laws.{EdgesAreOfActions, ProgramsStepAlike, RunsGoAsInterleavings, TextsFailAlike, ThreadsFailAlike}
 use Rattle.thread_cfg.specs.Read.{IsProgramText}
 use Rattle.thread_cfg.specs.inside.Known.{IsKnownPlan}
-use Rattle.thread_cfg.proofs.Graphs.{edge-of-action, programs-fail-alike, programs-states-tell, programs-step-alike, programs-threads-fail-alike}
+use Rattle.thread_cfg.proofs.Graphs.{edge-of-action, programs-fail-alike, programs-runs-tell, programs-step-alike, programs-threads-fail-alike}
 use Rattle.thread_cfg.proofs.KnownText.{known-of-text}
 use Rattle.thread_cfg.proofs.ProgramIs.{program-is}
 
@@ -46,7 +47,7 @@ is-program bytes tree program is =
 pub texts-fail-alike : TextsFailAlike
 texts-fail-alike bytes tree program is =
     let k = known bytes tree program is in
-    subst (λ (p : Program). ProgramFails p ↔ TextFails (plain_tree tree)) (sym is.program_is)
+    subst (λ (p : Program). ((run : Run) × (last : List ℤ) × IsRun p run last × Fails p run) ↔ TextFails (plain_tree tree)) (sym is.program_is)
     (programs-fail-alike (plain_tree tree) (plan_of tree) k.plan_is k.well_formed is.fits (is-program bytes tree program is))
 
 pub threads-fail-alike : ThreadsFailAlike
@@ -55,11 +56,11 @@ threads-fail-alike bytes tree program i is =
     subst (λ (p : Program). ThreadReachesFailure p i ↔ ThreadFails (plain_tree tree) i) (sym is.program_is)
     (programs-threads-fail-alike (plain_tree tree) (plan_of tree) k.plan_is k.well_formed is.fits (is-program bytes tree program is) i)
 
-pub states-tell-interleavings : ReachedStatesTellInterleavings
-states-tell-interleavings bytes tree program is =
+pub runs-go-as-interleavings : RunsGoAsInterleavings
+runs-go-as-interleavings bytes tree program is =
     let k = known bytes tree program is in
-    subst (StatesTellConfigurations (plain_tree tree)) (sym is.program_is)
-    (programs-states-tell (plain_tree tree) (plan_of tree) k.plan_is k.well_formed is.fits (is-program bytes tree program is))
+    subst (RunsTellInterleavings (plain_tree tree)) (sym is.program_is)
+    (programs-runs-tell (plain_tree tree) (plan_of tree) k.plan_is k.well_formed is.fits (is-program bytes tree program is))
 
 pub edges-are-of-actions : EdgesAreOfActions
 edges-are-of-actions bytes tree program i e thread edge is at =

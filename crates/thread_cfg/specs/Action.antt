@@ -31,13 +31,16 @@ jump from to = record { from = from; alternatives = record { events = []; to = t
 
 -- ---- reads of shared variables into temporaries, where the accesses are more than one
 
+-- where the accesses are few, none
 abbrev reads_if : Bool → ℕ → List Variable → List (Variable × Variable)
 reads_if true temporary vs = []
 reads_if false temporary vs = reads temporary vs
 
+-- the reads into temporaries, the first of which has this number, in front of so many accesses
 abbrev pub reads_before : ℕ → ℕ → List Variable → List (Variable × Variable)
 reads_before temporary accesses vs = reads_if (few accesses) temporary vs
 
+-- where the accesses are few, the expression itself
 abbrev over_if : Bool → ℕ → Arithmetic → Arithmetic
 over_if true temporary a = a
 over_if false temporary a = over_temporaries temporary a
@@ -58,15 +61,19 @@ abbrev pub requiring : ℕ → List Relation → Arithmetic → Arithmetic → O
 requiring from relations a b None = []
 requiring from relations a b (Some to) = map (λ r. record { events = Event.Requires from r a b ∷ []; to = to }) relations
 
+-- a test of two numbers: what its mark asks for leads to its true side, what it denies to its false side
 abbrev pub test_action : ℕ → Mark → Arithmetic → Arithmetic → Option ℕ → Option ℕ → Action
 test_action from m a b t f = record { from = from; alternatives = requiring from (when_true m) a b t ++ requiring from (when_false m) a b f }
 
+-- how many accesses a comparison makes
 abbrev pub compare_accesses : Arithmetic → Arithmetic → ℕ
 compare_accesses a b = length (shared_in a ++ shared_in b)
 
+-- its reads into temporaries, where it makes more than one access
 abbrev pub compare_reads : ℕ → Arithmetic → Arithmetic → List (Variable × Variable)
 compare_reads temporary a b = reads_before temporary (compare_accesses a b) (shared_in a ++ shared_in b)
 
+-- its test, over the temporaries where it was read into them
 abbrev pub compare_action : ℕ → ℕ → Mark → Arithmetic → Arithmetic → Option ℕ → Option ℕ → Action
 compare_action temporary from m a b t f =
     test_action from m (over_reads temporary (compare_accesses a b) a) (over_reads (temporary + length (shared_in a)) (compare_accesses a b) b) t f
@@ -89,6 +96,7 @@ test_actions temporary at t f (Test.And u v) =
 test_actions temporary at t f (Test.Or u v) =
     test_actions temporary at t (Some (at + test_size u)) u ++ test_actions temporary (at + test_size u) t f v
 
+-- how many locations a condition has
 abbrev pub condition_size : Condition → ℕ
 condition_size (Condition.Choice from) = 1
 condition_size (Condition.Tested from t) = test_size t
@@ -97,18 +105,22 @@ condition_size (Condition.Tested from t) = test_size t
 abbrev pub choice : ℕ → ℕ → ℕ → Action
 choice from t f = record { from = from; alternatives = record { events = []; to = t } ∷ record { events = []; to = f } ∷ [] }
 
+-- the actions of a condition from this location on, with the locations of its two sides
 abbrev pub condition_actions : ℕ → ℕ → ℕ → ℕ → Condition → List Action
 condition_actions temporary at t f (Condition.Choice from) = choice from t f ∷ []
 condition_actions temporary at t f (Condition.Tested from test) = test_actions temporary at (Some t) (Some f) test
 
 -- ---- assignments
 
+-- how many accesses an assignment makes
 abbrev pub assign_accesses : Variable → Arithmetic → ℕ
 assign_accesses v e = written v (length (shared_in e))
 
+-- its reads into temporaries, where it makes more than one access
 abbrev pub assign_reads : ℕ → Variable → Arithmetic → List (Variable × Variable)
 assign_reads temporary v e = reads_before temporary (assign_accesses v e) (shared_in e)
 
+-- the actions of an assignment from this location on: its reads, and then what it sets
 abbrev pub assign_actions : ℕ → ℕ → ℕ → ℕ → ℕ → Variable → Arithmetic → List Action
 assign_actions temporary at next from place v e =
     read_actions from (assign_reads temporary v e) at
@@ -116,9 +128,11 @@ assign_actions temporary at next from place v e =
 
 -- ---- locks
 
+-- the value of a lock
 abbrev pub lock_variable : Frame → ℕ → Arithmetic
 lock_variable frame n = Arithmetic.Value (variable.Shared (lock_column frame n))
 
+-- a lock that is free is taken: it has the number of the thread then
 abbrev pub lock_action : Frame → ℕ → ℕ → ℕ → Action
 lock_action frame from lock next = record {
   from = from;
@@ -142,6 +156,7 @@ unlock_action frame from lock next = record {
 
 -- ---- atomic blocks
 
+-- where a path leads: where it fails, to location 0
 abbrev pub path_target : ℕ → Bool → ℕ
 path_target next true = 0
 path_target next false = next
@@ -150,6 +165,7 @@ path_target next false = next
 abbrev pub path_alternative : ℕ → Path → Alternative
 path_alternative next path = record { events = path.events; to = path_target next path.fails }
 
+-- an atomic block: one way on for each of its paths
 abbrev pub block_action : ℕ → Stmts → ℕ → Action
 block_action from inner next = record { from = from; alternatives = map (path_alternative next) (block_paths inner) }
 
@@ -170,6 +186,7 @@ abbrev mutual
   stmt_size (Stmt.Assume from t) = test_size t
   stmt_size (Stmt.Atomic from inner) = 1
 
+  -- how many locations statements have
   pub size : Stmts → ℕ
   size Stmts.End = 0
   size (Stmts.Then s rest) = stmt_size s + size rest
@@ -207,6 +224,7 @@ abbrev mutual
   stmt_actions around at next (Stmt.Assume from t) = test_actions around.temporary at (Some next) None t
   stmt_actions around at next (Stmt.Atomic from inner) = block_action from inner next ∷ []
 
+  -- the actions of statements from this location on, with the one that comes next
   pub actions : Around → ℕ → ℕ → Stmts → List Action
   actions around at next Stmts.End = []
   actions around at next (Stmts.Then s rest) =

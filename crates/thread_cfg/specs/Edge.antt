@@ -79,6 +79,7 @@ pub record Along : Type 0 where
 abbrev pub form_along : ℕ → ℕ → Frame → Along → Arithmetic → Option Form
 form_along width columns frame along a = option_and_then (λ form. fitting_composition width form along.forms) (form_of columns frame a)
 
+-- a relation between two expressions, worth what they are there, as a row
 abbrev pub row_along : ℕ → ℕ → Frame → Along → Relation → Arithmetic → Arithmetic → Option Row
 row_along width columns frame along r a b =
     option_and_then (λ one. option_and_then (row_by width r one) (form_along width columns frame along b)) (form_along width columns frame along a)
@@ -88,13 +89,16 @@ abbrev pub fits_or : {X : Type 0} → ℕ → Option X → Result X ℕ
 fits_or from None = Err from
 fits_or from (Some x) = Ok x
 
+-- the function of what fits, or the place of what does not
 abbrev pub on_ok : {X Y : Type 0} → (X → Result Y ℕ) → Result X ℕ → Result Y ℕ
 on_ok f (Err from) = Err from
 on_ok f (Ok x) = f x
 
+-- one more row is asked
 abbrev pub with_row : Along → Row → Along
 with_row along row = record along { rows = along.rows ++ row ∷ [] }
 
+-- the column has this form then
 abbrev pub with_form : Along → ℕ → Form → Along
 with_form along c form = record along { forms = slice_set along.forms c form }
 
@@ -103,6 +107,7 @@ abbrev pub with_input : ℕ → ℕ → Along → ℕ → Along
 with_input width columns along c =
     record { forms = slice_set along.forms c (column_form width (columns + along.inputs)); inputs = along.inputs + 1; rows = along.rows }
 
+-- what is known behind an event, or the place of what does not fit
 abbrev pub after_event : ℕ → ℕ → Frame → Along → Event → Result Along ℕ
 after_event width columns frame along (Event.Requires from r a b) =
     on_ok (λ row. Ok (with_row along row)) (fits_or from (row_along width columns frame along r a b))
@@ -110,6 +115,7 @@ after_event width columns frame along (Event.Sets at v e) =
     on_ok (λ form. Ok (with_form along (column_of frame v) form)) (fits_or at (form_along width columns frame along e))
 after_event width columns frame along (Event.SetsAny v) = Ok (with_input width columns along (column_of frame v))
 
+-- behind all of them, one after another
 abbrev pub after_events : ℕ → ℕ → Frame → Along → List Event → Result Along ℕ
 after_events width columns frame along [] = Ok along
 after_events width columns frame along (event ∷ events) =
@@ -124,6 +130,7 @@ inputs_of (Event.Requires from r a b ∷ events) = inputs_of events
 inputs_of (Event.Sets at v e ∷ events) = inputs_of events
 inputs_of (Event.SetsAny v ∷ events) = inputs_of events + 1
 
+-- the event sets the column
 abbrev pub event_sets : Frame → ℕ → Event → Bool
 event_sets frame c (Event.Requires from r a b) = false
 event_sets frame c (Event.Sets at v e) = column_of frame v == c
@@ -141,6 +148,7 @@ set_columns columns frame events = filter (sets_column frame events) (range_with
 abbrev pub has_no_column : Row → Bool
 has_no_column row = list_all (int_eq (pos 0)) row.coefficients
 
+-- the row without a column holds, which is an equation or not and has this bound
 abbrev pub bound_holds : Bool → ℤ → Bool
 bound_holds true bound = int_eq bound (pos 0)
 bound_holds false bound = int_le (pos 0) bound
@@ -153,6 +161,7 @@ is_never row = has_no_column row && not (bound_holds row.equal row.bound)
 abbrev pub at_first : ℕ → ℕ → Along
 at_first width columns = record { forms = map (column_form width) (range_with_len 0 columns); inputs = 0; rows = [] }
 
+-- the form of a column
 abbrev pub form_at : ℕ → Along → ℕ → Form
 form_at width along c = slice_index_or along.forms c (constant_form width (pos 0))
 

@@ -1,17 +1,17 @@
 -- The program of a text: its columns, and for each thread that runs its locations and edges; and when there is none, because a limit is
 -- passed or a product or sum does not fit.
-use Rattle.std.specs.Prelude.{◌≡◌, ℕ, ◌+◌, ◌-◌, nat_lt, Bool, ◌||◌, if◌then◌else◌, List, [], ◌∷◌, ◌++◌, length, map, flat_map, Contains, Option, Some, None, option_map, Result, Ok, Err}
+use Rattle.std.specs.Prelude.{◌≡◌, ℕ, ◌+◌, ◌-◌, nat_lt, Bool, ◌||◌, if◌then◌else◌, List, [], ◌∷◌, ◌++◌, length, map, flat_map, Contains, Option, Some, None, Result, Ok, Err}
 use Rattle.std.specs.List.{list_any}
 use Rattle.thr_base.specs.declared.stops.Refusal.{Refusal}
 use Rattle.thr_base.specs.declared.stops.Stop.{Stop}
 use Rattle.thr_base.specs.Limits.{most_locations, most_paths, most_tests}
 use Rattle.thr_base.specs.Refusals.{IsFirst, MatchStop, coefficient, too_many}
 use Rattle.c_tree.specs.Plain as plain
-use Rattle.c_check.specs.declared.plan.Column as stored_column
 use Rattle.c_check.specs.Columns.{columns_of}
-use Rattle.transition_formula.specs.Program.{Column, Edge, Program, Thread}
+use Rattle.transition_formula.specs.Program.{Edge, Program, Thread}
 use Rattle.thread_cfg.specs.Source.{Frame}
 use Rattle.thread_cfg.specs.Threads.{Running, threads_running}
+pub use Rattle.thread_cfg.specs.Columns.{program_column}
 use Rattle.thread_cfg.specs.Action.{Action, Alternative, exit_of, thread_actions}
 use Rattle.thread_cfg.specs.Edge.{alternative_edge}
 
@@ -23,11 +23,13 @@ actions_of t = thread_actions t.frame (length t.function.locals) t.function.body
 
 -- ---- edges
 
+-- the edge, where one is made
 abbrev pub edge_made : Result (Option Edge) ℕ → List Edge
 edge_made (Ok (Some edge)) = edge ∷ []
 edge_made (Ok None) = []
 edge_made (Err from) = []
 
+-- the edges of an action at this location, in the order of its alternatives
 abbrev pub action_edges : ℕ → Frame → ℕ → Action → List Edge
 action_edges columns frame at action = flat_map (λ a. edge_made (alternative_edge columns frame at a)) action.alternatives
 
@@ -38,6 +40,7 @@ edges_from columns frame at (action ∷ actions) = action_edges columns frame at
 
 -- ---- refusals
 
+-- the refusal of what does not fit
 abbrev pub unfit : Result (Option Edge) ℕ → List Refusal
 unfit (Ok made) = []
 unfit (Err from) = record { code = coefficient; place = from } ∷ []
@@ -56,6 +59,7 @@ action_refusals columns frame at action =
     if is_too_large action then record { code = too_many; place = action.from } ∷ []
     else flat_map (λ a. unfit (alternative_edge columns frame at a)) action.alternatives
 
+-- the refusals of actions, the first of which is at this location
 abbrev pub refusals_from : ℕ → Frame → ℕ → List Action → List Refusal
 refusals_from columns frame at [] = []
 refusals_from columns frame at (action ∷ actions) = action_refusals columns frame at action ++ refusals_from columns frame (at + 1) actions
@@ -70,13 +74,11 @@ thread_refusals columns t =
     if nat_lt most_locations (locations_of t) then record { code = too_many; place = t.function.from } ∷ []
     else refusals_from columns t.frame 1 (actions_of t)
 
+-- the refusals of a text: those of each thread that runs
 abbrev pub refusals_of : plain.Tree → List Refusal
 refusals_of tree = flat_map (thread_refusals (length (columns_of tree))) (threads_running tree)
 
 -- ---- the program
-
-abbrev pub program_column : stored_column.Column → Column
-program_column c = record { text = c.text; owner = option_map (λ i. i.0) c.owner; start = c.start }
 
 -- a thread, of so many; the counters are the last columns
 abbrev pub thread_graph : ℕ → ℕ → Running → Thread
@@ -86,6 +88,7 @@ thread_graph columns threads t = record {
   edges = edges_from columns t.frame 1 (actions_of t);
 }
 
+-- the program of a text: its columns, and the threads that run
 abbrev pub program_of : plain.Tree → Program
 program_of tree = record {
   columns = map program_column (columns_of tree);

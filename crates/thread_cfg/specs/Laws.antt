@@ -1,32 +1,34 @@
 -- What the program of a text says of the text.
-use Rattle.std.specs.Prelude.{◌≡◌, ◌⊎◌, ◌↔◌, ℕ, List}
+use Rattle.std.specs.Prelude.{◌≡◌, ◌⊎◌, ◌↔◌, ℕ, ℤ, List}
 use Rattle.thr_base.specs.declared.stops.Refusal.{Refusal}
 use Rattle.c_tree.specs.declared.item.Tree.{Tree}
 use Rattle.c_tree.specs.Seen.{plain_tree}
 use Rattle.transition_formula.specs.Program.{Edge, IsEdgeOf, Program, Thread}
+use Rattle.transition_formula.specs.Run.{Fails, IsRun, Run}
 use Rattle.thread_cfg.specs.SameSteps.{SameSteps}
-use Rattle.thread_cfg.specs.Interleaving.{ProgramFails, TextFails, ThreadFails, ThreadReachesFailure}
+use Rattle.thread_cfg.specs.Interleaving.{TextFails, ThreadFails, ThreadReachesFailure}
 use Rattle.thread_cfg.specs.EdgeLaws.{IsEdgeOfAction}
-use Rattle.thread_cfg.specs.Telling.{StatesTellConfigurations}
+use Rattle.thread_cfg.specs.Telling.{RunsTellInterleavings}
 use Rattle.thread_cfg.specs.Read.{IsProgramText, Refuses}
 
 -- The program of a text has the same steps as the text.
 abbrev pub ProgramsStepAlike : Type 0
 ProgramsStepAlike = (bytes : List ℕ) (tree : Tree) (program : Program) → IsProgramText bytes tree program → SameSteps (plain_tree tree) program
 
--- A run of the program of a text fails exactly where an interleaving of the text's threads makes one of them fail.
+-- Some run of the program of a text fails exactly where an interleaving of the text's threads makes one of them fail.
 abbrev pub TextsFailAlike : Type 0
-TextsFailAlike = (bytes : List ℕ) (tree : Tree) (program : Program) → IsProgramText bytes tree program → ProgramFails program ↔ TextFails (plain_tree tree)
+TextsFailAlike = (bytes : List ℕ) (tree : Tree) (program : Program) → IsProgramText bytes tree program
+    → ((run : Run) × (last : List ℤ) × IsRun program run last × Fails program run) ↔ TextFails (plain_tree tree)
 
 -- The i-th thread of the program comes to location 0 in a run exactly where an interleaving of the text's threads makes that thread fail.
 abbrev pub ThreadsFailAlike : Type 0
 ThreadsFailAlike = (bytes : List ℕ) (tree : Tree) (program : Program) (i : ℕ) → IsProgramText bytes tree program
     → ThreadReachesFailure program i ↔ ThreadFails (plain_tree tree) i
 
--- Each state that a run of the program comes to tells a configuration that an interleaving comes to, and the other way round.
-abbrev pub ReachedStatesTellInterleavings : Type 0
-ReachedStatesTellInterleavings = (bytes : List ℕ) (tree : Tree) (program : Program) → IsProgramText bytes tree program
-    → StatesTellConfigurations (plain_tree tree) program
+-- Each run of the program of a text goes step by step as an interleaving of the text's threads does, and the other way round.
+abbrev pub RunsGoAsInterleavings : Type 0
+RunsGoAsInterleavings = (bytes : List ℕ) (tree : Tree) (program : Program) → IsProgramText bytes tree program
+    → RunsTellInterleavings (plain_tree tree) program
 
 -- Each edge of the program is that of one way on from the action at its location.
 abbrev pub EdgesAreOfActions : Type 0

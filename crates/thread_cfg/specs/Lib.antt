@@ -5,6 +5,7 @@ pub mod Happen
 pub mod Action
 pub mod Within
 pub mod Edge
+pub mod Columns
 pub mod Graph
 pub mod Places
 pub mod SameSteps

@@ -9,6 +9,7 @@ use Rattle.thread_cfg.specs.declared.relation.Relation.TheVariants as related
 
 -- ---- what a mark asks, on each of its sides: one of these
 
+-- what holds of the two numbers where the mark is true
 abbrev pub when_true : Mark → List Relation
 when_true mark.Equal = related.Equal ∷ []
 when_true mark.Unequal = related.Less ∷ related.Greater ∷ []
@@ -17,6 +18,7 @@ when_true mark.AtMost = related.AtMost ∷ []
 when_true mark.Greater = related.Greater ∷ []
 when_true mark.AtLeast = related.AtLeast ∷ []
 
+-- and where it is false
 abbrev pub when_false : Mark → List Relation
 when_false mark.Equal = related.Less ∷ related.Greater ∷ []
 when_false mark.Unequal = related.Equal ∷ []
@@ -27,6 +29,7 @@ when_false mark.AtLeast = related.Less ∷ []
 
 -- ---- events
 
+-- what happens
 pub data Event : Type 0 where
   -- two numbers are related so, at the place of their comparison
   Requires : ℕ → Relation → Arithmetic → Arithmetic → Event
@@ -35,6 +38,7 @@ pub data Event : Type 0 where
   -- a variable is set to any integer
   SetsAny : Variable → Event
 
+-- a path: what happens on it, in order
 pub record Path : Type 0 where
   pub events : List Event
   -- whether it ends at an assertion that is false
@@ -59,6 +63,7 @@ test_paths (Test.Not t) ts fs = test_paths t fs ts
 test_paths (Test.And t u) ts fs = test_paths t (test_paths u ts fs) fs
 test_paths (Test.Or t u) ts fs = test_paths t ts (test_paths u ts fs)
 
+-- the paths of a condition, with those behind its true side and those behind its false side
 abbrev pub condition_paths : Condition → List Path → List Path → List Path
 condition_paths (Condition.Choice from) ts fs = ts ++ fs
 condition_paths (Condition.Tested from t) ts fs = test_paths t ts fs
@@ -78,6 +83,7 @@ abbrev mutual
   stmt_paths (Stmt.Assume from t) more = test_paths t more []
   stmt_paths (Stmt.Atomic from inner) more = []
 
+  -- the paths of statements, with those behind them
   pub paths : Stmts → List Path → List Path
   paths Stmts.End more = more
   paths (Stmts.Then s rest) more = stmt_paths s (paths rest more)

@@ -14,6 +14,7 @@ pub data Pick : Type 0 where
 
 -- ---- paths, each with what it picks, in order
 
+-- a path with what it picks
 pub record PickedPath : Type 0 where
   pub picks : List Pick
   pub path : Path
@@ -34,20 +35,24 @@ took from r a b p = record { picks = Pick.Took r ∷ p.picks; path = begun (Even
 abbrev pub went : Bool → PickedPath → PickedPath
 went side p = record p { picks = Pick.Went side ∷ p.picks }
 
+-- one of the relations is picked, and then one of the paths
 abbrev pub relations_picked : ℕ → Arithmetic → Arithmetic → List Relation → List PickedPath → List PickedPath
 relations_picked from a b relations more = flat_map (λ r. map (took from r a b) more) relations
 
+-- the paths of a test, with those behind its two sides
 abbrev pub test_picked : Test → List PickedPath → List PickedPath → List PickedPath
 test_picked (Test.Compare from m a b) ts fs = relations_picked from a b (when_true m) ts ++ relations_picked from a b (when_false m) fs
 test_picked (Test.Not t) ts fs = test_picked t fs ts
 test_picked (Test.And t u) ts fs = test_picked t (test_picked u ts fs) fs
 test_picked (Test.Or t u) ts fs = test_picked t ts (test_picked u ts fs)
 
+-- the paths of a condition, with those behind its two sides
 abbrev pub condition_picked : Condition → List PickedPath → List PickedPath → List PickedPath
 condition_picked (Condition.Choice from) ts fs = map (went true) ts ++ map (went false) fs
 condition_picked (Condition.Tested from t) ts fs = test_picked t ts fs
 
 abbrev mutual
+  -- the paths of a statement, with those behind it
   pub stmt_picked : Stmt → List PickedPath → List PickedPath
   stmt_picked (Stmt.Assign from at v e) more = map (begun_picked (Event.Sets at v e)) more
   stmt_picked (Stmt.AssignAny from v) more = map (begun_picked (Event.SetsAny v)) more
@@ -61,6 +66,7 @@ abbrev mutual
   stmt_picked (Stmt.Assume from t) more = test_picked t more []
   stmt_picked (Stmt.Atomic from inner) more = []
 
+  -- the paths of statements, with those behind them
   pub stmts_picked : Stmts → List PickedPath → List PickedPath
   stmts_picked Stmts.End more = more
   stmts_picked (Stmts.Then s rest) more = stmt_picked s (stmts_picked rest more)
@@ -85,6 +91,7 @@ arrived values = record { values = values; picks = []; inputs = [] }
 -- after, and ends so. It is a way as `IsWay` says. Of a comparison it takes a relation that holds at its values, one of those of the
 -- side that it goes to; of a choice that side; and for each variable that is set to any integer the next input.
 abbrev mutual
+  -- through all items
   pub Takes : Frame → List ℤ → Items → List Pick → List ℤ → Course → WayEnd → Type 0
   Takes frame values Items.End picks inputs after end = (after ≡ record { values = values; picks = picks; inputs = inputs }) × (end ≡ WayEnd.Through)
   Takes frame values (Items.Then item rest) picks inputs after end =
@@ -92,6 +99,7 @@ abbrev mutual
       × Takes frame between.values rest between.picks between.inputs after end)
       ⊎ (TakesItem frame values item picks inputs after WayEnd.Fails × (end ≡ WayEnd.Fails))
 
+  -- through one item
   pub TakesItem : Frame → List ℤ → Item → List Pick → List ℤ → Course → WayEnd → Type 0
   TakesItem frame values (Item.Read t v) picks inputs after end =
       (after ≡ record { values = with_value frame values t (value_at values (column_of frame v)); picks = picks; inputs = inputs }) × (end ≡ WayEnd.Through)
@@ -117,6 +125,7 @@ abbrev mutual
   TakesItem frame values Item.Exit picks inputs after end = ⊥
   TakesItem frame values (Item.Atomic inner) picks inputs after end = ⊥
 
+  -- through a side of a branch
   pub TakesSide : Frame → List ℤ → Side → List Pick → List ℤ → Course → WayEnd → Type 0
   TakesSide frame values (Side.Goes is) picks inputs after end = Takes frame values is picks inputs after end
   TakesSide frame values Side.Failed picks inputs after end =

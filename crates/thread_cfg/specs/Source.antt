@@ -17,6 +17,7 @@ pub record Frame : Type 0 where
   pub first : ℕ
   pub variables : ℕ
 
+-- the column of a variable
 abbrev pub column_of : Frame → Variable → ℕ
 column_of frame (variable.Shared n) = n
 column_of frame (variable.Own n) = frame.first + n
@@ -25,6 +26,7 @@ column_of frame (variable.Own n) = frame.first + n
 abbrev pub lock_column : Frame → ℕ → ℕ
 lock_column frame n = frame.variables + n
 
+-- the value of a column
 abbrev pub value_at : List ℤ → ℕ → ℤ
 value_at values c = slice_index_or values c (pos 0)
 
@@ -46,6 +48,7 @@ compared mark.AtMost x y = int_le x y
 compared mark.Greater x y = int_lt y x
 compared mark.AtLeast x y = int_le y x
 
+-- the comparison is true of these values
 abbrev pub is_true : Frame → List ℤ → Comparison → Bool
 is_true frame values c = compared c.mark (value frame values c.left) (value frame values c.right)
 
@@ -55,6 +58,7 @@ with_value frame values v k = slice_set values (column_of frame v) k
 
 -- ---- how a thread stands
 
+-- what a thread has left to do
 pub data Standing : Type 0 where
   -- it has these items to do
   Doing : Items → Standing
@@ -80,6 +84,7 @@ read_as is = is
 
 -- ---- ways through the items of an atomic body
 
+-- how a way ends
 pub data WayEnd : Type 0 where
   -- all items were done
   Through : WayEnd
@@ -89,12 +94,14 @@ pub data WayEnd : Type 0 where
 -- From these values a way goes through the items to the values after, and ends so. It takes of each comparison the side that its
 -- truth names, of each choice either; to the false side of an assumption none goes. What may not stand in an atomic body has none.
 abbrev mutual
+  -- through all items
   pub IsWay : Frame → List ℤ → Items → List ℤ → WayEnd → Type 0
   IsWay frame values Items.End after end = (after ≡ values) × (end ≡ WayEnd.Through)
   IsWay frame values (Items.Then item rest) after end =
       ((between : List ℤ) × IsItemWay frame values item between WayEnd.Through × IsWay frame between rest after end)
       ⊎ (IsItemWay frame values item after WayEnd.Fails × (end ≡ WayEnd.Fails))
 
+  -- through one item
   pub IsItemWay : Frame → List ℤ → Item → List ℤ → WayEnd → Type 0
   IsItemWay frame values (Item.Read t v) after end = (after ≡ with_value frame values t (value_at values (column_of frame v))) × (end ≡ WayEnd.Through)
   IsItemWay frame values (Item.Assign v e) after end = (after ≡ with_value frame values v (value frame values e)) × (end ≡ WayEnd.Through)
@@ -110,6 +117,7 @@ abbrev mutual
   IsItemWay frame values Item.Exit after end = ⊥
   IsItemWay frame values (Item.Atomic inner) after end = ⊥
 
+  -- through a side of a branch
   pub IsSideWay : Frame → List ℤ → Side → List ℤ → WayEnd → Type 0
   IsSideWay frame values (Side.Goes is) after end = IsWay frame values is after end
   IsSideWay frame values Side.Failed after end = (after ≡ values) × (end ≡ WayEnd.Fails)
@@ -143,6 +151,7 @@ Does frame values Item.Break rest after next = (after ≡ values) × (next ≡ S
 Does frame values Item.Exit rest after next = (after ≡ values) × (next ≡ Standing.Doing Items.End)
 Does frame values (Item.Atomic inner) rest after next = (end : WayEnd) × IsWay frame values inner after end × (next ≡ behind_way end rest)
 
+-- The first item does this; where there is none, nothing is done.
 abbrev pub DoesFirst : Frame → List ℤ → Items → List ℤ → Standing → Type 0
 DoesFirst frame values Items.End after next = ⊥
 DoesFirst frame values (Items.Then item rest) after next = Does frame values item rest after next

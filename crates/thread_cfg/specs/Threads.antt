@@ -11,10 +11,12 @@ pub record Running : Type 0 where
   pub frame : Frame
   pub function : Function
 
+-- the thread with its function, where there is such a function
 abbrev pub running_if : Frame → Option Function → List Running
 running_if frame None = []
 running_if frame (Some f) = record { frame = frame; function = f } ∷ []
 
+-- threads, the first of which has this number
 abbrev pub running_from : ℕ → List Function → ℕ → List stored_thread.Thread → List Running
 running_from variables functions i [] = []
 running_from variables functions i (t ∷ ts) =

@@ -14,10 +14,12 @@ IsWithin n frame (Arithmetic.Sum a b) = IsWithin n frame a × IsWithin n frame b
 IsWithin n frame (Arithmetic.Difference a b) = IsWithin n frame a × IsWithin n frame b
 IsWithin n frame (Arithmetic.Product a b) = IsWithin n frame a × IsWithin n frame b
 
+-- The columns that the event reads and sets are within n.
 abbrev pub EventWithin : ℕ → Frame → Event → Type 0
 EventWithin n frame (Event.Requires from r a b) = IsWithin n frame a × IsWithin n frame b
 EventWithin n frame (Event.Sets at v e) = (column_of frame v < n) × IsWithin n frame e
 EventWithin n frame (Event.SetsAny v) = column_of frame v < n
 
+-- All events are within n.
 abbrev pub EventsWithin : ℕ → Frame → List Event → Type 0
 EventsWithin n frame events = AllByRecursion (EventWithin n frame) events

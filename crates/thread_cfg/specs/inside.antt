@@ -1,3 +1,4 @@
+-- What no public clause cites: what stands for the text in the program, and how its parts are found.
 pub mod Left
 pub mod Meant
 pub mod Found

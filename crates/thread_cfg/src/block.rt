@@ -10,11 +10,11 @@ ghost use Rattle.thread_cfg.specs.Action as action;
 ghost use Rattle.thread_cfg.specs.Path as a_path;
 ghost use Rattle.thread_cfg.specs.inside.Adds.{AddsActions, AddsWays, AreWithin, WaysWithin};
 ghost use Rattle.thread_cfg.specs.inside.Few.{path_written};
-ghost use Rattle.thread_cfg.specs.inside.Gone.{event_of, is_long_path, path_of};
+ghost use Rattle.thread_cfg.specs.inside.Gone.{event_of, is_failing, is_long_path, path_of};
 
 use crate::event::Event;
 use crate::going::block_ways;
-use crate::paths::{Path, Ways};
+use crate::paths::{Ending, Path, Ways};
 use crate::running::Running;
 use crate::thread::Found;
 use c_check::{Instruction, earlier};
@@ -39,17 +39,21 @@ impl<'a> Path<'a> {
     }
 }
 
+/// More happens on one of the paths than an edge may have tests or inputs.
 fn has_long(paths: &[Path<'_>]) -> bool
     ensures { result ≡ list_any is_long_path paths.now }
 {
     paths.iter().any(|path| path.is_long())
 }
 
-/// Where a path leads.
-fn target(next: Loc, fails: bool) -> Loc
-    ensures { result.0 ≡ action.path_target next.0 fails }
+/// Where a path leads that ends so.
+fn target(next: Loc, ending: Ending) -> Loc
+    ensures { result.0 ≡ action.path_target next.0 (is_failing ending) }
 {
-    if fails { Loc(0) } else { next }
+    match ending {
+        Ending::Through => next,
+        Ending::Failing => Loc(0),
+    }
 }
 
 impl Found {
@@ -67,6 +71,7 @@ impl Found {
         );
     }
 
+    /// The edge of a path.
     fn add_path(
         &mut self,
         alloc: Global,
@@ -81,10 +86,11 @@ impl Found {
             → OnOk result (AddsWays running.now at.0 self.old self.new (action.path_alternative next.0 p ∷ [])) }
     {
         let events = path.in_order(alloc)?;
-        let to = target(next, path.fails);
+        let to = target(next, path.ending);
         self.add_way(alloc, running, at, to, events.as_slice())
     }
 
+    /// The edges of paths, in their order.
     fn add_paths(
         &mut self,
         alloc: Global,

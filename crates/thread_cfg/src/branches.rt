@@ -16,6 +16,7 @@ pub(crate) enum Branch<'a> {
     Behind,
 }
 
+/// The branches of a test.
 #[derive(Drop)]
 pub(crate) struct Branches<'a> {
     pub(crate) on_true: Branch<'a>,
@@ -23,7 +24,7 @@ pub(crate) struct Branches<'a> {
 }
 
 /// The paths of a branch, which takes those that stand behind.
-fn taken<'a>(alloc: Global, branch: Branch<'a>, behind: &mut Ways<'a>) -> Ways<'a>
+fn branch_ways<'a>(alloc: Global, branch: Branch<'a>, behind: &mut Ways<'a>) -> Ways<'a>
     ensures taken { ways_of result ≡ specs.taken (ways_of behind.old) (branch_of branch.entry) }
     ensures left { ways_of behind.new ≡ specs.left_by (ways_of behind.old) (branch_of branch.entry) }
 {
@@ -42,6 +43,7 @@ pub(crate) struct Parting<'a> {
 }
 
 impl<'a> Parting<'a> {
+    /// A test with these branches ends here.
     fn push(&mut self, on_true: Branch<'a>, on_false: Branch<'a>) -> Result<(), AllocError>
         ensures { OnOk result (parting_of self.new ≡ record (parting_of self.old) {
           branches = record { on_true = branch_of on_true.entry; on_false = branch_of on_false.entry } ∷ branches_held self.old.branches.items;
@@ -64,7 +66,7 @@ impl<'a> Parting<'a> {
     {
         match operation {
             TestOperation::Compare(comparison) => {
-                self.behind = Ways::compared(alloc, comparison, on_true, on_false)?;
+                self.behind = Ways::of_comparison(alloc, comparison, on_true, on_false)?;
                 Ok(())
             }
             TestOperation::Not => self.push(Branch::Ways(on_false), Branch::Ways(on_true)),
@@ -89,8 +91,8 @@ impl<'a> Parting<'a> {
     {
         match self.branches.pop() {
             Some(Branches { on_true, on_false }) => {
-                let on_true = taken(alloc, on_true, &mut self.behind);
-                let on_false = taken(alloc, on_false, &mut self.behind);
+                let on_true = branch_ways(alloc, on_true, &mut self.behind);
+                let on_false = branch_ways(alloc, on_false, &mut self.behind);
                 self.part(alloc, operation, on_true, on_false)
             }
             None => Ok(()),
@@ -118,6 +120,7 @@ pub(crate) fn test_ways<'a>(
     Ok(parting.behind)
 }
 
+/// The paths of a condition, with those of its sides.
 pub(crate) fn condition_ways<'a>(
     alloc: Global,
     condition: &'a Condition,

@@ -24,6 +24,7 @@ pub(crate) struct Counter {
 }
 
 impl Counter {
+    /// In front of all instructions.
     fn new(alloc: Global) -> Counter
         ensures { counted_of result ≡ specs.count_start }
     {

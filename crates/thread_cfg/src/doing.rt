@@ -38,6 +38,7 @@ fn behind(at: Loc, size: usize) -> Loc
 }
 
 impl Found {
+    /// The edges of an assignment: those of its reads, where there are any, and that of what it sets.
     fn add_assignment(
         &mut self,
         alloc: Global,
@@ -80,6 +81,7 @@ impl Found {
         }
     }
 
+    /// The edges of a comparison: those of its reads, where there are any, and those of its sides.
     fn add_comparison(
         &mut self,
         alloc: Global,

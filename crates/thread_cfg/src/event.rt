@@ -20,6 +20,7 @@ pub(crate) enum Expression<'a> {
     Cut(&'a [Operation], usize),
 }
 
+/// What happens.
 #[derive(Clone, Copy, Debug)]
 pub(crate) enum Event<'a> {
     /// Two numbers are related so, at the place of their comparison.

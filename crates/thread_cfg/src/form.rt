@@ -51,7 +51,7 @@ fn line_of(
 }
 
 /// The line where each column is worth one of these lines.
-fn composed_line(
+fn compose(
     alloc: Global,
     width: u32,
     line: &Line,
@@ -78,7 +78,7 @@ pub(crate) fn line_along(
 {
     let line = line_of(alloc, setting, expression)?;
     match line {
-        Some(line) => composed_line(alloc, setting.width, &line, lines),
+        Some(line) => compose(alloc, setting.width, &line, lines),
         None => Ok(None),
     }
 }

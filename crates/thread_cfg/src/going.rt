@@ -6,7 +6,7 @@ ghost use Rattle.thread_cfg.specs.inside.Gone.{event_of, going_of, ways_held, wa
 
 use crate::branches::{condition_ways, test_ways};
 use crate::event::{Event, Expression};
-use crate::paths::Ways;
+use crate::paths::{Ending, Ways};
 use c_check::{Condition, Instruction, TestOperation};
 use std::alloc::{AllocError, Global};
 use std::mem;
@@ -23,10 +23,11 @@ pub(crate) struct Going<'a> {
 }
 
 impl<'a> Going<'a> {
+    /// Behind the last instruction: one path, on which nothing happens.
     fn new(alloc: Global) -> Result<Going<'a>, AllocError>
         ensures { IfOk result (λ going. going_of going ≡ specs.going_start) }
     {
-        let ways = Ways::bare(alloc, false)?;
+        let ways = Ways::bare(alloc, Ending::Through)?;
         Ok(Going {
             ways,
             opened: Vec::new(alloc),
@@ -59,6 +60,7 @@ impl<'a> Going<'a> {
         Ok(())
     }
 
+    /// To the end of a choice's false side.
     fn enter_end_if(&mut self, alloc: Global) -> Result<(), AllocError>
         ensures gone { OnOk result (going_of self.new ≡ record (going_of self.old) { opened = ways_of self.old.ways ∷ ways_held self.old.opened.items }) }
         ensures depth { self.new.depth ≡ self.old.depth }
@@ -68,6 +70,7 @@ impl<'a> Going<'a> {
         Ok(())
     }
 
+    /// To the end of a choice's true side.
     fn enter_else(&mut self) -> Result<(), AllocError>
         ensures gone { OnOk result (going_of self.new ≡ specs.gone_else (going_of self.old).opened (going_of self.old)) }
         ensures depth { self.new.depth ≡ self.old.depth }
@@ -79,6 +82,7 @@ impl<'a> Going<'a> {
         Ok(())
     }
 
+    /// To the front of a choice.
     fn enter_if(&mut self, alloc: Global, condition: &'a Condition) -> Result<(), AllocError>
         ensures gone { OnOk result (going_of self.new ≡ specs.gone_if condition.now (going_of self.old).opened (going_of self.old)) }
         ensures depth { self.new.depth ≡ self.old.depth }
@@ -114,7 +118,7 @@ impl<'a> Going<'a> {
             Instruction::Else => self.enter_else(),
             Instruction::EndIf => self.enter_end_if(alloc),
             Instruction::Assert(_, tests) => {
-                let failing = Ways::bare(alloc, true)?;
+                let failing = Ways::bare(alloc, Ending::Failing)?;
                 self.test(alloc, tests.as_slice(), failing)
             }
             Instruction::Assume(_, tests) => {

@@ -1,7 +1,7 @@
 //! What the graph says of its text: laws, and no code.
 
 ghost use Rattle.thread_cfg.specs.EdgeLaws.{EdgesHappen, NeverEdgesDoNotHappen};
-ghost use Rattle.thread_cfg.specs.Laws.{EdgesAreOfActions, ProgramsStepAlike, ReachedStatesTellInterleavings, TextsAreReadExactly, TextsFailAlike, ThreadsFailAlike};
+ghost use Rattle.thread_cfg.specs.Laws.{EdgesAreOfActions, ProgramsStepAlike, RunsGoAsInterleavings, TextsAreReadExactly, TextsFailAlike, ThreadsFailAlike};
 ghost use Rattle.thread_cfg.specs.PickEdges.{EdgelessPathsHaveNoWay, PathEdgesTellWays};
 ghost use Rattle.thread_cfg.specs.Picks.{PathsTellWays, PickedPathsAreThePaths, PicksDiffer, TakenArePicked, WaysTakePicks};
 
@@ -20,9 +20,9 @@ pub fn threads_fail_alike()
     ensures { ThreadsFailAlike }
 {}
 
-/// Each state that a run of the program comes to tells what an interleaving comes to, and the other way round.
-pub fn reached_states_tell_interleavings()
-    ensures { ReachedStatesTellInterleavings }
+/// Each run of the program goes step by step as an interleaving of the text's threads does, and the other way round.
+pub fn runs_go_as_interleavings()
+    ensures { RunsGoAsInterleavings }
 {}
 
 /// A text has one program or one refusal, and never both. So what `read_program` answers is what the text has.

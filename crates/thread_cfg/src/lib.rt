@@ -42,8 +42,7 @@ mod thread_tests;
 pub use building::build;
 pub use laws::{
     edges_are_of_actions, edges_happen, paths_tell_ways, programs_step_alike,
-    reached_states_tell_interleavings, texts_are_read_exactly, texts_fail_alike,
-    threads_fail_alike,
+    runs_go_as_interleavings, texts_are_read_exactly, texts_fail_alike, threads_fail_alike,
 };
 pub use located::location_places;
 pub use read::read_program;

@@ -20,6 +20,7 @@ use c_check::Variable;
 use std::alloc::{AllocError, Global};
 use thr_base::Loc;
 
+/// A number of the program's own, as one that is computed.
 fn number<'a>(value: u32) -> Expression<'a>
     ensures { Means result (Arithmetic.Number (pos value)) }
 {
@@ -74,6 +75,7 @@ impl Found {
         self.add_way(alloc, running, at, to, &events)
     }
 
+    /// The edge of a lock: the lock is free, and the thread has it then.
     pub(crate) fn add_lock(
         &mut self,
         alloc: Global,

@@ -14,6 +14,7 @@ pub(crate) struct Relations {
 }
 
 impl Relations {
+    /// What the mark asks for where it is true.
     pub(crate) fn when_true(mark: Mark) -> Relations
         ensures { result.first ∷ option_to_list result.second ≡ path.when_true mark }
     {
@@ -28,6 +29,7 @@ impl Relations {
         Relations { first, second }
     }
 
+    /// What holds where the mark is false.
     pub(crate) fn when_false(mark: Mark) -> Relations
         ensures { result.first ∷ option_to_list result.second ≡ path.when_false mark }
     {

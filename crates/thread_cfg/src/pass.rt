@@ -92,6 +92,7 @@ impl<'a> Pass<'a> {
         Ok(())
     }
 
+    /// What is tested or chosen, with its sides.
     fn push_condition(
         &mut self,
         alloc: Global,
@@ -112,6 +113,7 @@ impl<'a> Pass<'a> {
         }
     }
 
+    /// To the end of a choice's false side.
     fn enter_end_if(&mut self) -> Result<(), AllocError>
         ensures passed { (block : List AnInstruction) → OnOk result (passed_of self.new block
             ≡ record (passed_of self.old block) { opened = record { next = self.old.next.0; other = self.old.next.0 } ∷ opened_held self.old.opened.items }) }
@@ -125,6 +127,7 @@ impl<'a> Pass<'a> {
         Ok(())
     }
 
+    /// To the end of a choice's true side.
     fn enter_else(&mut self) -> Result<(), AllocError>
         ensures passed { (block : List AnInstruction) → OnOk result (passed_of self.new block
             ≡ specs.passed_else (passed_of self.old block).opened (passed_of self.old block)) }
@@ -142,6 +145,7 @@ impl<'a> Pass<'a> {
         Ok(())
     }
 
+    /// To the front of a choice.
     fn enter_if(&mut self, alloc: Global, condition: &'a Condition) -> Result<(), AllocError>
         ensures passed { (block : List AnInstruction) → OnOk result (passed_of self.new block
             ≡ specs.passed_if condition.now (passed_of self.old block).opened (passed_of self.old block)) }
@@ -155,6 +159,7 @@ impl<'a> Pass<'a> {
         }
     }
 
+    /// To the end of a loop, which leads to where it begins.
     fn enter_end_loop(&mut self) -> Result<(), AllocError>
         ensures passed { (block : List AnInstruction) → OnOk result (passed_of self.new block
             ≡ specs.passed_end_loop (passed_of self.old block).loops (passed_of self.old block)) }
@@ -172,6 +177,7 @@ impl<'a> Pass<'a> {
         Ok(())
     }
 
+    /// To the front of a loop.
     fn enter_loop(&mut self, alloc: Global, condition: &'a Condition) -> Result<(), AllocError>
         ensures passed { (block : List AnInstruction) → OnOk result (passed_of self.new block
             ≡ specs.passed_loop condition.now (passed_of self.old block).opened (passed_of self.old block)) }

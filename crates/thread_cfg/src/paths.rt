@@ -2,7 +2,7 @@
 
 ghost use Rattle.std.specs.Prelude.{◌≡◌, ◌∷◌, [], map, option_to_list, Some, IfOk};
 ghost use Rattle.thread_cfg.specs.inside.Few as specs;
-ghost use Rattle.thread_cfg.specs.inside.Gone.{event_of, path_of, ways_of};
+ghost use Rattle.thread_cfg.specs.inside.Gone.{event_of, is_failing, path_of, ways_of};
 
 use crate::event::{Event, Expression};
 use crate::marks::Relations;
@@ -11,12 +11,20 @@ use c_check::Comparison;
 use std::alloc::{AllocError, Global};
 use thr_base::MOST_PATHS;
 
+/// How a path ends.
+#[derive(Clone, Copy, Debug, PartialEq, Eq)]
+pub(crate) enum Ending {
+    /// All is done.
+    Through,
+    /// At an assertion that is false.
+    Failing,
+}
+
 /// What happens on a path, the last event first.
 #[derive(Drop)]
 pub(crate) struct Path<'a> {
     pub(crate) events: Vec<Event<'a>>,
-    /// Whether it ends at an assertion that is false.
-    pub(crate) fails: bool,
+    pub(crate) ending: Ending,
 }
 
 /// Paths, in the order of their edges.
@@ -28,13 +36,14 @@ pub(crate) enum Ways<'a> {
 }
 
 impl<'a> Path<'a> {
+    /// The same path.
     fn copy(&self, alloc: Global) -> Result<Path<'a>, AllocError>
         ensures { IfOk result (λ path. path_of path ≡ path_of self.now) }
     {
         let events = Vec::from_slice(alloc, self.events.as_slice())?;
         Ok(Path {
             events,
-            fails: self.fails,
+            ending: self.ending,
         })
     }
 
@@ -42,14 +51,14 @@ impl<'a> Path<'a> {
     fn after(self, event: Event<'a>) -> Result<Path<'a>, AllocError>
         ensures { IfOk result (λ path. path_of path ≡ specs.after (event_of event.entry) (path_of self.entry)) }
     {
-        let Path { mut events, fails } = self;
+        let Path { mut events, ending } = self;
         events.push(event)?;
-        Ok(Path { events, fails })
+        Ok(Path { events, ending })
     }
 }
 
 /// What is asked of a comparison's numbers.
-fn required<'a>(comparison: &'a Comparison, relation: Relation) -> Event<'a>
+fn requirement<'a>(comparison: &'a Comparison, relation: Relation) -> Event<'a>
     ensures { event_of result ≡ specs.required comparison.now relation }
 {
     Event::Requires {
@@ -60,6 +69,7 @@ fn required<'a>(comparison: &'a Comparison, relation: Relation) -> Event<'a>
     }
 }
 
+/// The same paths.
 fn copies<'a>(alloc: Global, paths: &[Path<'a>]) -> Result<Vec<Path<'a>>, AllocError>
     ensures { IfOk result (λ copies. map path_of copies.items ≡ map path_of paths.now) }
 {
@@ -70,6 +80,7 @@ fn copies<'a>(alloc: Global, paths: &[Path<'a>]) -> Result<Vec<Path<'a>>, AllocE
     Ok(copies)
 }
 
+/// An event in front of each of the paths.
 fn all_after<'a>(
     alloc: Global,
     event: Event<'a>,
@@ -85,24 +96,26 @@ fn all_after<'a>(
 }
 
 impl<'a> Ways<'a> {
+    /// No path at all.
     pub(crate) fn none(alloc: Global) -> Ways<'a>
         ensures { ways_of result ≡ Some [] }
     {
         Ways::Few(Vec::new(alloc))
     }
 
-    /// The path on which nothing happens.
-    pub(crate) fn bare(alloc: Global, fails: bool) -> Result<Ways<'a>, AllocError>
-        ensures { IfOk result (λ ways. ways_of ways ≡ Some (specs.bare fails ∷ [])) }
+    /// The path on which nothing happens, and which ends so.
+    pub(crate) fn bare(alloc: Global, ending: Ending) -> Result<Ways<'a>, AllocError>
+        ensures { IfOk result (λ ways. ways_of ways ≡ Some (specs.bare (is_failing ending) ∷ [])) }
     {
         let mut paths = Vec::new(alloc);
         paths.push(Path {
             events: Vec::new(alloc),
-            fails,
+            ending,
         })?;
         Ok(Ways::Few(paths))
     }
 
+    /// The same paths.
     pub(crate) fn copy(&self, alloc: Global) -> Result<Ways<'a>, AllocError>
         ensures { IfOk result (λ ways. ways_of ways ≡ ways_of self.now) }
     {
@@ -158,20 +171,20 @@ impl<'a> Ways<'a> {
     ) -> Result<Ways<'a>, AllocError>
         ensures { IfOk result (λ ways. ways_of ways ≡ specs.all_picked comparison.now (relations.first ∷ option_to_list relations.second) (ways_of self.entry)) }
     {
-        let first = required(comparison, relations.first);
+        let first = requirement(comparison, relations.first);
         match relations.second {
             None => self.after(alloc, first),
             Some(second) => {
                 let more = self.copy(alloc)?;
                 let one = self.after(alloc, first)?;
-                let other = more.after(alloc, required(comparison, second))?;
+                let other = more.after(alloc, requirement(comparison, second))?;
                 one.and(other)
             }
         }
     }
 
     /// The paths of a comparison, with those of its sides.
-    pub(crate) fn compared(
+    pub(crate) fn of_comparison(
         alloc: Global,
         comparison: &'a Comparison,
         on_true: Ways<'a>,

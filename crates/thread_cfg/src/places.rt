@@ -17,6 +17,7 @@ fn push_times(places: &mut Vec<u32>, place: u32, times: usize) -> Result<(), All
     Ok(())
 }
 
+/// The places of an operation's own locations.
 fn push_operation(places: &mut Vec<u32>, operation: &TestOperation) -> Result<(), AllocError>
     ensures { OnOk result (places.new.items ≡ places.old.items ++ specs.places_of operation.now) }
 {
@@ -30,6 +31,7 @@ fn push_operation(places: &mut Vec<u32>, operation: &TestOperation) -> Result<()
     }
 }
 
+/// The places of a test.
 fn push_tests(places: &mut Vec<u32>, tests: &[TestOperation]) -> Result<(), AllocError>
     ensures { OnOk result (places.new.items ≡ places.old.items ++ specs.test_places tests.now) }
 {
@@ -39,6 +41,7 @@ fn push_tests(places: &mut Vec<u32>, tests: &[TestOperation]) -> Result<(), Allo
     Ok(())
 }
 
+/// The places of what is tested or chosen.
 fn push_condition(places: &mut Vec<u32>, condition: &Condition) -> Result<(), AllocError>
     ensures { OnOk result (places.new.items ≡ places.old.items ++ specs.condition_places condition.now) }
 {

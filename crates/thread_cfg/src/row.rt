@@ -33,7 +33,7 @@ fn opposite_if_fits(number: i128) -> Option<i128>
 }
 
 /// The row that the line is at most 0, or is 0: its constant goes to the right.
-fn moved(equal: bool, line: Line) -> Option<MadeRow>
+fn row_of_line(equal: bool, line: Line) -> Option<MadeRow>
     ensures { option_map made_row_of result ≡ specs.moved equal (form_of line) }
 {
     match opposite_if_fits(line.constant) {
@@ -58,13 +58,18 @@ fn row_between(
 {
     let line = difference(alloc, left, right)?;
     match line {
-        Some(line) => Ok(moved(equal, line)),
+        Some(line) => Ok(row_of_line(equal, line)),
         None => Ok(None),
     }
 }
 
 /// The line and a number more.
-fn raised(alloc: Global, number: i128, width: u32, line: &Line) -> Result<Option<Line>, AllocError>
+fn line_and_number(
+    alloc: Global,
+    number: i128,
+    width: u32,
+    line: &Line,
+) -> Result<Option<Line>, AllocError>
     requires { length (form_of line.now).coefficients ≡ width }
     ensures { IfOk result (λ made. option_map form_of made ≡ specs.raised number width (form_of line.now)) }
 {
@@ -87,14 +92,14 @@ fn row_by(
     match relation {
         Relation::Equal => row_between(alloc, true, left, right),
         Relation::Less => {
-            let less = raised(alloc, -1, width, right)?;
+            let less = line_and_number(alloc, -1, width, right)?;
             match less {
                 Some(less) => row_between(alloc, false, left, &less),
                 None => Ok(None),
             }
         }
         Relation::Greater => {
-            let more = raised(alloc, 1, width, right)?;
+            let more = line_and_number(alloc, 1, width, right)?;
             match more {
                 Some(more) => row_between(alloc, false, &more, left),
                 None => Ok(None),

@@ -19,6 +19,7 @@ pub(crate) enum Target {
     Behind,
 }
 
+/// Where the sides of a test lead.
 #[derive(Clone, Copy)]
 pub(crate) struct Sides {
     pub(crate) on_true: Target,
@@ -26,6 +27,7 @@ pub(crate) struct Sides {
 }
 
 impl Target {
+    /// To the location, or nowhere.
     pub(crate) fn to(location: Option<Loc>) -> Target
         ensures { target_of result ≡ specs.target (option_map location_of location) }
     {
@@ -36,7 +38,7 @@ impl Target {
     }
 
     /// Where it leads, where what stands behind is at this location.
-    fn settled(self, at: Loc) -> Option<Loc>
+    fn location(self, at: Loc) -> Option<Loc>
         ensures { option_map location_of result ≡ specs.settled at.0 (target_of self) }
     {
         match self {
@@ -117,8 +119,8 @@ fn step<'a>(
     let last = sides.pop();
     match last {
         Some(last) => {
-            let on_true = last.on_true.settled(at);
-            let on_false = last.on_false.settled(at);
+            let on_true = last.on_true.location(at);
+            let on_false = last.on_false.location(at);
             enter(operation, at, on_true, on_false, sides, parts)
         }
         None => Ok(at),

@@ -10,6 +10,7 @@ use c_check::{Assignment, Comparison, Condition, Instruction, Operation, TestOpe
 use std::alloc::{AllocError, Global};
 use thr_base::{Loc, MOST_LOCATIONS};
 
+/// Whether the operation reads what all threads share.
 fn is_shared(operation: Operation) -> bool
     ensures { result ≡ specs.is_shared operation }
 {
@@ -52,6 +53,7 @@ pub(crate) fn accesses_of(variable: Variable, reads: usize) -> usize
     }
 }
 
+/// How many locations an assignment has.
 pub(crate) fn assignment_size(assignment: &Assignment) -> usize
     ensures { result ≡ specs.assignment_size assignment.now }
 {
@@ -59,6 +61,7 @@ pub(crate) fn assignment_size(assignment: &Assignment) -> usize
     locations(accesses_of(assignment.variable, reads), reads)
 }
 
+/// How many locations a comparison has.
 pub(crate) fn comparison_size(comparison: &Comparison) -> usize
     ensures { result ≡ specs.comparison_size comparison.now }
 {
@@ -67,6 +70,7 @@ pub(crate) fn comparison_size(comparison: &Comparison) -> usize
     locations(left + right, left + right)
 }
 
+/// How many locations an operation of a test has.
 fn operation_size(operation: &TestOperation) -> usize
     ensures { result ≡ specs.operation_size operation.now }
 {
@@ -91,6 +95,7 @@ fn behind(at: u32, size: usize) -> Option<u32>
     }
 }
 
+/// The location behind a test, unless there are too many.
 fn behind_tests(at: u32, tests: &[TestOperation]) -> Option<u32>
     requires { at < most_locations }
     ensures { IsGrown result (at + specs.tests_size tests.now) }
@@ -105,6 +110,7 @@ fn behind_tests(at: u32, tests: &[TestOperation]) -> Option<u32>
     Some(end)
 }
 
+/// The location behind what is tested or chosen, unless there are too many.
 fn behind_condition(at: u32, condition: &Condition) -> Option<u32>
     requires { at < most_locations }
     ensures { IsGrown result (at + specs.stored_condition_size condition.now) }
@@ -115,6 +121,7 @@ fn behind_condition(at: u32, condition: &Condition) -> Option<u32>
     }
 }
 
+/// The location behind an instruction, unless there are too many.
 pub(crate) fn behind_instruction(at: u32, instruction: &Instruction) -> Option<u32>
     requires { at < most_locations }
     ensures { IsGrown result (at + specs.instruction_size instruction.now) }

@@ -9,7 +9,7 @@ ghost use Rattle.thread_cfg.specs.inside.Meant.{frame_of};
 
 use crate::frame::Frame;
 use crate::sums::{difference, number_line, product};
-use crate::temporaries::{next_temporary, replaced};
+use crate::temporaries::{next_temporary, over_temporary};
 use c_check::Operation;
 use std::alloc::{AllocError, Global};
 use transition_formula::Line;
@@ -75,7 +75,7 @@ pub(crate) fn line_of_operations(
     let mut stack = Vec::new(alloc);
     let mut next = first_temporary;
     'operations: for operation in operations {
-        let here = replaced(next, *operation);
+        let here = over_temporary(next, *operation);
         next = next_temporary(next, *operation);
         let made = line_after(alloc, columns, frame, here, &mut stack)?;
         match made {

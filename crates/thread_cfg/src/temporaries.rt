@@ -6,7 +6,7 @@ ghost use Rattle.thread_cfg.specs.inside.Machine as machine;
 use c_check::{Operation, Variable};
 
 /// The operation, on the next temporary where it reads a variable that all threads share.
-pub(crate) fn replaced(next: Option<usize>, operation: Operation) -> Operation
+pub(crate) fn over_temporary(next: Option<usize>, operation: Operation) -> Operation
     ensures { result ≡ machine.replaced next operation }
 {
     match (next, operation) {

@@ -103,4 +103,4 @@ tables-safe safe (with_predicates name program status text answers) done none = 
 pub tables-tell-safety : CoveredLeastIsSafe → TextsFailAlike → TablesTellSafety
 tables-tell-safety safe alike bytes tree program limits before after predicates status text is answers done none fails =
     let run = (alike bytes tree program is).1 fails in
-    tables-safe safe answers done none run.run run.last run.is_run run.fails
+    tables-safe safe answers done none run.0 run.1 run.2 run.3

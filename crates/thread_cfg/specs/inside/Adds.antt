@@ -27,9 +27,11 @@ pub record Adds (old new : Found) (refusals : List Refusal) (edges : List Edge) 
   pub refusal_is : (done : List Refusal) → old.refusal ≡ first_of done → new.refusal ≡ first_of (done ++ refusals)
   pub edges_are : refusals ≡ [] → map edge_of new.edges.items ≡ map edge_of old.edges.items ++ edges
 
+-- the refusal of a way on from a location
 abbrev pub way_refusals : Running → ℕ → Alternative → List Refusal
 way_refusals running at a = unfit (alternative_edge running.columns (frame_of running.frame) at a)
 
+-- the edge of a way on from a location
 abbrev pub way_edges : Running → ℕ → Alternative → List Edge
 way_edges running at a = edge_made (alternative_edge running.columns (frame_of running.frame) at a)
 
@@ -46,6 +48,7 @@ AddsActions running at old new actions =
 abbrev pub WaysWithin : Running → List Alternative → Type 0
 WaysWithin running ways = AllByRecursion (λ a. EventsWithin running.columns (frame_of running.frame) a.events) ways
 
+-- The actions read and set only columns that there are.
 abbrev pub AreWithin : Running → List Action → Type 0
 AreWithin running actions = ActionsWithin running.columns (frame_of running.frame) actions
 
@@ -59,9 +62,11 @@ pub record AddsReads (running : Running) (from : ℕ) (old new : Found) (first n
   pub at : next.at.0 ≡ first.at.0 + length vs
   pub temporary : next.temporary ≡ first.temporary + length vs
 
+-- the actions of a part, the first of which is at this location
 abbrev pub actions_of_part : Running → ℕ → Part → List Action
 actions_of_part running at p = part_actions (frame_of running.frame) running.temporary at p
 
+-- the actions of parts, the first of which is at this location
 abbrev pub actions_of_parts : Running → ℕ → List Part → List Action
 actions_of_parts running at ps = parts_actions (frame_of running.frame) running.temporary at ps
 

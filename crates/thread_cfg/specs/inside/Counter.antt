@@ -9,6 +9,7 @@ abbrev pub IsGrown : Option ℕ → ℕ → Type 0
 IsGrown None n = most_locations ≤ n
 IsGrown (Some at) n = (at ≡ n) × (n < most_locations)
 
+-- what the counter knows
 abbrev pub counted_of : Counter → Counted
 counted_of counter = record {
   at = counter.at;
@@ -22,6 +23,7 @@ abbrev pub IsCounted : Bool → Counted → Counted → Type 0
 IsCounted false now whole = most_locations ≤ whole.at
 IsCounted true now whole = (now ≡ whole) × (whole.at < most_locations)
 
+-- All is counted, or the locations are too many.
 abbrev pub IsCountOf : Option Counter → Counted → Type 0
 IsCountOf None whole = most_locations ≤ whole.at
 IsCountOf (Some counter) whole = (counted_of counter ≡ whole) × (whole.at < most_locations)

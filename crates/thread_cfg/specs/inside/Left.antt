@@ -20,6 +20,7 @@ compared_over temporary m a b = record {
   right = over_reads (temporary + length (shared_in a)) (compare_accesses a b) b;
 }
 
+-- what is left at the locations of a test, with its two sides and the rest
 abbrev pub test_left : ℕ → Test → Side → Side → Items → List Items
 test_left temporary (Test.Compare from m a b) t f rest =
     reads_left (compare_reads temporary a b) (Items.Then (Item.Branch (Some (compared_over temporary m a b)) t f) rest)
@@ -29,6 +30,7 @@ test_left temporary (Test.And u v) t f rest =
 test_left temporary (Test.Or u v) t f rest =
     test_left temporary u t (Side.Goes (branch (test_guard (Grain.Cut temporary) v) t f)) rest ++ test_left temporary v t f rest
 
+-- what is left at the locations of a condition
 abbrev pub condition_left : ℕ → Condition → Side → Side → Items → List Items
 condition_left temporary (Condition.Choice from) t f rest = Items.Then (Item.Branch None t f) rest ∷ []
 condition_left temporary (Condition.Tested from test) t f rest = test_left temporary test t f rest
@@ -43,6 +45,7 @@ round temporary c body last =
     joined (items (Grain.Cut temporary) body) (joined (items (Grain.Cut temporary) last) (one (again temporary c body last)))
 
 abbrev mutual
+  -- what is left at the locations of a statement, with the rest
   pub stmt_left : ℕ → Stmt → Items → List Items
   stmt_left temporary (Stmt.Assign from at v e) rest =
       reads_left (assign_reads temporary v e) (Items.Then (Item.Assign v (over_reads temporary (assign_accesses v e) e)) rest)
@@ -72,5 +75,6 @@ abbrev pub standing_in : List Items → ℕ → Option Standing
 standing_in lefts zero = Some Standing.Failed
 standing_in lefts (suc l) = option_map Standing.Doing (slice_get lefts l)
 
+-- what is left at a location of a thread
 abbrev pub standing_at : ℕ → Stmts → ℕ → Option Standing
 standing_at temporary body l = standing_in (left temporary body Items.End ++ Items.End ∷ []) l

@@ -15,14 +15,17 @@ use Rattle.thread_cfg.specs.Edge.{fitting_difference, fitting_product}
 
 -- ---- temporaries in place of what all threads share, the next of which has this number
 
+-- the operation, on the next temporary where it reads what all threads share
 abbrev pub replaced : Option ℕ → Operation → Operation
 replaced (Some next) (operation.Value (variable.Shared n)) = operation.Value (variable.Own next)
 replaced next o = o
 
+-- the number of the next temporary behind it
 abbrev pub next_temporary : Option ℕ → Operation → Option ℕ
 next_temporary (Some next) (operation.Value (variable.Shared n)) = Some (next + 1)
 next_temporary next o = next
 
+-- the operations, on temporaries
 abbrev pub relabelled : Option ℕ → List Operation → List Operation
 relabelled next [] = []
 relabelled next (o ∷ os) = replaced next o ∷ relabelled (next_temporary next o) os
@@ -54,6 +57,7 @@ ExpressionWithin n frame e = AllByRecursion (OperationWithin n frame) (operation
 abbrev pub on_top : List Form → Option Form → Option (List Form)
 on_top stack made = option_map (λ form. form ∷ stack) made
 
+-- what is made of the last form
 abbrev pub with_last : (Form → Option Form) → List Form → Option (List Form)
 with_last f [] = None
 with_last f (a ∷ stack) = on_top stack (f a)
@@ -64,6 +68,7 @@ with_last_two f [] = None
 with_last_two f (b ∷ []) = None
 with_last_two f (b ∷ (a ∷ stack)) = on_top stack (f a b)
 
+-- the forms behind an operation
 abbrev pub stack_after : ℕ → Frame → List Form → Operation → Option (List Form)
 stack_after columns frame stack (operation.Number k) = on_top stack (fitting_form (constant_form columns k))
 stack_after columns frame stack (operation.Value v) = on_top stack (Some (column_form columns (column_of frame v)))
@@ -72,10 +77,12 @@ stack_after columns frame stack operation.Add = with_last_two fitting_sum stack
 stack_after columns frame stack operation.Subtract = with_last_two fitting_difference stack
 stack_after columns frame stack operation.Multiply = with_last_two fitting_product stack
 
+-- the forms behind all operations
 abbrev pub stack_behind : ℕ → Frame → List Operation → List Form → Option (List Form)
 stack_behind columns frame [] stack = Some stack
 stack_behind columns frame (o ∷ os) stack = option_and_then (stack_behind columns frame os) (stack_after columns frame stack o)
 
+-- the last form
 abbrev pub last_of : List Form → Option Form
 last_of [] = None
 last_of (form ∷ stack) = Some form

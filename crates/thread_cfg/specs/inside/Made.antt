@@ -37,14 +37,17 @@ sets_seen p c (form ∷ forms) = if p c then (c, form) ∷ sets_seen p (c + 1) f
 abbrev pub some_sets : Frame → List StoredEvent → ℕ → Bool
 some_sets frame events c = list_any (held_event_sets frame c) events
 
+-- the edge of what is held behind all events, unless a row of it is false whatever the values
 abbrev pub edge_seen : Frame → ℕ → ℕ → List StoredEvent → Seen → Option Edge
 edge_seen frame from to events seen =
     if seen.never then None
     else Some (record { from = from; to = to; inputs = seen.inputs; tests = seen.tests.rows; sets = sets_seen (some_sets frame events) 0 seen.forms })
 
+-- what is held in front of all events
 abbrev pub seen_first : ℕ → ℕ → Seen
 seen_first width columns = record { forms = map (column_form width) (range_with_len 0 columns); inputs = 0; tests = record { columns = width; rows = [] }; never = false }
 
+-- the edge of events, perhaps none, or the place of what does not fit
 abbrev pub edge_held : ℕ → Frame → ℕ → ℕ → List StoredEvent → Result (Option Edge) ℕ
 edge_held columns frame from to events =
     let width = columns + inputs_in events in

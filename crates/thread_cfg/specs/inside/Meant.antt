@@ -10,6 +10,7 @@ use Rattle.thread_cfg.specs.declared.event.Event.TheVariants as stored
 use Rattle.thread_cfg.specs.Source.{Frame}
 use Rattle.thread_cfg.specs.Path.{Event}
 
+-- a thread among all columns, as it is held
 abbrev pub frame_of : StoredFrame → Frame
 frame_of frame = record { thread = frame.thread.0; first = frame.first; variables = frame.variables }
 

@@ -30,6 +30,7 @@ part_size (Part.Assign from at v e next) = length (assign_reads 0 v e) + 1
 part_size (Part.Compare from m a b t f) = length (compare_reads 0 a b) + 1
 part_size _ = 1
 
+-- how many locations parts have
 abbrev pub parts_size : List Part → ℕ
 parts_size [] = 0
 parts_size (p ∷ ps) = part_size p + parts_size ps
@@ -46,18 +47,21 @@ part_actions frame temporary at (Part.Lock from lock next) = lock_action frame f
 part_actions frame temporary at (Part.Unlock from lock next) = unlock_action frame from lock next ∷ []
 part_actions frame temporary at (Part.Block from inner next) = block_action from inner next ∷ []
 
+-- the actions of parts, the first of which is at this location
 abbrev pub parts_actions : Frame → ℕ → ℕ → List Part → List Action
 parts_actions frame temporary at [] = []
 parts_actions frame temporary at (p ∷ ps) = part_actions frame temporary at p ++ parts_actions frame temporary (at + part_size p) ps
 
 -- ---- the parts of statements, as their actions are
 
+-- the parts of a test, with the locations of its two sides
 abbrev pub test_parts : ℕ → Option ℕ → Option ℕ → Test → List Part
 test_parts at t f (Test.Compare from m a b) = Part.Compare from m a b t f ∷ []
 test_parts at t f (Test.Not u) = test_parts at f t u
 test_parts at t f (Test.And u v) = test_parts at (Some (at + test_size u)) f u ++ test_parts (at + test_size u) t f v
 test_parts at t f (Test.Or u v) = test_parts at t (Some (at + test_size u)) u ++ test_parts (at + test_size u) t f v
 
+-- the parts of a condition, with the locations of its two sides
 abbrev pub condition_parts : ℕ → ℕ → ℕ → Condition → List Part
 condition_parts at t f (Condition.Choice from) = Part.Choice from t f ∷ []
 condition_parts at t f (Condition.Tested from test) = test_parts at (Some t) (Some f) test
@@ -82,6 +86,7 @@ abbrev mutual
   stmt_parts exit out at next (Stmt.Assume from t) = test_parts at (Some next) None t
   stmt_parts exit out at next (Stmt.Atomic from inner) = Part.Block from inner next ∷ []
 
+  -- of statements
   pub parts : ℕ → ℕ → ℕ → ℕ → Stmts → List Part
   parts exit out at next Stmts.End = []
   parts exit out at next (Stmts.Then s rest) =
@@ -89,6 +94,7 @@ abbrev mutual
 
 -- ---- parts as a plan writes them down
 
+-- a part, its expressions as operations
 pub data Written : Type 0 where
   Assign : stored_assignment.Assignment → ℕ → Written
   AssignAny : ℕ → Variable → ℕ → Written
@@ -99,6 +105,7 @@ pub data Written : Type 0 where
   Unlock : ℕ → ℕ → ℕ → Written
   Block : ℕ → List Instruction → ℕ → Written
 
+-- how a part is written down
 abbrev pub written : Part → Written
 written (Part.Assign from at v e next) = Written.Assign (record { from = from; at = at; variable = v; value = postfix e }) next
 written (Part.AssignAny from v next) = Written.AssignAny from v next

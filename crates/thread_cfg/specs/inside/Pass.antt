@@ -24,10 +24,12 @@ settled at Target.Nowhere = None
 settled at (Target.At l) = Some l
 settled at Target.Behind = Some at
 
+-- a location, or nowhere
 abbrev pub target : Option ℕ → Target
 target None = Target.Nowhere
 target (Some l) = Target.At l
 
+-- where the two sides of a test lead
 pub record Sides : Type 0 where
   pub on_true : Target
   pub on_false : Target
@@ -50,6 +52,7 @@ tested_by test_operation.Or t f more s = record s {
   sides = record { on_true = target t; on_false = target f } ∷ (record { on_true = target t; on_false = Target.Behind } ∷ more);
 }
 
+-- the innermost of the tests that end there
 abbrev pub tested_with : TestOperation → List Sides → Testing → Testing
 tested_with o [] s = s
 tested_with o (sides ∷ more) s = tested_by o (settled s.at sides.on_true) (settled s.at sides.on_false) more s
@@ -58,6 +61,7 @@ tested_with o (sides ∷ more) s = tested_by o (settled s.at sides.on_true) (set
 abbrev pub tested : TestOperation → Testing → Testing
 tested o s = tested_with o s.sides s
 
+-- in front of all operations
 abbrev pub tested_all : List TestOperation → Testing → Testing
 tested_all [] s = s
 tested_all (o ∷ os) s = tested o (tested_all os s)
@@ -87,6 +91,7 @@ pub record Passed : Type 0 where
 abbrev pub with_part : ℕ → Written → Passed → Passed
 with_part count part s = record s { at = s.at - count; next = s.at - count; parts = part ∷ s.parts }
 
+-- what is known behind an instruction, with the location and the parts of a test in front
 abbrev pub behind_tests : Testing → Passed → Passed
 behind_tests t s = record s { at = t.at; next = t.at; parts = t.parts }
 
@@ -94,22 +99,27 @@ behind_tests t s = record s { at = t.at; next = t.at; parts = t.parts }
 abbrev pub with_test : List TestOperation → Option ℕ → Option ℕ → Passed → Passed
 with_test tests t f s = behind_tests (tested_all tests (record { at = s.at; sides = record { on_true = target t; on_false = target f } ∷ []; parts = s.parts })) s
 
+-- a condition, with its sides
 abbrev pub with_condition : stored_condition.Condition → ℕ → ℕ → Passed → Passed
 with_condition (stored.Choice from) t f s = with_part 1 (Written.Choice from t f) s
 with_condition (stored.Test from tests) t f s = with_test tests (Some t) (Some f) s
 
+-- at the end of the true side of the innermost choice
 abbrev pub passed_else : List Opened → Passed → Passed
 passed_else [] s = s
 passed_else (o ∷ os) s = record s { next = o.next; opened = record { next = o.next; other = s.next } ∷ os }
 
+-- in front of the innermost choice
 abbrev pub passed_if : stored_condition.Condition → List Opened → Passed → Passed
 passed_if c [] s = s
 passed_if c (o ∷ os) s = with_condition c s.next o.other (record s { opened = os })
 
+-- at the end of a loop, which leads to where it begins
 abbrev pub passed_end_loop : List ℕ → Passed → Passed
 passed_end_loop [] s = s
 passed_end_loop (l ∷ ls) s = record s { next = l; out = s.next; loops = ls; opened = record { next = s.next; other = s.out } ∷ s.opened }
 
+-- in front of the innermost loop
 abbrev pub passed_loop : stored_condition.Condition → List Opened → Passed → Passed
 passed_loop c [] s = s
 passed_loop c (o ∷ os) s = with_condition c s.next o.next (record s { opened = os; out = o.other })
@@ -144,6 +154,7 @@ passed_inside more (instruction.Atomic from) s = passed_atomic from more s
 passed_inside more instruction.EndAtomic s = record s { depth = suc (suc more); block = instruction.EndAtomic ∷ s.block }
 passed_inside more i s = record s { block = i ∷ s.block }
 
+-- outside or within
 abbrev pub passed_by : ℕ → ℕ → Instruction → Passed → Passed
 passed_by exit zero i s = passed_outside exit i s
 passed_by exit (suc more) i s = passed_inside more i s
@@ -152,6 +163,7 @@ passed_by exit (suc more) i s = passed_inside more i s
 abbrev pub passed : ℕ → Instruction → Passed → Passed
 passed exit i s = passed_by exit s.depth i s
 
+-- in front of all instructions
 abbrev pub passed_all : ℕ → List Instruction → Passed → Passed
 passed_all exit [] s = s
 passed_all exit (i ∷ is) s = passed exit i (passed_all exit is s)

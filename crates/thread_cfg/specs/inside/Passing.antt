@@ -12,9 +12,11 @@ use Rattle.thread_cfg.specs.declared.pass.Pass.{Pass}
 use Rattle.thread_cfg.specs.inside.Parts.{Written}
 use Rattle.thread_cfg.specs.inside.Pass.{Opened, Passed, Sides, Target, Testing}
 
+-- the number of a location
 abbrev pub location_of : Loc → ℕ
 location_of l = l.0
 
+-- a part as it is written down
 abbrev pub written_of : Part → Written
 written_of (part.Assign a next) = Written.Assign a.now next.0
 written_of (part.AssignAny from v next) = Written.AssignAny from v next.0
@@ -29,22 +31,27 @@ written_of (part.Block from inner next) = Written.Block from inner.now next.0
 abbrev pub parts_held : List Part → List Written
 parts_held parts = reverse (map written_of parts)
 
+-- where a side leads
 abbrev pub target_of : StoredTarget → Target
 target_of stored.Nowhere = Target.Nowhere
 target_of (stored.At l) = Target.At l.0
 target_of stored.Behind = Target.Behind
 
+-- where two sides lead
 abbrev pub sides_of : StoredSides → Sides
 sides_of sides = record { on_true = target_of sides.on_true; on_false = target_of sides.on_false }
 
+-- the sides of tests, of which the innermost is held last
 abbrev pub sides_held : List StoredSides → List Sides
 sides_held sides = reverse (map sides_of sides)
 
+-- what is known behind an operation
 abbrev pub testing_of : Loc → List StoredSides → List Part → Testing
 testing_of at sides parts = record { at = at.0; sides = sides_held sides; parts = parts_held parts }
 
 -- ---- of instructions
 
+-- what is known of one that is open
 abbrev pub opened_of : StoredOpened → Opened
 opened_of o = record { next = o.next.0; other = o.other.0 }
 
@@ -52,9 +59,11 @@ opened_of o = record { next = o.next.0; other = o.other.0 }
 abbrev pub opened_held : List StoredOpened → List Opened
 opened_held opened = reverse (map opened_of opened)
 
+-- locations, of which the last is held first
 abbrev pub locations_held : List Loc → List ℕ
 locations_held locations = reverse (map location_of locations)
 
+-- what is known behind an instruction, with those of the block that it is in
 abbrev pub passed_of : Pass → List Instruction → Passed
 passed_of pass block = record {
   at = pass.at.0;

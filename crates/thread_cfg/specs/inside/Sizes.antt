@@ -15,6 +15,7 @@ use Rattle.c_check.specs.declared.instruction.Instruction.TheVariants as instruc
 use Rattle.c_check.specs.Items.{few, written}
 use Rattle.thread_cfg.specs.inside.Parts.{Written}
 
+-- the operation reads what all threads share
 abbrev pub is_shared : Operation → Bool
 is_shared (operation.Value (variable.Shared n)) = true
 is_shared _ = false
@@ -28,6 +29,7 @@ abbrev pub shared_of : Operation → List Variable
 shared_of (operation.Value (variable.Shared n)) = variable.Shared n ∷ []
 shared_of _ = []
 
+-- those of all operations, from the left
 abbrev pub shared_variables : List Operation → List Variable
 shared_variables operations = flat_map shared_of operations
 
@@ -36,25 +38,31 @@ abbrev pub locations_by : Bool → ℕ → ℕ
 locations_by true count = 1
 locations_by false count = count + 1
 
+-- the number of locations of so many accesses, of which so many are reads
 abbrev pub locations : ℕ → ℕ → ℕ
 locations accesses count = locations_by (few accesses) count
 
+-- how many locations an assignment has
 abbrev pub assignment_size : Assignment → ℕ
 assignment_size a = locations (written a.variable (shared_operations a.value)) (shared_operations a.value)
 
+-- how many locations a comparison has
 abbrev pub comparison_size : Comparison → ℕ
 comparison_size c = locations (shared_operations c.left + shared_operations c.right) (shared_operations c.left + shared_operations c.right)
 
+-- how many locations an operation of a test has
 abbrev pub operation_size : TestOperation → ℕ
 operation_size (test_operation.Compare c) = comparison_size c
 operation_size test_operation.Not = 0
 operation_size test_operation.And = 0
 operation_size test_operation.Or = 0
 
+-- how many locations a test has
 abbrev pub tests_size : List TestOperation → ℕ
 tests_size [] = 0
 tests_size (o ∷ os) = operation_size o + tests_size os
 
+-- how many locations a condition has
 abbrev pub stored_condition_size : Condition → ℕ
 stored_condition_size (stored.Choice from) = 1
 stored_condition_size (stored.Test from tests) = tests_size tests
@@ -104,6 +112,7 @@ counted_inside more (instruction.Atomic from) s = record s { depth = suc (suc mo
 counted_inside more instruction.EndAtomic s = record s { depth = more }
 counted_inside more i s = s
 
+-- outside or within
 abbrev pub counted_by : ℕ → Instruction → Counted → Counted
 counted_by zero i s = counted_outside i s
 counted_by (suc more) i s = counted_inside more i s
@@ -112,6 +121,7 @@ counted_by (suc more) i s = counted_inside more i s
 abbrev pub counted : Counted → Instruction → Counted
 counted s i = counted_by s.depth i s
 
+-- behind all instructions
 abbrev pub counted_all : List Instruction → Counted → Counted
 counted_all [] s = s
 counted_all (i ∷ is) s = counted_all is (counted s i)
@@ -135,13 +145,16 @@ places_of test_operation.Not = []
 places_of test_operation.And = []
 places_of test_operation.Or = []
 
+-- the places of a test
 abbrev pub test_places : List TestOperation → List ℕ
 test_places tests = flat_map places_of tests
 
+-- the places of a condition
 abbrev pub condition_places : Condition → List ℕ
 condition_places (stored.Choice from) = from ∷ []
 condition_places (stored.Test from tests) = test_places tests
 
+-- the places of the instruction's own locations, outside atomic blocks
 abbrev pub instruction_places : Instruction → List ℕ
 instruction_places (instruction.Assign a) = replicate (assignment_size a) a.from
 instruction_places (instruction.AssignAny from v) = from ∷ []
@@ -171,6 +184,7 @@ abbrev pub places_at : ℕ → Instruction → List ℕ
 places_at zero i = instruction_places i
 places_at (suc more) i = []
 
+-- the places of all locations, with so many atomic blocks around the first instruction
 abbrev pub places_from : ℕ → List Instruction → List ℕ
 places_from depth [] = []
 places_from depth (i ∷ is) = places_at depth i ++ places_from (deeper depth i) is

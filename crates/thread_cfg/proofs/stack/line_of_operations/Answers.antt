@@ -25,7 +25,7 @@ operations-preserved c =
     sym (ap stack_of pushed ∙ stack_of-append c.line_after.new.stack.items c.in-Some.line) in
     let made : Some more ≡ stack_after n frame stack (replaced next o) =
     ap Some (sym top) ∙ ap (λ l. on_top (stack_of c.line_after.new.stack.items) (option_map form_of l)) (sym c.in-Some.is) ∙ c.in_ok-made.ensures
-    ∙ ap (stack_after n frame stack) c.replaced-here.ensures in
+    ∙ ap (stack_after n frame stack) c.over_temporary-here.ensures in
     let within = relabelled-next (OperationWithin n frame) next (drop i c.args.operations.now) rest o front c.operations.invariant.within in
     record {
       over = stack_after-over n frame stack more (replaced next o) (sym made) c.operations.invariant.over;
