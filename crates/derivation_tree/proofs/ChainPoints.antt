@@ -20,7 +20,7 @@ use Rattle.derivation_tree.proofs.Below.{thread-at, edge-at, root-home}
 use Rattle.derivation_tree.proofs.Shared.{HasEach, state-each, moments-each, before-each, length-own_after}
 use Rattle.derivation_tree.proofs.CaseRows.{left-out, named_over, inputs_at, moving_rows, own-rows, guar-rows, inter-rows}
 use Rattle.derivation_tree.proofs.Modular.{rows-last, rows-two, root-each}
-use Rattle.derivation_tree.proofs.Derivations.{Derives, init, own, guar, env, inter, derives-home, derived}
+use Rattle.derivation_tree.proofs.Derivations.{Derives, init, own, guar, env, inter, derives-home, tree-derives}
 
 -- ---- a step of the chain
 
@@ -145,5 +145,5 @@ pub full-points : FullPointsGiveChainPoints
 full-points program tree home is at (x, d, point) =
     let rows = rows_of (tree_nodes program share_all tree) in
     let v = coefficient_at (variables_of rows) x in
-    let met = chain-met program v d tree home (derived program tree home is at).derives 0 (root_moments program tree) (root-each program tree) (point-values rows x d point) in
+    let met = chain-met program v d tree home (tree-derives program tree home is at).derives 0 (root_moments program tree) (root-each program tree) (point-values rows x d point) in
     (map v (variables_of (chain_rows program tree)), d, values-point v d (chain_rows program tree) point.positive met)

@@ -37,7 +37,7 @@ use Rattle.derivation_tree.proofs.CaseRows.{values, inputs_at, named_over, movin
 use Rattle.derivation_tree.proofs.CasePoints.{StepVariables, to-edge, named-meet}
 use Rattle.derivation_tree.proofs.Solved.{step-known, told-known}
 use Rattle.derivation_tree.proofs.Modular.{root-each}
-use Rattle.derivation_tree.proofs.Derivations.{Derives, init, own, guar, env, inter, derives-home, derived}
+use Rattle.derivation_tree.proofs.Derivations.{Derives, init, own, guar, env, inter, derives-home, tree-derives}
 use Rattle.derivation_tree.proofs.ChainPoints.{shared-all, step-of, told-of}
 use Rattle.derivation_tree.proofs.TwoPremises.{two-of}
 
@@ -217,5 +217,5 @@ chain-points program tree i l z is_program is point =
     let v = coefficient_at (variables_of rows) z in
     let above = root_moments program tree in
     let met = point-values rows z (pos 1) (record { whole = point.whole; positive = omega (arith, ints); meets = AllByRecursion-weaken (λ row. Meets row z) (λ row. MeetsOver row z (pos 1)) (λ row h. MeetsOver-one row z h) (chain_system program tree).rows point.meets }) in
-    let runs = chain-runs program v is_program tree (State i l) (derived program tree (State i l) is_program is).derives i l 0 above refl (root-each program tree) met in
+    let runs = chain-runs program v is_program tree (State i l) (tree-derives program tree (State i l) is_program is).derives i l 0 above refl (root-each program tree) met in
     record { last = map v above.after; is_run = record { initial = runs.initial; lead = runs.lead }; there = runs.ends }

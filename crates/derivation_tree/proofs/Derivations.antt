@@ -45,11 +45,11 @@ pub record IsDerived (program : Program) (tree : Tree) (home : Home) : Type 0 wh
   pub derives : Derives program tree home
   pub there : IsHomeOf program home
 
-pub derived : (program : Program) (tree : Tree) (home : Home) → IsProgram program → IsTreeOf program tree home → IsDerived program tree home
-derived program (Init i) home is at =
+pub tree-derives : (program : Program) (tree : Tree) (home : Home) → IsProgram program → IsTreeOf program tree home → IsDerived program tree home
+tree-derives program (Init i) home is at =
     let (given, case, same) = targets-have-cases program (instance.Init i) home tt at in
     record { derives = init i given home case same; there = subst (IsHomeOf program) same (target-there program (instance.Init i) given is case) }
-derived program (Own f e) home is at = of (home_of program f) refl (λ h there. derived program f h is there) at
+tree-derives program (Own f e) home is at = of (home_of program f) refl (λ h there. tree-derives program f h is there) at
   where
     of : (o : Option Home) → home_of program f ≡ o → ((h : Home) → IsTreeOf program f h → IsDerived program f h) → target_at program (instance.Own f e) o None ≡ Some home → IsDerived program (Own f e) home
     of None found below leads = cc
@@ -57,7 +57,7 @@ derived program (Own f e) home is at = of (home_of program f) refl (λ h there. 
         let under = below h found in
         let (given, case, same) = targets-have-cases program (instance.Own (bare h) e) home (under.there, tt) leads in
         record { derives = own f e h given home under.derives case same; there = subst (IsHomeOf program) same (target-there program (instance.Own (bare h) e) given is case) }
-derived program (Guar f e) home is at = of (home_of program f) refl (λ h there. derived program f h is there) at
+tree-derives program (Guar f e) home is at = of (home_of program f) refl (λ h there. tree-derives program f h is there) at
   where
     of : (o : Option Home) → home_of program f ≡ o → ((h : Home) → IsTreeOf program f h → IsDerived program f h) → target_at program (instance.Guar f e) o None ≡ Some home → IsDerived program (Guar f e) home
     of None found below leads = cc
@@ -65,7 +65,7 @@ derived program (Guar f e) home is at = of (home_of program f) refl (λ h there.
         let under = below h found in
         let (given, case, same) = targets-have-cases program (instance.Guar (bare h) e) home (under.there, tt) leads in
         record { derives = guar f e h given home under.derives case same; there = subst (IsHomeOf program) same (target-there program (instance.Guar (bare h) e) given is case) }
-derived program (Env f t) home is at = of (home_of program f) (home_of program t) refl refl (λ h there. derived program f h is there) (λ h there. derived program t h is there) at
+tree-derives program (Env f t) home is at = of (home_of program f) (home_of program t) refl refl (λ h there. tree-derives program f h is there) (λ h there. tree-derives program t h is there) at
   where
     of : (o p : Option Home) → home_of program f ≡ o → home_of program t ≡ p → ((h : Home) → IsTreeOf program f h → IsDerived program f h) → ((h : Home) → IsTreeOf program t h → IsDerived program t h)
         → target_at program (instance.Env f t) o p ≡ Some home → IsDerived program (Env f t) home
@@ -76,7 +76,7 @@ derived program (Env f t) home is at = of (home_of program f) (home_of program t
         let side = beside k told in
         let (given, case, same) = targets-have-cases program (instance.Env (bare h) (bare k)) home (under.there, (side.there, tt)) leads in
         record { derives = env f t h k given home under.derives side.derives case same; there = subst (IsHomeOf program) same (target-there program (instance.Env (bare h) (bare k)) given is case) }
-derived program (Inter f g e) home is at = of (home_of program f) (home_of program g) refl refl (λ h there. derived program f h is there) (λ h there. derived program g h is there) at
+tree-derives program (Inter f g e) home is at = of (home_of program f) (home_of program g) refl refl (λ h there. tree-derives program f h is there) (λ h there. tree-derives program g h is there) at
   where
     of : (o p : Option Home) → home_of program f ≡ o → home_of program g ≡ p → ((h : Home) → IsTreeOf program f h → IsDerived program f h) → ((h : Home) → IsTreeOf program g h → IsDerived program g h)
         → target_at program (instance.Inter f g e) o p ≡ Some home → IsDerived program (Inter f g e) home

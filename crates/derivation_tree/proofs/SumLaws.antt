@@ -21,13 +21,13 @@ use Rattle.derivation_tree.specs.Nodes.{Sharing, Moments, Node, shared, own_afte
 use Rattle.derivation_tree.specs.System.{share_scope, share_all}
 use Rattle.derivation_tree.specs.Solution.{NodeRow, IsSolution}
 use Rattle.derivation_tree.specs.Sums.{pairs_within, home_coefficients, sums_of}
-use Rattle.derivation_tree.specs.Laws.{SumsAreSolutions, CutSumsAreModular}
+use Rattle.derivation_tree.specs.Laws.{SumsAreSolutions, CutSumsAreModular, ModularLessonsAreModular, FullLessonsAreNeeded}
 use Rattle.derivation_tree.proofs.Numbering.{variables-apart, variables-named}
 use Rattle.derivation_tree.proofs.Below.{root-home}
 use Rattle.derivation_tree.proofs.Shared.{Keeps, moments-each, before-each, state-keeps, Vanishes}
 use Rattle.derivation_tree.proofs.Solved.{IsHere}
-use Rattle.derivation_tree.proofs.Modular.{root-each}
-use Rattle.derivation_tree.proofs.Derivations.{Derives, init, own, guar, env, inter, derives-home, derived}
+use Rattle.derivation_tree.proofs.Modular.{root-each, cut-points}
+use Rattle.derivation_tree.proofs.Derivations.{Derives, init, own, guar, env, inter, derives-home, tree-derives}
 use Rattle.derivation_tree.proofs.Weights.{row_bound, total, total-product, total-bound, inside-true, order-signs, within-true}
 use Rattle.derivation_tree.proofs.Agree.{at_before-same, made-alike, size-positive}
 use Rattle.derivation_tree.proofs.Spread.{moments-columns, before-columns, own-stand}
@@ -162,7 +162,7 @@ sums-solve program share tree i l pairs is_program is refutes =
     let rows = rows_of all in
     let n = 0 + size_of tree in
     let above = root_moments program tree in
-    let h = (derived program tree (State i l) is_program is).derives in
+    let h = (tree-derives program tree (State i l) is_program is).derives in
     let placed = root-placed program share tree i l h in
     let sums = certificate-sums rows pairs refutes in
     let at = all-sums program share tree (State i l) h 0 above all [] [] pairs placed sums in
@@ -208,3 +208,20 @@ pub cut-sums-are-modular : CutSumsAreModular
 cut-sums-are-modular program tree i l pairs is_program is refutes =
     let (solution, here) = sums-solve program share_scope tree i l pairs is_program is refutes in
     (solution, AllByRecursion-weaken (IsHere program share_scope) (λ (at : NodeRow). IsModular program at.home at.row) (here-modular program) (sums_of (tree_nodes program share_scope tree) pairs) here)
+
+-- ---- what a tree teaches
+
+pub modular-lessons : ModularLessonsAreModular
+modular-lessons program tree i l predicates is_program is (within, taught) =
+    let (solution, modular) = cut-sums-are-modular program tree i l taught.pairs is_program is taught.refutes in
+    (record { rows = sums_of (tree_nodes program share_scope tree) taught.pairs; solution = solution; forms = taught.are_sums }, modular)
+
+pub full-lessons : FullLessonsAreNeeded
+full-lessons program tree i l predicates is_program is (within, point, wide, taught) = (
+  record {
+    rows = sums_of (tree_nodes program share_all tree) taught.pairs;
+    solution = sums-are-solutions program tree i l taught.pairs is_program is taught.refutes;
+    forms = taught.are_sums;
+  },
+  cut-points program tree point,
+)

@@ -1,16 +1,18 @@
 -- Laws of trees.
-use Rattle.std.specs.Prelude.{◌≡◌, ℕ, ℤ, pos, List, Some, slice_get}
+use Rattle.std.specs.Prelude.{◌≡◌, ℕ, ℤ, pos, List, flat_map, Some, slice_get}
 use Rattle.lin_rows.specs.System.{IsPoint}
 use Rattle.farkas_cert.specs.Cert.{Pairs, Refutes}
 use Rattle.transition_formula.specs.Program.{Program, Thread, IsProgram, IsThreadOf}
 use Rattle.transition_formula.specs.Run.{Run, IsRun}
 use Rattle.horn_rules.specs.Home.{Home, State}
+use Rattle.horn_rules.specs.Predicate.{Predicate}
+use Rattle.derivation_tree.specs.declared.scope.Scope.TheVariants.{Modular, Full}
 use Rattle.derivation_tree.specs.Facts.{KeptFact, home_at, AreKept}
 use Rattle.derivation_tree.specs.Tree.{Tree, tree_of, IsTreeOf}
 use Rattle.derivation_tree.specs.Nodes.{tree_nodes}
 use Rattle.derivation_tree.specs.System.{share_scope, share_all, cut_system, full_system, chain_system}
-use Rattle.derivation_tree.specs.Solution.{IsSolution, AreModular, HasSolution, HasModularSolution}
-use Rattle.derivation_tree.specs.Sums.{sums_of, HasRationalPoint}
+use Rattle.derivation_tree.specs.Solution.{NodeRow, IsSolution, AreModular, HasSolution, HasModularSolution}
+use Rattle.derivation_tree.specs.Sums.{sums_of, predicate_at, HasRationalPoint, IsTaught}
 use Rattle.derivation_tree.specs.Chain.{chain_run}
 
 -- The fact has a tree, which is one of the program and has the fact's home.
@@ -41,6 +43,22 @@ CutPointsHaveNoModularSolution = (program : Program) (tree : Tree) → HasRation
 -- One whose full system has one has no solution at all.
 abbrev pub FullPointsHaveNoSolution : Type 0
 FullPointsHaveNoSolution = (program : Program) (tree : Tree) → HasRationalPoint (full_system program tree) → ¬ HasSolution program tree
+
+-- The predicates are the normal forms of the rows of a solution of the tree.
+pub record IsOfSolution (program : Program) (tree : Tree) (predicates : List Predicate) : Type 0 where
+  pub rows : List NodeRow
+  pub solution : IsSolution program tree rows
+  pub forms : predicates ≡ flat_map (λ at. predicate_at at.home at.row) rows
+
+-- What a tree teaches by its cut system is of a modular solution.
+abbrev pub ModularLessonsAreModular : Type 0
+ModularLessonsAreModular = (program : Program) (tree : Tree) (i l : ℕ) (predicates : List Predicate) → IsProgram program → IsTreeOf program tree (State i l)
+    → IsTaught program tree Modular predicates → (lesson : IsOfSolution program tree predicates) × AreModular program lesson.rows
+
+-- What it teaches by its full system is of a solution, and then it has no modular one.
+abbrev pub FullLessonsAreNeeded : Type 0
+FullLessonsAreNeeded = (program : Program) (tree : Tree) (i l : ℕ) (predicates : List Predicate) → IsProgram program → IsTreeOf program tree (State i l)
+    → IsTaught program tree Full predicates → IsOfSolution program tree predicates × (¬ HasModularSolution program tree)
 
 -- Where a tree's full system has a rational point, so has that of its chain.
 abbrev pub FullPointsGiveChainPoints : Type 0

@@ -1,4 +1,4 @@
-ghost use Rattle.derivation_tree.specs.Laws.{ChainPointsAreRuns, CutPointsHaveNoModularSolution, CutSumsAreModular, FactsHaveTrees, FullPointsGiveChainPoints, FullPointsHaveNoSolution, SumsAreSolutions};
+ghost use Rattle.derivation_tree.specs.Laws.{ChainPointsAreRuns, CutPointsHaveNoModularSolution, CutSumsAreModular, FactsHaveTrees, FullLessonsAreNeeded, FullPointsGiveChainPoints, FullPointsHaveNoSolution, ModularLessonsAreModular, SumsAreSolutions};
 
 /// Each fact that is kept has a tree, which is one of the program and has the fact's home: a law, and no code.
 pub fn facts_have_trees()
@@ -17,6 +17,12 @@ pub fn sums_are_solutions()
 pub fn points_have_no_solution()
     ensures cut { CutPointsHaveNoModularSolution }
     ensures full { FullPointsHaveNoSolution }
+{}
+
+/// What a tree teaches is of a solution of it: a modular one, or else the tree has none that is modular: laws, and no code.
+pub fn lessons_are_of_solutions()
+    ensures modular { ModularLessonsAreModular }
+    ensures full { FullLessonsAreNeeded }
 {}
 
 /// Where a tree's full system has a rational point, so has that of its chain: a law, and no code.

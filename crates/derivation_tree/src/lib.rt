@@ -11,7 +11,7 @@ mod scope;
 pub use kept::Kept;
 pub use laws::{
     chain_points_are_runs, facts_have_trees, full_points_give_chain_points,
-    points_have_no_solution, sums_are_solutions,
+    lessons_are_of_solutions, points_have_no_solution, sums_are_solutions,
 };
 pub use left::{Left, LeftCause};
 pub use refutation::Refutation;
