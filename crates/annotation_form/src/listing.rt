@@ -10,7 +10,7 @@ ghost use Rattle.annotation_form.specs.Passes.{IsOfProgram};
 ghost use Rattle.annotation_form.specs.inside.Listing.{env_at, guar_at, instances_at, inter_at, own_at};
 
 use crate::annotation::Annotation;
-use horn_rules::{home_by_number, of_another, tells_another};
+use horn_rules::{named, of_another, tells_another};
 use std::alloc::{AllocError, Global};
 use thr_base::{EdgeNo, Fact, FactId, Home, Instance, Loc, RuleName, ThreadNo};
 use transition_formula::{Edge, Program};
@@ -268,7 +268,7 @@ fn homes_of(alloc: Global, program: &Program, facts: &[Fact]) -> Result<Vec<Home
 {
     let mut found = Vec::new(alloc);
     for fact in facts {
-        found.push(home_by_number(program, fact.home))?;
+        found.push(named(program, fact.home))?;
     }
     Ok(found)
 }

@@ -66,10 +66,10 @@ impl Table {
         requires home { HasHome self.old.homes fact.home.0 }
         requires premises { ArePremisesLive self.old.live kept }
         requires ids { self.old.given < 2 ^ 32 - 1 }
-        requires unmarked_facts { NoneIsMarked self.old.live }
+        requires unmarked { NoneIsMarked self.old.live }
         ensures answer { IsInsertAnswer self.old fact kept result self.new }
         ensures live { NamesLive result self.new.live }
-        ensures unmarked_facts { NoneIsMarked self.new.live }
+        ensures unmarked { NoneIsMarked self.new.live }
         ensures homes { self.new.homes ≡ self.old.homes }
         ensures given { self.new.given ≤ self.old.given + 1 }
     {
@@ -157,7 +157,7 @@ impl Table {
     pub fn sweep(&mut self) -> u32
         ensures live { self.new ≡ record self.old { live = unmarked_facts self.old.live } }
         ensures count { result + length self.new.live ≡ length self.old.live }
-        ensures unmarked_facts { NoneIsMarked self.new.live }
+        ensures unmarked { NoneIsMarked self.new.live }
     {
         let before = self.facts.len();
         keep_unmarked(&mut self.facts);

@@ -139,7 +139,7 @@ pub fn number(program: &Program, home: Home) -> HomeNo
 }
 
 /// The home of a number.
-pub fn home_by_number(program: &Program, n: HomeNo) -> Home
+pub fn named(program: &Program, n: HomeNo) -> Home
     requires { IsSome (at_number (homes program.now) n.0) }
     ensures { at_number (homes program.now) n.0 ≡ Some (home_of result) }
 {

@@ -6,7 +6,7 @@ ghost use Rattle.horn_rules.specs.Job.{ComesTo, IsJob, premise_says};
 ghost use Rattle.horn_rules.specs.Case.{Case};
 ghost use Rattle.horn_rules.specs.inside.JobRows.{IsAtSource, IsAtLocation, IsAtEdge, AreItsPremises, AreStepRows, AreEnvRows, AreInterRows, AreRowsOfKind, said_rows};
 
-use crate::homes::home_by_number;
+use crate::homes::named;
 use crate::premise::{push_held, push_location};
 use lin_rows::Rows;
 use predicate_sets::HomeSet;
@@ -41,7 +41,7 @@ fn location_of(program: &Program, premise: &Premise) -> (ThreadNo, Loc)
     requires { IsAtLocation program.now premise.now }
     ensures { at_number (homes program.now) premise.now.fact.home.0 ≡ Some (State result.0.0 result.1.0) }
 {
-    match home_by_number(program, premise.fact.home) {
+    match named(program, premise.fact.home) {
         Home::State(i, l) => (i, l),
         Home::Env(..) => unreachable!(),
     }
@@ -51,7 +51,7 @@ fn edge_of(program: &Program, premise: &Premise) -> (ThreadNo, EdgeNo)
     requires { IsAtEdge program.now premise.now }
     ensures { at_number (homes program.now) premise.now.fact.home.0 ≡ Some (Env result.0.0 result.1.0) }
 {
-    match home_by_number(program, premise.fact.home) {
+    match named(program, premise.fact.home) {
         Home::Env(i, e) => (i, e),
         Home::State(..) => unreachable!(),
     }

@@ -16,7 +16,7 @@ mod scope;
 mod worked;
 
 pub use home_text::push_home;
-pub use homes::{has_home, home_by_number, home_count, number};
+pub use homes::{has_home, named, home_count, number};
 pub use job::{Job, Premise, instance_rows};
 pub use laws::{
     atoms_are_placed, cases_are_unique, closed_sets_cover, facts_are_given, given_atoms_hold,

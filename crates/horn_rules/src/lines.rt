@@ -8,7 +8,7 @@ ghost use Rattle.horn_rules.specs.Table.{IsTable, IsTableOf, Precedes, fact_line
 ghost use Rattle.horn_rules.specs.inside.Lines.{fact_of_line};
 
 use crate::home_text::push_parts;
-use crate::homes::home_by_number;
+use crate::homes::named;
 use std::alloc::{AllocError, Global};
 use thr_base::{Fact, Home, positions_of, push_number};
 use transition_formula::Program;
@@ -74,7 +74,7 @@ fn line_of(alloc: Global, program: &Program, fact: &Fact) -> Result<Line, AllocE
     ensures { IfOk result (λ line. fact_of_line line ≡ fact_of program.now fact.now) }
 {
     Ok(Line {
-        home: home_by_number(program, fact.home),
+        home: named(program, fact.home),
         held: positions_of(alloc, fact.held)?,
     })
 }

@@ -20,7 +20,7 @@ fn there_and_back(program: &Program, n: u32) -> Option<(Home, HomeNo)> {
     if n > home_count(program) {
         return None;
     }
-    let home = home_by_number(program, HomeNo(n));
+    let home = named(program, HomeNo(n));
     Some((home, number(program, home)))
 }
 

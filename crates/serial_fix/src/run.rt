@@ -13,7 +13,7 @@ ghost use Rattle.serial_fix.specs.inside.Run.{EdgeIsSettled, GuarIsSettled, HasE
 
 use crate::found::Found;
 use crate::step::{Step, add};
-use horn_rules::{Premise, home_by_number, number};
+use horn_rules::{Premise, named, number};
 use predicate_sets::Sets;
 use std::alloc::AllocError;
 use thr_base::{EdgeNo, Fact, FactId, Home, Instance, Limits, Loc, ThreadNo};
@@ -39,7 +39,7 @@ pub(crate) fn nth(program: &Program, found: &Found, n: u32) -> Known
     Known {
         id: FactId(n + 1),
         fact,
-        home: home_by_number(program, fact.home),
+        home: named(program, fact.home),
     }
 }
 
