@@ -1,12 +1,11 @@
 -- Who holds and claims, and how much there is of each, after every legal history.
-use Rattle.std.proofs.Common.{◌≡◌, ◌≢◌, ◌⊎◌, ◌<◌, ◌≤◌, ◌+◌, ℕ, zero, suc, Bool, true, false, ◌||◌, List, [], ◌∷◌, length, Option, Some, None, refl, sym, ap, subst, ◌∙◌, inl, inr, arith}
+use Rattle.std.proofs.Common.{◌≡◌, ◌≢◌, ◌⊎◌, ◌<◌, ◌≤◌, ◌+◌, ℕ, suc, Bool, true, false, ◌||◌, List, [], ◌∷◌, length, Some, None, refl, sym, ap, subst, ◌∙◌, inl, inr, arith}
 use Rattle.std.specs.Prelude.{if◌then◌else◌}
 use Rattle.std.specs.List.{AllByRecursion}
 use Rattle.horn_rules.specs.Home.{Home}
 use Rattle.horn_rules.specs.Fact.{Fact}
-use Rattle.horn_rules.specs.Instance.{Instance}
 use Rattle.horn_rules.specs.Predicate.{Predicate}
-use Rattle.derivation_tree.specs.Facts.{KeptFact, target_among}
+use Rattle.derivation_tree.specs.Facts.{target_among}
 use Rattle.core_steps.specs.State.{Opening, State, Task, Hold, Claimed, IsWorker, IsFree, start_of, held_by, claimed_by, holds_without, claims_without}
 use Rattle.core_steps.specs.Event.{Event, Take, New, Same, Nothing, StalePublish, Claim, Refine, StaleRefine, Stop, StaleStop, History}
 use Rattle.core_steps.specs.Withdrawn.{remaining, loses}

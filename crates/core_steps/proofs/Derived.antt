@@ -1,8 +1,7 @@
 -- Live facts are derived, and what remains of them still is where homes that are not changed keep their predicates.
-use Rattle.std.proofs.Common.{◌≡◌, ◌≢◌, ◌⊎◌, ◌<◌, ◌≤◌, ℕ, zero, suc, Bool, true, false, not, ◌&&◌, List, [], ◌∷◌, map, Option, Some, None, refl, sym, ap, ap₂, subst, ◌∙◌, inl, inr, arith}
-use Rattle.std.specs.List.{AllByRecursion, Contains, list_any, list_all}
+use Rattle.std.proofs.Common.{◌≡◌, ℕ, Bool, true, false, not, List, [], ◌∷◌, map, refl, sym, ap, subst, ◌∙◌, inl, inr}
+use Rattle.std.specs.List.{AllByRecursion, Contains, list_all}
 use Rattle.thr_base.specs.declared.names.RuleName.{RuleName}
-use Rattle.lin_rows.specs.Row.{Row}
 use Rattle.lin_rows.proofs.Lists.{AllByRecursion-weaken}
 use Rattle.transition_formula.specs.Program.{Program}
 use Rattle.horn_rules.specs.Home.{Home}
@@ -10,13 +9,13 @@ use Rattle.horn_rules.specs.Fact.{Sets, Fact, Statement, statement_of, atoms_at}
 use Rattle.horn_rules.specs.Instance.{Instance, HasKind, premises_of, map_instance}
 use Rattle.horn_rules.specs.Case.{Case, IsCaseOf}
 use Rattle.horn_rules.specs.Post.{AreEntailed, IsFactOf}
-use Rattle.horn_rules.specs.Least.{Comes, IsDerivation, Least}
-use Rattle.horn_rules.proofs.Lists.{Contains-first, Contains-later, first-or-later, contains-nothing, all-contained, Contains-map, Contains-unmap}
+use Rattle.horn_rules.specs.Least.{IsDerivation, Least}
+use Rattle.horn_rules.proofs.Lists.{Contains-map}
 use Rattle.derivation_tree.specs.Facts.{KeptFact}
 use Rattle.core_steps.specs.Withdrawn.{has_id, stays, remaining}
 use Rattle.core_steps.specs.Allowed.{IsOver}
 use Rattle.core_steps.proofs.Tests.{tells, both, all-at, not-true}
-use Rattle.core_steps.proofs.Live.{Falls, remaining-from, remaining-home, remaining-at, all-unmap, all-mapped, map-map, map-same, kind-other}
+use Rattle.core_steps.proofs.Live.{Falls, remaining-home, remaining-at, all-unmap, all-mapped, map-map, map-same, kind-other}
 
 -- ---- lists
 

@@ -1,35 +1,27 @@
 -- Each event that is allowed keeps what is kept.
-use Rattle.std.proofs.Common.{◌≡◌, ◌≢◌, ◌⊎◌, ◌<◌, ◌≤◌, ◌+◌, ℕ, zero, suc, Bool, true, false, not, ◌&&◌, ◌||◌, List, [], ◌∷◌, map, length, Option, Some, None, refl, sym, ap, ap₂, subst, ◌∙◌, inl, inr, arith}
-use Rattle.std.specs.Prelude.{◌==◌, if◌then◌else◌, option_map, AllPairs}
-use Rattle.std.specs.Option.{option_and_then}
-use Rattle.std.specs.List.{AllByRecursion, Contains, All, list_any, list_all}
+use Rattle.std.proofs.Common.{◌≡◌, ◌≢◌, ◌<◌, ◌≤◌, ◌+◌, ℕ, false, List, ◌∷◌, map, Option, Some, None, refl, sym, ap, ap₂, subst, ◌∙◌, inl, inr, arith}
+use Rattle.std.specs.Prelude.{option_map}
+use Rattle.std.specs.List.{AllByRecursion, Contains}
 use Rattle.std.proofs.lemmas.List.Elements.{Contains-get_or}
 use Rattle.std.proofs.lemmas.List.Kept.{AllPairs-cons}
-use Rattle.lin_rows.specs.Row.{Row}
 use Rattle.lin_rows.proofs.Lists.{AllByRecursion-weaken}
-use Rattle.farkas_cert.specs.Cert.{IsRefuted}
 use Rattle.transition_formula.specs.Program.{Program}
 use Rattle.horn_rules.specs.Home.{Home}
-use Rattle.horn_rules.specs.Fact.{Sets, Fact}
-use Rattle.horn_rules.specs.Instance.{Instance, Init, Own, Guar, Env, Inter, HasKind, premises_of, map_instance}
-use Rattle.horn_rules.specs.Case.{Case, IsCaseOf}
+use Rattle.horn_rules.specs.Fact.{Fact}
+use Rattle.horn_rules.specs.Instance.{Instance, Init, Own, Guar, Env, Inter, premises_of, map_instance}
+use Rattle.horn_rules.specs.Case.{Case}
 use Rattle.horn_rules.specs.Post.{IsFactOf}
-use Rattle.horn_rules.specs.Predicate.{Predicate}
-use Rattle.horn_rules.specs.Stored.{same_home}
-use Rattle.horn_rules.specs.Target.{target_of, target_at}
-use Rattle.horn_rules.proofs.Lists.{Contains-first, Contains-later, first-or-later, contains-nothing, all-contained, Contains-map, Contains-unmap}
+use Rattle.horn_rules.specs.Target.{target_at}
+use Rattle.horn_rules.proofs.Lists.{Contains-first, Contains-later, first-or-later, all-contained, Contains-map}
 use Rattle.derivation_tree.specs.Facts.{KeptFact, fact_at, home_at, target_among}
-use Rattle.core_steps.specs.State.{Opening, State, Task, Hold, held_by, holds_without, claims_without}
-use Rattle.core_steps.specs.Withdrawn.{has_id, stays, remaining, loses}
+use Rattle.core_steps.specs.State.{Opening, State, Task, Hold, held_by, holds_without}
 use Rattle.core_steps.specs.Pending.{same_task, IsPending}
-use Rattle.core_steps.specs.Predicates.{with_predicate, with_predicates, is_changed}
-use Rattle.core_steps.specs.After.{with_job, with_published, with_fact, with_new, without_job}
+use Rattle.core_steps.specs.After.{with_job, with_published, with_fact, without_job}
 use Rattle.core_steps.specs.Allowed.{IsOver, IsLiveFact, IsTake, Posts, IsNewPublish, IsSamePublish, IsNothingPublish}
 use Rattle.core_steps.specs.Laws.{IsPosted}
-use Rattle.core_steps.proofs.Tests.{tells, true-false, none-at, not-false, neither, with-both, both, is-same_home, is-same_task}
-use Rattle.core_steps.proofs.Live.{Falls, fact_at-found, remaining-from, remaining-home, remaining-at, remaining-falls, target_among-premises}
-use Rattle.core_steps.proofs.Derived.{all-both, over-change, fact-change, AreDerived, remaining-derived}
-use Rattle.core_steps.proofs.Keeps.{IsAimed, WasTaken, Keeps, target-home, over-same, over-older, taken-later, taken-still, keeps-fewer, without-from, held_by-found}
+use Rattle.core_steps.proofs.Tests.{true-false, none-at, is-same_task}
+use Rattle.core_steps.proofs.Live.{Falls, fact_at-found, target_among-premises}
+use Rattle.core_steps.proofs.Keeps.{WasTaken, Keeps, over-same, over-older, taken-later, without-from, held_by-found}
 
 -- ---- a take
 

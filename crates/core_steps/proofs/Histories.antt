@@ -1,38 +1,27 @@
 -- What holds after every legal history.
-use Rattle.std.proofs.Common.{◌≡◌, ◌≢◌, ◌⊎◌, ◌<◌, ◌≤◌, ◌+◌, ℕ, zero, suc, Bool, true, false, List, [], ◌∷◌, map, Option, Some, None, refl, sym, ap, ap₂, subst, ◌∙◌, inl, inr, arith}
-use Rattle.std.specs.Prelude.{ℤ, AllPairs}
+use Rattle.std.proofs.Common.{◌≡◌, ◌<◌, ℕ, true, false, List, [], ◌∷◌, map, Some, refl, sym, ap, ap₂, subst, ◌∙◌, inl, inr}
 use Rattle.std.specs.List.{AllByRecursion, Contains, list_any}
 use Rattle.lin_rows.proofs.Lists.{AllByRecursion-weaken}
 use Rattle.thr_base.specs.declared.names.RuleName.{RuleName}
-use Rattle.lin_rows.specs.System.{IsPoint}
-use Rattle.farkas_cert.specs.Cert.{IsRefuted}
-use Rattle.farkas_cert.specs.Proof.{RefutedHasNoWholePoint}
 use Rattle.transition_formula.specs.Program.{Program}
-use Rattle.transition_formula.specs.Laws.{FailingRunsReach}
-use Rattle.horn_rules.specs.Home.{Home, State as AtLocation}
-use Rattle.horn_rules.specs.Fact.{Sets, Fact, Statement, AreSetsOf, statement_of}
+use Rattle.horn_rules.specs.Fact.{Sets, Fact, Statement, statement_of}
 use Rattle.horn_rules.specs.Instance.{Instance, Init, Own, Guar, Env, Inter, HasKind, premises_of, map_instance}
 use Rattle.horn_rules.specs.Case.{Case, IsCaseOf}
 use Rattle.horn_rules.specs.Post.{IsFactOf}
-use Rattle.horn_rules.specs.Least.{Least, LeastSays}
 use Rattle.horn_rules.specs.Laws.{HasWhatItGives}
-use Rattle.horn_rules.specs.Cover.{GivesFacts, NoRunFails, HasNoneFailing}
 use Rattle.horn_rules.specs.Target.{target_of}
 use Rattle.horn_rules.proofs.Posts.{facts-same}
-use Rattle.horn_rules.proofs.Derivations.{least-closed, least-smallest}
-use Rattle.horn_rules.proofs.Covering.{closed-least-covers, least-is-safe}
+use Rattle.horn_rules.proofs.Derivations.{least-smallest}
 use Rattle.horn_rules.proofs.Targets.{cases-have-their-target}
-use Rattle.horn_rules.proofs.Lists.{Contains-first, Contains-later, first-or-later, contains-nothing, all-contained, Contains-map, Contains-unmap}
-use Rattle.derivation_tree.specs.Facts.{KeptFact, fact_at, target_among}
-use Rattle.core_steps.specs.State.{Opening, State, Task, Hold, IsOpening}
-use Rattle.core_steps.specs.Event.{History}
-use Rattle.core_steps.specs.Pending.{same_task, is_done, is_held, IsPending, IsQuiet, IsClear}
+use Rattle.horn_rules.proofs.Lists.{Contains-later, first-or-later, contains-nothing, all-contained, Contains-unmap}
+use Rattle.derivation_tree.specs.Facts.{KeptFact, target_among}
+use Rattle.core_steps.specs.State.{Opening, State, Task, Hold}
+use Rattle.core_steps.specs.Pending.{same_task, is_done, is_held, IsQuiet}
 use Rattle.core_steps.specs.After.{after}
-use Rattle.core_steps.specs.Allowed.{IsOver, IsLiveFact}
-use Rattle.core_steps.specs.Legal.{IsLegal}
-use Rattle.core_steps.specs.Laws.{IsPostOfKept, LiveFactsArePosts, LiveFactsAreLeast, IsPosted, DoneInstancesArePosted, QuietStatesHaveTheLeastSet, ClearStatesAreSafe, NoJobIsPublishedTwice}
-use Rattle.core_steps.proofs.Tests.{tells, true-false, any-from, same_task-is}
-use Rattle.core_steps.proofs.Live.{Falls, found-fact_at, target_among-premises, map-map, kind-other}
+use Rattle.core_steps.specs.Allowed.{IsOver}
+use Rattle.core_steps.specs.Laws.{LiveFactsArePosts, LiveFactsAreLeast, IsPosted, DoneInstancesArePosted, QuietStatesHaveTheLeastSet, NoJobIsPublishedTwice}
+use Rattle.core_steps.proofs.Tests.{tells, any-from, same_task-is}
+use Rattle.core_steps.proofs.Live.{Falls, target_among-premises, map-map, kind-other}
 use Rattle.core_steps.proofs.Derived.{over-change, IsDerived, AreDerived, derived-least}
 use Rattle.core_steps.proofs.Keeps.{Keeps}
 use Rattle.core_steps.proofs.Refines.{keeps-legal}

@@ -1,31 +1,26 @@
 -- What each state of a legal history keeps.
-use Rattle.std.proofs.Common.{◌≡◌, ◌≢◌, ◌⊎◌, ◌<◌, ◌≤◌, ◌+◌, ℕ, zero, suc, Bool, true, false, not, ◌&&◌, ◌||◌, List, [], ◌∷◌, map, length, Option, Some, None, refl, sym, ap, ap₂, subst, ◌∙◌, inl, inr, arith}
-use Rattle.std.specs.Prelude.{◌==◌, if◌then◌else◌, option_map, AllPairs}
-use Rattle.std.specs.Option.{option_and_then}
-use Rattle.std.specs.List.{AllByRecursion, Contains, All, list_any, list_all, filter}
-use Rattle.std.proofs.lemmas.List.Elements.{Contains-get_or}
-use Rattle.std.proofs.lemmas.List.Kept.{AllPairs-cons}
+use Rattle.std.proofs.Common.{◌≡◌, ◌≢◌, ◌≤◌, ◌+◌, ℕ, Bool, not, List, [], ◌∷◌, Some, refl, sym, ap, subst, ◌∙◌, inl, inr, arith}
+use Rattle.std.specs.Prelude.{◌==◌, AllPairs}
+use Rattle.std.specs.List.{AllByRecursion, Contains}
 use Rattle.lin_rows.proofs.Lists.{AllByRecursion-weaken}
-use Rattle.farkas_cert.specs.Cert.{IsRefuted}
 use Rattle.transition_formula.specs.Program.{Program}
 use Rattle.horn_rules.specs.Home.{Home}
-use Rattle.horn_rules.specs.Fact.{Sets, Fact, Statement, statement_of}
-use Rattle.horn_rules.specs.Instance.{Instance, Init, Own, Guar, Env, Inter, HasKind, premises_of, map_instance}
+use Rattle.horn_rules.specs.Fact.{Sets, Statement, statement_of}
+use Rattle.horn_rules.specs.Instance.{Instance, HasKind, premises_of, map_instance}
 use Rattle.horn_rules.specs.Case.{Case, IsCaseOf}
-use Rattle.horn_rules.specs.Post.{IsFactOf}
-use Rattle.horn_rules.specs.Target.{target_of, target_at}
+use Rattle.horn_rules.specs.Target.{target_of}
 use Rattle.horn_rules.proofs.Cases.{cases-unique}
 use Rattle.horn_rules.proofs.Targets.{cases-have-their-target}
-use Rattle.horn_rules.proofs.Lists.{Contains-first, Contains-later, first-or-later, contains-nothing, all-contained, Contains-map, Contains-unmap}
+use Rattle.horn_rules.proofs.Lists.{Contains-first, Contains-later, first-or-later, contains-nothing}
 use Rattle.horn_rules.proofs.InstanceLists.{eq-is, is-eq}
-use Rattle.derivation_tree.specs.Facts.{KeptFact, fact_at, home_at, target_among}
+use Rattle.derivation_tree.specs.Facts.{KeptFact}
 use Rattle.core_steps.specs.State.{Opening, State, Task, Hold, held_by, holds_without, start_of}
-use Rattle.core_steps.specs.Withdrawn.{has_id, stays, remaining, loses}
-use Rattle.core_steps.specs.Allowed.{IsOver, IsLiveFact}
+use Rattle.core_steps.specs.Withdrawn.{remaining}
+use Rattle.core_steps.specs.Allowed.{IsOver}
 use Rattle.core_steps.specs.Laws.{IsPosted}
-use Rattle.core_steps.proofs.Tests.{tells, true-false, both, any-at, none-at, filter-from, not-true, not-false, neither, with-both, is-same_home, is-same_task}
-use Rattle.core_steps.proofs.Live.{Falls, fact_at-found, remaining-from, remaining-home, remaining-at, remaining-falls, has_id-at, all-unmap, all-mapped, map-map, map-same, premises-same, target_among-premises}
-use Rattle.core_steps.proofs.Derived.{all-both, over-change, fact-change, AreDerived, remaining-derived}
+use Rattle.core_steps.proofs.Tests.{tells, true-false, filter-from, not-true}
+use Rattle.core_steps.proofs.Live.{Falls, remaining-from, all-mapped, map-map, premises-same}
+use Rattle.core_steps.proofs.Derived.{all-both, AreDerived}
 
 -- Among live facts the task's instance leads to its home alone.
 abbrev pub IsAimed : Program → List KeptFact → Task → Type 0

@@ -10,3 +10,16 @@ pub mod Withdrawals
 pub mod Workers
 pub mod Counts
 pub mod Reserve
+pub mod TableFacts
+pub mod Waits
+pub mod PartsKept
+pub mod PremiseFacts
+pub mod KeptEvents
+pub mod Choices
+pub mod KeptPublishes
+pub mod Agreements
+pub mod QuietFacts
+pub mod WhatLooksTell
+pub mod TakeAnswers
+pub mod PublishAnswers
+pub mod FactsAdded

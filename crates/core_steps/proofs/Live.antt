@@ -1,26 +1,20 @@
 -- Live facts: ids that fall along the list, each fact the post of its kept instance over those behind it.
-use Rattle.std.proofs.Common.{◌≡◌, ◌≢◌, ◌⊎◌, ◌<◌, ◌≤◌, ℕ, zero, suc, Bool, true, false, not, ◌&&◌, List, [], ◌∷◌, map, Option, Some, None, refl, sym, ap, ap₂, subst, ◌∙◌, inl, inr, arith}
+use Rattle.std.proofs.Common.{◌≡◌, ◌<◌, ℕ, Bool, true, false, not, List, [], ◌∷◌, Option, Some, None, refl, sym, ap, ap₂, subst, ◌∙◌, inl, inr, arith}
 use Rattle.std.specs.Prelude.{◌==◌, if◌then◌else◌, option_map}
-use Rattle.std.specs.Option.{option_and_then}
-use Rattle.std.specs.List.{AllByRecursion, Contains, list_any, list_all}
+use Rattle.std.specs.List.{AllByRecursion, Contains, list_all}
 use Rattle.thr_base.specs.declared.names.RuleName.{RuleName}
 use Rattle.thr_base.specs.declared.names.RuleName.TheVariants.{Rg, Og}
-use Rattle.lin_rows.specs.Row.{Row}
 use Rattle.lin_rows.proofs.Lists.{AllByRecursion-weaken}
 use Rattle.transition_formula.specs.Program.{Program}
 use Rattle.horn_rules.specs.Home.{Home}
-use Rattle.horn_rules.specs.Fact.{Sets, Fact, Statement, statement_of}
+use Rattle.horn_rules.specs.Fact.{Fact}
 use Rattle.horn_rules.specs.Instance.{Instance, Init, Own, Guar, Env, Inter, HasKind, premises_of, map_instance}
-use Rattle.horn_rules.specs.Case.{Case, IsCaseOf}
-use Rattle.horn_rules.specs.Post.{IsFactOf}
-use Rattle.horn_rules.specs.Least.{Comes, IsDerivation, Least}
 use Rattle.horn_rules.specs.Target.{target_of, target_at}
-use Rattle.horn_rules.proofs.Lists.{Contains-first, Contains-later, first-or-later, contains-nothing, all-contained, Contains-map, Contains-unmap}
+use Rattle.horn_rules.proofs.Lists.{Contains-first, Contains-later, first-or-later, contains-nothing, all-contained}
 use Rattle.horn_rules.proofs.InstanceLists.{eq-is, is-eq}
-use Rattle.derivation_tree.specs.Facts.{KeptFact, fact_at, home_at, target_among}
+use Rattle.derivation_tree.specs.Facts.{KeptFact, fact_at, target_among}
 use Rattle.core_steps.specs.Withdrawn.{has_id, stays, remaining}
-use Rattle.core_steps.specs.Allowed.{IsOver}
-use Rattle.core_steps.proofs.Tests.{tells, true-false, both, any-from, any-at, all-at, not-true}
+use Rattle.core_steps.proofs.Tests.{tells, both, any-from, any-at, not-true}
 
 -- ---- ids
 

@@ -1,14 +1,12 @@
 -- A refine keeps what is kept, and a history that is legal does.
-use Rattle.std.proofs.Common.{◌≡◌, ◌≢◌, ◌⊎◌, ◌<◌, ◌≤◌, ◌+◌, ℕ, zero, suc, Bool, true, false, not, ◌&&◌, ◌||◌, List, [], ◌∷◌, map, length, Option, Some, None, refl, sym, ap, ap₂, subst, ◌∙◌, inl, inr, arith}
-use Rattle.std.specs.Prelude.{◌==◌, if◌then◌else◌}
-use Rattle.std.specs.List.{AllByRecursion, Contains, list_any}
-use Rattle.lin_rows.specs.Row.{Row}
+use Rattle.std.proofs.Common.{◌≡◌, ◌≤◌, ℕ, suc, Bool, true, false, not, ◌&&◌, ◌||◌, List, [], ◌∷◌, map, refl, sym, ap, subst, ◌∙◌, inl, inr, arith}
+use Rattle.std.specs.Prelude.{if◌then◌else◌}
+use Rattle.std.specs.List.{AllByRecursion, Contains}
 use Rattle.lin_rows.proofs.Lists.{AllByRecursion-weaken}
 use Rattle.horn_rules.specs.Home.{Home}
 use Rattle.horn_rules.specs.Fact.{Sets, Fact}
 use Rattle.horn_rules.specs.Instance.{premises_of}
 use Rattle.horn_rules.specs.Case.{Case}
-use Rattle.horn_rules.specs.Post.{IsFactOf}
 use Rattle.horn_rules.specs.Predicate.{Predicate}
 use Rattle.horn_rules.specs.Stored.{same_home}
 use Rattle.horn_rules.proofs.Lists.{Contains-map, Contains-unmap}
@@ -18,13 +16,13 @@ use Rattle.core_steps.specs.Event.{Event, Take, New, Same, Nothing, StalePublish
 use Rattle.core_steps.specs.Withdrawn.{has_id, remaining, loses}
 use Rattle.core_steps.specs.Predicates.{with_predicate, with_predicates, is_changed}
 use Rattle.core_steps.specs.After.{with_new, effect, after}
-use Rattle.core_steps.specs.Allowed.{IsOver, IsLiveFact, Suits}
+use Rattle.core_steps.specs.Allowed.{IsOver, Suits}
 use Rattle.core_steps.specs.Legal.{IsLegal}
 use Rattle.core_steps.specs.Laws.{IsPosted}
-use Rattle.core_steps.proofs.Tests.{tells, true-false, none-at, not-false, neither, with-both, is-same_home}
+use Rattle.core_steps.proofs.Tests.{tells, true-false, none-at, neither, with-both, is-same_home}
 use Rattle.core_steps.proofs.Live.{Falls, remaining-from, remaining-home, remaining-at, remaining-falls, all-remaining}
 use Rattle.core_steps.proofs.Derived.{over-change, fact-change, remaining-derived}
-use Rattle.core_steps.proofs.Keeps.{WasTaken, Keeps, target-home, taken-still, keeps-start, keeps-fewer, without-from}
+use Rattle.core_steps.proofs.Keeps.{Keeps, target-home, taken-still, keeps-start, keeps-fewer, without-from}
 use Rattle.core_steps.proofs.Events.{keeps-take, keeps-new, keeps-same, keeps-nothing}
 
 -- a home of no new predicate keeps its predicates

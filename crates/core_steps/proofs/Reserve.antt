@@ -1,26 +1,26 @@
 -- How many events a legal history has at most. What is dropped was held or claimed when a refine, or a stop, made it stale.
-use Rattle.std.proofs.Common.{◌≡◌, ◌≢◌, ◌⊎◌, ◌<◌, ◌≤◌, ◌+◌, ◌*◌, ℕ, zero, suc, Bool, true, false, not, ◌&&◌, ◌||◌, List, [], ◌∷◌, map, length, Option, Some, None, refl, sym, ap, ap₂, subst, ◌∙◌, inl, inr, arith}
-use Rattle.std.specs.Prelude.{◌==◌, if◌then◌else◌}
-use Rattle.std.specs.List.{AllByRecursion, Contains, list_any, list_all, filter}
+use Rattle.std.proofs.Common.{◌≡◌, ◌⊎◌, ◌<◌, ◌≤◌, ◌+◌, ◌*◌, ℕ, suc, Bool, true, false, not, ◌&&◌, List, [], ◌∷◌, length, Option, Some, None, refl, sym, ap, subst, ◌∙◌, inl, inr, arith}
+use Rattle.std.specs.Prelude.{◌==◌}
+use Rattle.std.specs.List.{AllByRecursion, Contains, list_all, filter}
 use Rattle.std.proofs.Math.Nat.{mul-suc, mul-le-mul_left}
 use Rattle.lin_rows.proofs.Lists.{AllByRecursion-weaken}
 use Rattle.horn_rules.specs.Home.{Home}
-use Rattle.horn_rules.specs.Instance.{Instance, premises_of, map_instance}
-use Rattle.horn_rules.proofs.Lists.{Contains-first, Contains-later, first-or-later, contains-nothing, all-contained}
-use Rattle.horn_rules.proofs.InstanceLists.{eq-is, is-eq}
+use Rattle.horn_rules.specs.Instance.{Instance, premises_of}
+use Rattle.horn_rules.proofs.Lists.{first-or-later, contains-nothing}
+use Rattle.horn_rules.proofs.InstanceLists.{is-eq}
 use Rattle.derivation_tree.specs.Facts.{KeptFact, target_among}
-use Rattle.core_steps.specs.State.{Opening, State, Reason, Task, Hold, Claimed, start_of, held_by, claimed_by, holds_without, claims_without}
+use Rattle.core_steps.specs.State.{Opening, State, Reason, Task, Hold, Claimed, held_by, holds_without, claims_without}
 use Rattle.core_steps.specs.Event.{Event, Take, New, Same, Nothing, StalePublish, Claim, Refine, StaleRefine, Stop, StaleStop, History}
 use Rattle.core_steps.specs.Withdrawn.{has_id}
 use Rattle.core_steps.specs.Pending.{IsPending, is_present}
-use Rattle.core_steps.specs.After.{with_job, with_published, with_fact, with_new, without_job, without_claim, without_any, effect, after}
-use Rattle.core_steps.specs.Allowed.{Allows, Suits, IsTake, IsClaim, DropsJob, DropsClaim}
+use Rattle.core_steps.specs.After.{with_job, with_published, with_fact, without_job, without_claim, without_any, effect, after}
+use Rattle.core_steps.specs.Allowed.{Allows, DropsJob, DropsClaim}
 use Rattle.core_steps.specs.Legal.{IsLegal}
-use Rattle.core_steps.specs.Laws.{PublishesAreFew, HistoriesAreShort, most_events}
+use Rattle.core_steps.specs.Laws.{PublishesAreFew, HistoriesAreShort}
 use Rattle.core_steps.proofs.Tests.{tells, true-false, both, with-both}
 use Rattle.core_steps.proofs.Live.{all-unmap, fact_at-found, has_id-at}
 use Rattle.core_steps.proofs.Events.{leads-found}
-use Rattle.core_steps.proofs.Workers.{held_by-is, claimed_by-is, by_worker-found, without, length-without, length-gone, length-but-one}
+use Rattle.core_steps.proofs.Workers.{held_by-is, claimed_by-is, by_worker-found, length-without, length-gone, length-but-one}
 use Rattle.core_steps.proofs.Counts.{Counts, holder, claimer, few-holds, few-claims, counts-legal}
 
 pub publishes-few : PublishesAreFew

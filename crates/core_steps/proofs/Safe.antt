@@ -1,24 +1,20 @@
 -- Homes have predicates of the program, and in a clear state no run fails.
-use Rattle.std.proofs.Common.{◌≡◌, ◌≢◌, ◌⊎◌, ℕ, zero, suc, Bool, true, false, List, [], ◌∷◌, ◌++◌, map, Option, Some, None, refl, sym, ap, subst, ◌∙◌, inl, inr}
-use Rattle.std.specs.Prelude.{ℤ, if◌then◌else◌}
+use Rattle.std.proofs.Common.{◌≡◌, ℕ, List, [], ◌∷◌, ◌++◌, map, Option, Some, None, refl, sym, ap, subst, ◌∙◌, inl, inr}
 use Rattle.std.specs.List.{AllByRecursion, Contains}
 use Rattle.lin_rows.specs.Row.{Row}
-use Rattle.lin_rows.specs.System.{IsPoint}
 use Rattle.lin_rows.proofs.Lists.{AllByRecursion-append, AllByRecursion-weaken}
 use Rattle.predicate_sets.specs.HomeSet.{Lacks}
 use Rattle.predicate_sets.proofs.Atoms.{AreDistinct-append}
 use Rattle.farkas_cert.proofs.Refutations.{refuted-has-no-whole-point}
 use Rattle.transition_formula.specs.Program.{Program}
 use Rattle.transition_formula.proofs.Runs.{failing-runs}
-use Rattle.horn_rules.specs.Home.{Home, State as AtLocation}
-use Rattle.horn_rules.specs.Fact.{Sets, Fact, IsAtomOf, IsSetOf, AreSetsOf, Statement, statement_of}
-use Rattle.horn_rules.specs.Instance.{Instance, HasKind, premises_of, map_instance}
-use Rattle.horn_rules.specs.Case.{Case, IsCaseOf}
-use Rattle.horn_rules.specs.Post.{IsFactOf}
-use Rattle.horn_rules.specs.Least.{Least, LeastSays}
+use Rattle.horn_rules.specs.Home.{Home}
+use Rattle.horn_rules.specs.Fact.{Sets, Fact, IsAtomOf, IsSetOf, AreSetsOf, Statement}
+use Rattle.horn_rules.specs.Instance.{Instance, premises_of}
+use Rattle.horn_rules.specs.Least.{Least}
 use Rattle.horn_rules.specs.Predicate.{Predicate, IsPredicateOf}
 use Rattle.horn_rules.specs.Stored.{same_home}
-use Rattle.horn_rules.specs.Cover.{GivesFacts, NoRunFails}
+use Rattle.horn_rules.specs.Cover.{GivesFacts}
 use Rattle.horn_rules.proofs.Derivations.{least-closed}
 use Rattle.horn_rules.proofs.Covering.{closed-least-covers, least-is-safe}
 use Rattle.horn_rules.proofs.Lists.{Contains-first, Contains-later, Contains-unmap}
@@ -31,13 +27,12 @@ use Rattle.core_steps.specs.State.{Opening, State, Task, IsOpening, held_by}
 use Rattle.core_steps.specs.Event.{Event, Take, New, Same, Nothing, StalePublish, Claim, Refine, StaleRefine, Stop, StaleStop, History}
 use Rattle.core_steps.specs.Predicates.{with_predicate, with_predicates, AreNew, none, known, added}
 use Rattle.core_steps.specs.After.{with_job, with_published, with_fact, effect, after}
-use Rattle.core_steps.specs.Allowed.{IsRefine, Suits}
+use Rattle.core_steps.specs.Allowed.{Suits}
 use Rattle.core_steps.specs.Legal.{IsLegal}
-use Rattle.core_steps.specs.Pending.{IsQuiet, IsClear}
+use Rattle.core_steps.specs.Pending.{IsQuiet}
 use Rattle.core_steps.specs.Laws.{ClearStatesAreSafe}
 use Rattle.core_steps.proofs.Tests.{tells, same_home-is}
 use Rattle.core_steps.proofs.Live.{found-fact_at}
-use Rattle.core_steps.proofs.Keeps.{Keeps}
 use Rattle.core_steps.proofs.Refines.{keeps-legal}
 use Rattle.core_steps.proofs.Histories.{quiet-posted, quiet-least}
 

@@ -1,5 +1,5 @@
 -- What remains where homes change is exactly what is not withdrawn.
-use Rattle.std.proofs.Common.{◌≡◌, ◌⊎◌, ℕ, zero, suc, Bool, true, false, not, ◌&&◌, List, [], ◌∷◌, refl, sym, ap, subst, ◌∙◌, inl, inr}
+use Rattle.std.proofs.Common.{◌≡◌, ℕ, Bool, true, false, not, List, [], ◌∷◌, refl, sym, subst, inl, inr}
 use Rattle.std.specs.List.{AllByRecursion, Contains, list_all}
 use Rattle.lin_rows.proofs.Lists.{AllByRecursion-weaken}
 use Rattle.thr_base.specs.declared.names.RuleName.{RuleName}
@@ -12,7 +12,7 @@ use Rattle.derivation_tree.specs.Facts.{KeptFact}
 use Rattle.core_steps.specs.Withdrawn.{IsWithdrawn, at_home, rests, has_id, stays, remaining}
 use Rattle.core_steps.specs.After.{after}
 use Rattle.core_steps.specs.Laws.{WhatRemainsIsNotWithdrawn}
-use Rattle.core_steps.proofs.Tests.{tells, true-false, both, with-both, any-at, any-from, all-at}
+use Rattle.core_steps.proofs.Tests.{tells, true-false, both, with-both, all-at}
 use Rattle.core_steps.proofs.Live.{Falls, one-id, has_id-from, has_id-at, remaining-from, remaining-home}
 use Rattle.core_steps.proofs.Derived.{AreDerived}
 use Rattle.core_steps.proofs.Refines.{keeps-legal}

@@ -1,10 +1,10 @@
 -- Lists in which each worker stands once at most.
-use Rattle.std.proofs.Common.{◌≡◌, ◌≢◌, ◌⊎◌, ◌<◌, ◌≤◌, ◌+◌, ℕ, zero, suc, Bool, true, false, not, List, [], ◌∷◌, length, Option, Some, None, refl, sym, ap, subst, ◌∙◌, inl, inr, arith}
+use Rattle.std.proofs.Common.{◌≡◌, ◌≢◌, ◌⊎◌, ◌<◌, ◌≤◌, ◌+◌, ℕ, zero, suc, true, false, not, List, [], ◌∷◌, length, Option, Some, None, refl, sym, ap, subst, ◌∙◌, inl, inr, arith}
 use Rattle.std.specs.Prelude.{◌==◌, if◌then◌else◌}
 use Rattle.std.specs.List.{AllByRecursion, Contains, filter}
 use Rattle.horn_rules.proofs.Lists.{Contains-first, Contains-later, first-or-later, contains-nothing, all-contained}
 use Rattle.horn_rules.proofs.InstanceLists.{eq-is, is-eq}
-use Rattle.core_steps.specs.State.{Task, Hold, Claimed, held_by, claimed_by, holds_without, claims_without}
+use Rattle.core_steps.specs.State.{Hold, Claimed, held_by, claimed_by, holds_without, claims_without}
 use Rattle.core_steps.proofs.Tests.{tells}
 
 -- what stands first with this number

@@ -1,11 +1,11 @@
 -- What each event does, and the state that a history leaves.
-use Rattle.std.specs.Prelude.{ℕ, suc, ◌+◌, ◌||◌, Bool, if◌then◌else◌, List, [], ◌∷◌, Option, Some, None}
+use Rattle.std.specs.Prelude.{ℕ, suc, ◌||◌, if◌then◌else◌, List, [], ◌∷◌, Option, Some, None}
 use Rattle.horn_rules.specs.Home.{Home}
 use Rattle.horn_rules.specs.Fact.{Fact}
 use Rattle.horn_rules.specs.Instance.{Instance}
 use Rattle.horn_rules.specs.Predicate.{Predicate}
-use Rattle.derivation_tree.specs.Facts.{KeptFact, target_among}
-use Rattle.core_steps.specs.State.{Opening, State, Reason, Task, start_of, held_by, holds_without, claims_without}
+use Rattle.derivation_tree.specs.Facts.{target_among}
+use Rattle.core_steps.specs.State.{Opening, State, Task, start_of, held_by, holds_without, claims_without}
 use Rattle.core_steps.specs.Event.{Event, Take, New, Same, Nothing, StalePublish, Claim, Refine, StaleRefine, Stop, StaleStop, History}
 use Rattle.core_steps.specs.Withdrawn.{remaining, loses}
 use Rattle.core_steps.specs.Predicates.{with_predicates, is_changed}

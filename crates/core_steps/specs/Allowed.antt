@@ -1,5 +1,5 @@
 -- Which events are allowed in a state.
-use Rattle.std.specs.Prelude.{◌≡◌, ◌≢◌, ◌⊎◌, ◌<◌, ◌≤◌, ◌+◌, ℕ, Bool, true, false, List, length, map, Option, Some, None}
+use Rattle.std.specs.Prelude.{◌≡◌, ◌≢◌, ◌⊎◌, ◌<◌, ◌≤◌, ◌+◌, ℕ, true, false, List, length, map, Some, None}
 use Rattle.std.specs.List.{AllByRecursion, Contains}
 use Rattle.farkas_cert.specs.Cert.{IsRefuted}
 use Rattle.farkas_cert.specs.declared.answers.LeaveKind.{LeaveKind}

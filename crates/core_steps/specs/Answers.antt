@@ -7,7 +7,7 @@ use Rattle.horn_rules.specs.Fact.{Fact}
 use Rattle.horn_rules.specs.Instance.{Instance}
 use Rattle.derivation_tree.specs.Facts.{fact_at}
 use Rattle.derivation_tree.specs.Tree.{thread_of}
-use Rattle.core_steps.specs.State.{Opening, State, Reason, Facts, Jobs, Task, Claimed, held_by, claimed_by, IsFree}
+use Rattle.core_steps.specs.State.{Opening, State, Facts, Jobs, Task, Claimed, held_by, IsFree}
 use Rattle.core_steps.specs.Event.{Event, Take, New, Same, Nothing, StalePublish, Claim}
 use Rattle.core_steps.specs.Event as event
 use Rattle.core_steps.specs.Pending.{IsPending, is_present}

@@ -5,7 +5,7 @@ use Rattle.horn_rules.specs.Home.{Home}
 use Rattle.horn_rules.specs.Predicate.{Predicate}
 use Rattle.derivation_tree.specs.declared.scope.Scope.{Scope}
 use Rattle.derivation_tree.specs.declared.scope.TreeLeft.{TreeLeft}
-use Rattle.core_steps.specs.State.{Opening, State, Reason, Refinements, Predicates, JobLeft, RootLeft, Unsafe, Memory, Task, held_by, claimed_by, IsFree}
+use Rattle.core_steps.specs.State.{Opening, State, Reason, Refinements, Predicates, JobLeft, RootLeft, Task, held_by, claimed_by, IsFree}
 use Rattle.core_steps.specs.Event.{Event, StaleRefine, Refine, Stop, StaleStop}
 use Rattle.core_steps.specs.Withdrawn.{has_id, remaining}
 use Rattle.core_steps.specs.Pending.{is_present}

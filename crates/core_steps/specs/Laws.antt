@@ -1,5 +1,5 @@
 -- What holds after every legal history.
-use Rattle.std.specs.Prelude.{◌≡◌, ◌≢◌, ◌↔◌, ◌⊎◌, ◌<◌, ◌≤◌, ◌+◌, ◌*◌, ℕ, Bool, true, List, length, map, AllPairs, Some}
+use Rattle.std.specs.Prelude.{◌≡◌, ◌≢◌, ◌↔◌, ◌⊎◌, ◌<◌, ◌≤◌, ◌+◌, ◌*◌, ℕ, Bool, true, length, AllPairs, Some}
 use Rattle.std.specs.List.{AllByRecursion, Contains}
 use Rattle.thr_base.specs.declared.limits.Limits.{Limits}
 use Rattle.farkas_cert.specs.Cert.{IsRefuted}

@@ -9,3 +9,9 @@ pub mod Legal
 pub mod Answers
 pub mod Ends
 pub mod Laws
+pub mod Stored
+pub mod Course
+pub mod Readers
+pub mod Jobs
+pub mod Publishes
+pub mod inside

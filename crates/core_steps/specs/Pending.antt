@@ -1,12 +1,12 @@
 -- Which instances are done, held and pending, and which jobs are stale.
-use Rattle.std.specs.Prelude.{◌≡◌, ◌≢◌, ◌==◌, ◌&&◌, not, ℕ, Bool, false, List, [], Some, None}
+use Rattle.std.specs.Prelude.{◌≡◌, ◌≢◌, ◌==◌, ◌&&◌, ℕ, Bool, false, [], Some, None}
 use Rattle.std.specs.List.{list_any, list_all}
-use Rattle.horn_rules.specs.Home.{Home, State as AtLocation}
+use Rattle.horn_rules.specs.Home.{State as AtLocation}
 use Rattle.horn_rules.specs.Fact.{Fact}
 use Rattle.horn_rules.specs.Stored.{same_home}
 use Rattle.horn_rules.specs.Instance.{Instance, Init, Own, Guar, Env, Inter, HasKind, premises_of}
 use Rattle.derivation_tree.specs.Facts.{target_among, fact_at}
-use Rattle.core_steps.specs.State.{Opening, State, Task, Hold}
+use Rattle.core_steps.specs.State.{Opening, State, Task}
 use Rattle.core_steps.specs.Withdrawn.{has_id}
 
 abbrev pub same_instance : Instance ℕ → Instance ℕ → Bool

@@ -1,5 +1,5 @@
 -- How homes get predicates.
-use Rattle.std.specs.Prelude.{◌≡◌, ◌<◌, ◌≤◌, Bool, if◌then◌else◌, List, [], ◌∷◌, ◌++◌, length}
+use Rattle.std.specs.Prelude.{◌<◌, ◌≤◌, Bool, if◌then◌else◌, List, [], ◌∷◌, ◌++◌, length}
 use Rattle.std.specs.List.{Contains, list_any}
 use Rattle.thr_base.specs.Limits.{most_predicates}
 use Rattle.horn_rules.specs.Home.{Home}

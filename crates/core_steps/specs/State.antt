@@ -1,6 +1,5 @@
 -- The state of a run: what it opens with, and what has become of it.
-use Rattle.std.specs.Prelude.{◌≡◌, ◌≤◌, ℕ, nat_eq, ◌==◌, ◌&&◌, not, Bool, true, false, if◌then◌else◌, List, [], ◌∷◌, filter, Option, Some, None}
-use Rattle.std.specs.List.{list_any}
+use Rattle.std.specs.Prelude.{◌≡◌, ◌≤◌, ℕ, ◌==◌, not, if◌then◌else◌, List, [], ◌∷◌, filter, Option, Some, None}
 use Rattle.thr_base.specs.declared.names.RuleName.{RuleName}
 use Rattle.thr_base.specs.declared.limits.Limits.{Limits}
 use Rattle.thr_base.specs.Limits.{AreAllowed, most_workers}
