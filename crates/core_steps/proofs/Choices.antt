@@ -10,7 +10,8 @@ use Rattle.fact_table.specs.Table.{FactTable}
 use Rattle.derivation_tree.specs.Facts.{target_among}
 use Rattle.derivation_tree.specs.Tree.{thread_of}
 use Rattle.pending_instances.specs.declared.next.Next.{Next}
-use Rattle.pending_instances.specs.Open.{Waiting, IsOpen, IsNext, IsTarget, NoneIsOpen, target_in, thread_of_home}
+use Rattle.pending_instances.specs.Calls.{Waiting, IsOpen, IsNext, NoneIsOpen, thread_of_home}
+use Rattle.pending_instances.specs.Open.{IsTarget, target_in}
 use Rattle.core_steps.specs.State.{Opening, State, Task}
 use Rattle.core_steps.specs.inside.Parts.{IsFullTable, IsWaiting}
 use Rattle.core_steps.specs.inside.Taking.{IsNextOf, IsChosen, NonePending, IsNotPending}

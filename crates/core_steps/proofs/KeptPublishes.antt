@@ -20,7 +20,8 @@ use Rattle.horn_rules.specs.Laws.{IsWord}
 use Rattle.horn_rules.specs.Stored.{fact_of, instance_of}
 use Rattle.horn_rules.proofs.Lists.{Contains-map, Contains-unmap}
 use Rattle.derivation_tree.specs.Facts.{KeptFact, target_among}
-use Rattle.pending_instances.specs.Open.{Waiting, Leads, Opens, target_in}
+use Rattle.pending_instances.specs.Calls.{Waiting, Opens}
+use Rattle.pending_instances.specs.Open.{Leads, target_in}
 use Rattle.core_steps.specs.declared.stored_core.Core.TheInside.{Inside}
 use Rattle.core_steps.specs.declared.event.Event.{Event as StoredEvent}
 use Rattle.core_steps.specs.declared.event.Event.TheVariants as stored_event

@@ -22,7 +22,7 @@ use Rattle.instance_cursors.specs.Instances.{instance_of}
 use Rattle.instance_cursors.specs.Layout.{thread_at}
 use Rattle.instance_cursors.specs.Turns.{IsHead, IsPassed, is_early, same_turn, turn_at}
 use Rattle.instance_cursors.specs.Waiting as specs
-use Rattle.instance_cursors.specs.Waiting.{IsAhead, IsNext, IsOpen, IsTurn, NoneIsOpen, OpensTo, Waiting}
+use Rattle.instance_cursors.specs.Waiting.{IsAhead, IsNext, IsOpen, IsTurn, NoneIsOpen, OpenLead, OpensTo, Waiting}
 use Rattle.instance_cursors.specs.inside.Chosen.{HasNoStart, HasStart, IsAheadOf, IsHomeAhead, IsWanted, NoneIsWanted, early_at, is_head, next_start, next_turn}
 use Rattle.instance_cursors.specs.inside.Found.{IsAt, IsNowhere}
 use Rattle.instance_cursors.proofs.Follow.{get-read, get_within}
@@ -223,3 +223,17 @@ at_comes w instance at kept is = record {
   f_has = is.is_step.0;
   instance_is = is.is_step.1;
 }
+
+-- ---- what is open leads
+
+pub kept_leads : (w : Waiting) → AreKept w → OpenLead w
+kept_leads w kept instance home (specs.begins s has not_taken s_is home_is) = specs.begins s has s_is home_is
+kept_leads w kept instance home (specs.continues place c at ahead home_is) =
+    let turn : IsTurn w.layout w.live c.series instance = record {
+      fact = ahead.fact;
+      step = ahead.step;
+      is_live = ahead.is_live;
+      has_step_there = has_step-of w.layout w.early c.series ahead.fact ahead.step ahead.has_turn_there;
+      instance_is = ahead.instance_is;
+    } in
+    specs.continues c.series (kept.sound place c at) turn home_is

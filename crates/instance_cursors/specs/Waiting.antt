@@ -71,6 +71,10 @@ pub data OpensTo (waiting : Waiting) (instance : Instance) (home : HomeNo) : Typ
 abbrev pub IsOpen : Waiting → Instance → Type 0
 IsOpen waiting instance = (home : HomeNo) × OpensTo waiting instance home
 
+-- What is open leads.
+abbrev pub OpenLead : Waiting → Type 0
+OpenLead waiting = (instance : Instance) (home : HomeNo) → OpensTo waiting instance home → LeadsTo waiting.layout waiting.starts waiting.live instance home
+
 -- ---- what is chosen
 
 abbrev pub NoneIsOpen : Waiting → Type 0

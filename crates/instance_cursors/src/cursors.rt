@@ -1,5 +1,6 @@
-ghost use Rattle.std.specs.Prelude.{◌≡◌, ◌+◌, ◌<◌, Bool, false, length, filter, IfOk, IfErr, MatchOption};
+ghost use Rattle.std.specs.Prelude.{◌≡◌, ◌+◌, ◌<◌, Bool, false, length, filter, map, IfOk, IfErr, MatchOption};
 ghost use Rattle.std.specs.List.{Contains};
+ghost use Rattle.thr_base.specs.Held.{Rise};
 ghost use Rattle.thr_base.specs.declared.names.Instance.TheVariants.{Init};
 ghost use Rattle.thr_base.specs.declared.names.ThreadNo.{ThreadNo as Thread};
 ghost use Rattle.fact_table.specs.declared.live_fact.LiveFact.{LiveFact as Live};
@@ -77,6 +78,14 @@ impl Cursors {
             heads,
             early: Vec::new(alloc),
         })
+    }
+
+    /// What is open leads, and ids rise: what is always known, and no code.
+    pub fn open_instances_lead(&self)
+        ensures leads { specs.OpenLead self.now }
+        ensures rise { Rise 0 (map (λ f. f.id.0) self.now.live) }
+    {
+        let _ = &self.given;
     }
 
     /// What may be taken next: what leads to homes of this thread before what leads to others, and else by the order of keys.

@@ -1,1 +1,5 @@
 pub mod Open
+pub mod Layout
+pub mod Pending
+pub mod Laws
+pub mod Calls

@@ -1,6 +1,7 @@
 ghost use Rattle.std.specs.Prelude.{◌≡◌, ◌≢◌, ◌<◌, length, IfOk, OnErr, MatchOption};
 ghost use Rattle.transition_formula.specs.Program as formula;
-ghost use Rattle.pending_instances.specs.Open.{Begins, Closes, HasCome, IsFor, IsLeft, IsNext, IsOpen, IsTarget, NoneIsOpen, Opens, Reopens};
+ghost use Rattle.pending_instances.specs.Calls.{Begins, Closes, HasCome, IsFor, IsLeft, IsNext, IsOpen, NoneIsOpen, Opens, Reopens};
+ghost use Rattle.pending_instances.specs.Open.{IsTarget};
 
 use crate::next::Next;
 use fact_table::Table;
@@ -9,7 +10,8 @@ use std::marker::Model;
 use thr_base::{HomeNo, Instance, RuleName, ThreadNo};
 use transition_formula::Program;
 
-/// A stand-in of which there is none.
+/// Which instances are pending. Not built yet: there is no value of this type, and `new` answers that there is no memory. The contracts
+/// are those that its calls are to have.
 #[derive(Drop)]
 pub struct PendingInstances {
     never: u32,
@@ -18,7 +20,7 @@ pub struct PendingInstances {
 impl Model for PendingInstances {
     ghost use Rattle.std.specs.Prelude.{◌<◌, []};
     ghost use Rattle.thr_base.specs.declared.names.RuleName.TheVariants.{Rg};
-    ghost use Rattle.pending_instances.specs.Open.{Waiting};
+    ghost use Rattle.pending_instances.specs.Calls.{Waiting};
 
     ghost Value = { Waiting };
 

@@ -11,7 +11,7 @@ use Rattle.horn_rules.specs.Instance.{Instance}
 use Rattle.horn_rules.specs.Stored.{home_numbered, instance_of}
 use Rattle.horn_rules.specs.Laws.{IsWord}
 use Rattle.std.specs.List.{AllByRecursion}
-use Rattle.pending_instances.specs.Open.{Waiting, IsFor, IsOpen}
+use Rattle.pending_instances.specs.Calls.{Waiting, IsFor, IsOpen}
 use Rattle.core_steps.specs.declared.held.Held.{Held}
 use Rattle.core_steps.specs.declared.event.Event.{Event as StoredEvent}
 use Rattle.core_steps.specs.declared.event.Event.TheVariants.{Stop}

@@ -1,6 +1,6 @@
 use Rattle.std.proofs.Common.{◌≡◌, None, sym, subst}
 use Rattle.std.specs.Prelude.{MatchOption}
-use Rattle.pending_instances.specs.Open.{IsNext, NoneIsOpen}
+use Rattle.pending_instances.specs.Calls.{IsNext, NoneIsOpen}
 use Rattle.core_steps.specs.Course.{Course, opening_of, state_of}
 use Rattle.core_steps.specs.inside.Kept.{seen}
 use Rattle.core_steps.specs.inside.Taking.{IsChosen, NonePending}

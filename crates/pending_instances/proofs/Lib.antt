@@ -1,0 +1,4 @@
+pub mod Seen
+pub mod Leading
+pub mod Numbering
+pub mod Opening
