@@ -12,7 +12,7 @@ ghost use Rattle.annotation_form.specs.Whole.{IsWhole};
 ghost use Rattle.annotation_check.specs.inside.Cases.{ArePremises, ComesTo, IsPremiseOf, IsStoredCase, LeadsTo, HasItsHome, place_of};
 
 use annotation_form::Annotation;
-use horn_rules::{Job, Premise, named, in_front, instance_rows, number, target};
+use horn_rules::{Job, Premise, in_front, instance_rows, named, number, target};
 use lin_rows::Rows;
 use std::alloc::{AllocError, Global};
 use thr_base::{Epoch, FactId, Home, HomeNo, Instance};
