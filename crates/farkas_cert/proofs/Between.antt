@@ -15,15 +15,19 @@ use Rattle.farkas_cert.proofs.Moves.{Moved}
 use Rattle.farkas_cert.proofs.Sides.{bound_is, upper_meets, lower_meets, paired_bounds}
 use Rattle.farkas_cert.proofs.Bounds.{IfThere, IsBounded, OfBounds, HasPositive, OnSide, side_of, IsBoundedLine, HasColumn, bounds_over, BoundHas, keeps_over}
 
+-- no bound on either side
 abbrev pub no_bounds : Bounds
 no_bounds = record { lower = None; upper = None }
 
+-- Where there is no bound, what is said of bounds holds.
 none_there : (L U : Fraction → Type 0) → OfBounds L U no_bounds
 none_there L U = record { lower = λ f e. absurd cc; upper = λ f e. absurd cc }
 
+-- The coefficient of a line on the upper side is positive.
 positive_side_is : (c : ℕ) (line : Line) → side_of c line ≡ true → pos 0 <ℤ coefficient_at c line
 positive_side_is c line e = omega (arith, ints)
 
+-- A negative number passes the test.
 is_negative_test : (a : ℤ) → a <ℤ pos 0 → int_lt a (pos 0) ≡ true
 is_negative_test a h = sym (omega (arith, ints))
 
@@ -35,6 +39,7 @@ HasPair n c point positive negative = (next : Line) × (paired_line c positive n
 abbrev HasPairs : ℕ → ℕ → RationalPoint → List Line → Line → Type 0
 HasPairs n c point lines positive = AllByRecursion (HasPair n c point positive) (negatives c lines)
 
+-- Each line with a positive coefficient has its pairs with the negative ones.
 have_pairs : (n c : ℕ) (point : RationalPoint) (lines pairs : List Line) → pairs_at c lines ≡ Some pairs → AllByRecursion (MeetsLine n point) pairs
     → AllByRecursion (HasPairs n c point lines) (positives c lines)
 unfolding pairs_at
@@ -65,6 +70,7 @@ pub record IsKept (n c : ℕ) (point : RationalPoint) (bounds : Bounds) (lines :
   pub bounded : IsBoundedLine n c point bounds line
   pub pairs : side_of c line ≡ true → HasPairs n c point lines line
 
+-- The greatest lower bound is at most each upper one.
 lowest_upper : (n c : ℕ) (point : RationalPoint) (lines : List Line) (bounds : Bounds) → c < n → pos 0 <ℤ point.denominator
     → bounds_from n c point no_bounds (with_column c lines) ≡ Some bounds
     → (line : Line) (g : Fraction) → HasColumn c line → side_of c line ≡ true → bound_on n c point line ≡ Some g → HasPairs n c point lines line
@@ -78,6 +84,7 @@ lowest_upper n c point lines bounds l d e line g z t k h =
     (λ negative p. lower_has n c point line g l d z t k negative p.1 p.0) known)
     (none_there (λ m. IsAtMost m g) (λ u. ⊤)) e).lower
 
+-- A line that is kept holds at the next point.
 kept_meets : (n c : ℕ) (point next : RationalPoint) (lines : List Line) (bounds : Bounds) → Moved c point (chosen_value bounds.lower bounds.upper) next
     → c < n → length point.numerators ≡ n → pos 0 <ℤ point.denominator
     → bounds_from n c point no_bounds (with_column c lines) ≡ Some bounds → (line : Line) → IsKept n c point bounds lines line → MeetsLine n next line
@@ -96,12 +103,14 @@ kept_meets n c point next lines bounds m l h d e line k = at (side_of c line) re
       lower_meets n c point (chosen_value bounds.lower bounds.upper) next line f m l h d k.inequality (nonzero_negative (coefficient_at c line) k.column s) (bound_is n c point line f k.column d is)
       (chosen_lower bounds.lower bounds.upper w.0 f w.1 w.2)
 
+-- The chosen value has a positive denominator.
 pub chosen_has_positive : (n c : ℕ) (point : RationalPoint) (lines : List Line) (bounds : Bounds) → pos 0 <ℤ point.denominator
     → bounds_from n c point no_bounds (with_column c lines) ≡ Some bounds → pos 0 <ℤ (chosen_value bounds.lower bounds.upper).denominator
 chosen_has_positive n c point lines bounds d e =
     let over = bounds_over n c point no_bounds bounds (with_column c lines) d (filter_all (λ line. is_nonzero (coefficient_at c line)) lines) (none_there HasPositive HasPositive) e in
     chosen_positive bounds.lower bounds.upper over.positive.lower over.positive.upper
 
+-- All lines that are kept hold at the next point.
 pub all_kept_meet : (n c : ℕ) (point next : RationalPoint) (lines pairs : List Line) (bounds : Bounds)
     → Moved c point (chosen_value bounds.lower bounds.upper) next → c < n → length point.numerators ≡ n → pos 0 <ℤ point.denominator
     → AllByRecursion (λ line. line.equal ≡ false) lines → pairs_at c lines ≡ Some pairs → AllByRecursion (MeetsLine n point) pairs

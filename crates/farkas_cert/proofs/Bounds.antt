@@ -17,6 +17,7 @@ IfThere P o = (f : Fraction) → o ≡ Some f → P f
 
 -- ---- the better of two
 
+-- The test of order compares the cross products.
 below_is : (f g : Fraction) (less : Bool) → is_below f g ≡ Some less → int_lt (f.numerator *ℤ g.denominator) (g.numerator *ℤ f.denominator) ≡ less
 below_is f g less e = by_fit (fits (f.numerator *ℤ g.denominator) && fits (g.numerator *ℤ f.denominator)) e where
   by_fit : (b : Bool) → cond b (Some (int_lt (f.numerator *ℤ g.denominator) (g.numerator *ℤ f.denominator))) None ≡ Some less
@@ -29,6 +30,7 @@ abbrev Compared : Fraction → Fraction → Bool → Type 0
 Compared f g true = IsAtMost f g
 Compared f g false = IsAtMost g f
 
+-- What the test of order says of two fractions.
 compared : (f g : Fraction) (less : Bool) → pos 0 <ℤ f.denominator → pos 0 <ℤ g.denominator → is_below f g ≡ Some less → Compared f g less
 compared f g true h k e = record { left = h; right = k; le = omega (arith, ints, below_is f g true e) }
 compared f g false h k e = record { left = k; right = h; le = omega (arith, ints, below_is f g false e) }
@@ -44,6 +46,7 @@ pub record IsGreater (old : Option Fraction) (f l : Fraction) : Type 0 where
   pub kept : (v : Fraction) → old ≡ Some v → IsAtMost v l
   pub one : (l ≡ f) ⊎ (old ≡ Some l)
 
+-- The lesser of two fractions, of which one may be missing.
 lesser_is : (old : Option Fraction) (f u : Fraction) → IsPositive old → pos 0 <ℤ f.denominator → lesser_of old f ≡ Some u → IsLesser old f u
 lesser_is None f u h k e =
     let same : f ≡ u = cc in
@@ -65,6 +68,7 @@ lesser_is (Some best) f u h k e = by_test (map_is (λ less. cond less f best) (i
         one = inr (ap (λ (v : Fraction). Some v) s);
       }
 
+-- The greater of two fractions, of which one may be missing.
 greater_is : (old : Option Fraction) (f l : Fraction) → IsPositive old → pos 0 <ℤ f.denominator → greater_of old f ≡ Some l → IsGreater old f l
 greater_is None f l h k e =
     let same : f ≡ l = cc in
@@ -102,6 +106,7 @@ pub record OfBounds (L U : Fraction → Type 0) (bounds : Bounds) : Type 0 where
   pub lower : IfThere L bounds.lower
   pub upper : IfThere U bounds.upper
 
+-- the denominator is positive
 abbrev pub HasPositive : Fraction → Type 0
 HasPositive f = pos 0 <ℤ f.denominator
 
@@ -110,22 +115,26 @@ abbrev pub OnSide : (Fraction → Type 0) → (Fraction → Type 0) → Bool →
 OnSide L U true f = U f
 OnSide L U false f = L f
 
+-- What is within bounds is so within narrower ones.
 bounded_narrower : (old new : Bounds) (side : Bool) (f : Fraction) → IsNarrower old new → IsBounded old side f → IsBounded new side f
 bounded_narrower old new true f n h = let at = n.upper h.0 h.1 in (at.0, at.1, at_most_trans at.0 h.0 f at.2 h.2)
 bounded_narrower old new false f n h = let at = n.lower h.0 h.1 in (at.0, at.1, at_most_trans f h.0 at.0 h.2 at.2)
 
+-- Bounds are as narrow as themselves.
 narrower_self : (bounds : Bounds) → OfBounds HasPositive HasPositive bounds → IsNarrower bounds bounds
 narrower_self bounds h = record {
   upper = λ v e. (v, e, at_most_self v (h.upper v e));
   lower = λ v e. (v, e, at_most_self v (h.lower v e));
 }
 
+-- Narrower than narrower bounds is narrower.
 narrower_trans : (a b c : Bounds) → IsNarrower a b → IsNarrower b c → IsNarrower a c
 narrower_trans a b c h k = record {
   upper = λ v e. let first = h.upper v e in let second = k.upper first.0 first.1 in (second.0, second.1, at_most_trans second.0 first.0 v second.2 first.2);
   lower = λ v e. let first = h.lower v e in let second = k.lower first.0 first.1 in (second.0, second.1, at_most_trans v first.0 second.0 first.2 second.2);
 }
 
+-- What holds of two fractions holds of the one that is taken.
 of_one : (P : Fraction → Type 0) (old : Option Fraction) (f u v : Fraction) → (u ≡ f) ⊎ (old ≡ Some u) → IfThere P old → P f → Some u ≡ Some v → P v
 of_one P old f u v (inl s) h k e = let same : f ≡ v = cc in subst P same k
 of_one P old f u v (inr s) h k e = let same : old ≡ Some v = cc in h v same
@@ -134,6 +143,7 @@ pub record Narrows (old new : Bounds) (side : Bool) (f : Fraction) : Type 0 wher
   pub narrower : IsNarrower old new
   pub bounded : IsBounded new side f
 
+-- Bounds with one more fraction are narrower, and the fraction is within them.
 narrows : (old new : Bounds) (side : Bool) (f : Fraction) → OfBounds HasPositive HasPositive old → HasPositive f → narrowed_bounds side old f ≡ Some new
     → Narrows old new side f
 narrows old new true f h k e =
@@ -157,6 +167,7 @@ narrows old new false f h k e =
       bounded = (at.0, refl, greater.new);
     })
 
+-- What holds of bounds and of one more fraction holds of the new bounds.
 keeps : (L U : Fraction → Type 0) (old new : Bounds) (side : Bool) (f : Fraction) → OfBounds HasPositive HasPositive old → HasPositive f
     → OfBounds L U old → OnSide L U side f → narrowed_bounds side old f ≡ Some new → OfBounds L U new
 keeps L U old new true f h k o p e =
@@ -176,6 +187,7 @@ keeps L U old new false f h k o p e =
 
 -- ---- all lines
 
+-- whether the line bounds its column from above
 abbrev pub side_of : ℕ → Line → Bool
 side_of c line = int_lt (pos 0) (coefficient_at c line)
 
@@ -183,9 +195,11 @@ side_of c line = int_lt (pos 0) (coefficient_at c line)
 abbrev pub IsBoundedLine : ℕ → ℕ → RationalPoint → Bounds → Line → Type 0
 IsBoundedLine n c point bounds line = (f : Fraction) × (bound_on n c point line ≡ Some f) × IsBounded bounds (side_of c line) f
 
+-- the line has the column
 abbrev pub HasColumn : ℕ → Line → Type 0
 HasColumn c line = is_nonzero (coefficient_at c line) ≡ true
 
+-- A fraction with a positive denominator has it on its side.
 positive_side : (side : Bool) (f : Fraction) → HasPositive f → OnSide HasPositive HasPositive side f
 positive_side true f h = h
 positive_side false f h = h
@@ -195,6 +209,7 @@ pub record BoundsOver (n c : ℕ) (point : RationalPoint) (old new : Bounds) (li
   pub bounded : AllByRecursion (IsBoundedLine n c point new) lines
   pub positive : OfBounds HasPositive HasPositive new
 
+-- The bounds of lines are narrower than those before, and each line's bound is within them.
 pub bounds_over : (n c : ℕ) (point : RationalPoint) (old new : Bounds) (lines : List Line) → pos 0 <ℤ point.denominator
     → AllByRecursion (HasColumn c) lines → OfBounds HasPositive HasPositive old → bounds_from n c point old lines ≡ Some new
     → BoundsOver n c point old new lines
@@ -219,6 +234,7 @@ bounds_over n c point old new (line ∷ lines) d z o e =
 abbrev pub BoundHas : (Fraction → Type 0) → (Fraction → Type 0) → ℕ → ℕ → RationalPoint → Line → Type 0
 BoundHas L U n c point line = (f : Fraction) → bound_on n c point line ≡ Some f → OnSide L U (side_of c line) f
 
+-- What holds of bounds and of each line's bound holds of the bounds of all.
 pub keeps_over : (L U : Fraction → Type 0) (n c : ℕ) (point : RationalPoint) (old new : Bounds) (lines : List Line) → pos 0 <ℤ point.denominator
     → AllByRecursion (HasColumn c) lines → OfBounds HasPositive HasPositive old
     → AllByRecursion (BoundHas L U n c point) lines → OfBounds L U old → bounds_from n c point old lines ≡ Some new → OfBounds L U new

@@ -21,6 +21,7 @@ use Rattle.farkas_cert.proofs.Derived.{IsDerived, derived_by_equality, derived_b
 use Rattle.farkas_cert.proofs.Lists.{all_filter, all_map, all_flat_map, found, all_every, filter_all, all_both}
 use Rattle.farkas_cert.proofs.Refuting.{IsProvedBy, false_refutes, all_given_derived}
 
+-- each line is derived from the given rows
 abbrev pub AllDerived : System → List Line → Type 0
 AllDerived system lines = AllByRecursion (IsDerived system) lines
 
@@ -30,18 +31,21 @@ IsSound system (Refuted pairs) = Proves system pairs × IsReduced pairs
 IsSound system (Point x d) = ⊤
 IsSound system (Leaves stage kind) = ⊤
 
+-- the lines that are left are derived, or the end is sound
 abbrev pub IsSoundNext : System → Next → Type 0
 IsSoundNext system (Goes work) = AllDerived system work.lines
 IsSoundNext system (Ends outcome) = IsSound system outcome
 
 -- ---- the constant test
 
+-- A refutation by multipliers that prove is sound.
 sound_refuted : (system : System) (number : ℕ) (ms : List ℤ) → IsProvedBy system ms → IsSound system (refutation_outcome system number ms)
 sound_refuted system number ms h = by_fit (overflow_of system.rows (nonzero_pairs 1 ms)) refl where
   by_fit : (o : Option (ℕ × ℕ)) → overflow_of system.rows (nonzero_pairs 1 ms) ≡ o → IsSound system (cond (is_none o) (Refuted (nonzero_pairs 1 ms)) (Leaves number Overflow))
   by_fit None e = (record { refutes = h.0; fits = e }, h.1)
   by_fit (Some place) e = tt
 
+-- The test for false lines keeps what is known.
 constant_test-sound : (system : System) (number : ℕ) (work : Work) → AllDerived system work.lines → IsSoundNext system (constant_test system number work)
 unfolding constant_test
 constant_test-sound system number work h = by_found (find (is_false system.columns) work.lines) refl where
@@ -53,10 +57,12 @@ constant_test-sound system number work h = by_found (find (is_false system.colum
 
 -- ---- the stages
 
+-- A quotient of a number from 0 on is from 0 on.
 over_not_negative : (g : ℕ) (x : ℤ) → pos 0 ≤ℤ x → pos 0 ≤ℤ over g x
 over_not_negative g (pos n) h = omega (arith, linear)
 over_not_negative g (negsuc n) h = absurd (omega (arith, linear))
 
+-- The lines without the equality are derived.
 without_equality_derived : (system : System) (lines : List Line) → AllDerived system lines → AllDerived system (without_equality lines)
 unfolding without_equality
 without_equality_derived system [] h = tt
@@ -65,6 +71,7 @@ without_equality_derived system (line ∷ lines) h = at (without_equality_derive
   at rest true = h.1
   at rest false = (h.0, rest)
 
+-- A line in which an equality is put in is derived.
 substituted_derived : (system : System) (c : ℕ) (equality line next : Line) → equality.equal ≡ true → IsDerived system equality
     → IsDerived system line → substituted_line c equality line ≡ Some next → IsDerived system next
 unfolding substituted_line
@@ -84,11 +91,13 @@ substituted_derived system c equality line next t h k e = at (is_nonzero (coeffi
   at true e = derived_by_equality system (over g (pos (unsigned_abs p))) line (neg_ℤ (over g (int_signum p *ℤ q))) equality next (over_not_negative g (pos (unsigned_abs p)) (omega (arith, linear))) t k h e
   at false e = let same : line ≡ next = cc in rw (← same) k
 
+-- What follows a stage is known where its lines are derived.
 follows_sound : (system : System) (work : Work) (kept : Kept) (made : ℕ) (o : Option (List Line))
     → ((lines : List Line) → o ≡ Some lines → AllDerived system lines) → IsSoundNext system (follows work kept made o)
 follows_sound system work kept made None h = tt
 follows_sound system work kept made (Some lines) h = h lines refl
 
+-- A stage with an equality keeps what is known.
 equality_stage_sound : (system : System) (work : Work) (equality : Line) → equality.equal ≡ true → IsDerived system equality
     → AllDerived system work.lines → IsSoundNext system (equality_stage system work equality)
 unfolding equality_stage
@@ -105,13 +114,16 @@ equality_stage_sound system work equality t e h =
 abbrev IsPositive : System → ℕ → Line → Type 0
 IsPositive system c line = IsDerived system line × (int_lt (pos 0) (coefficient_at c line) ≡ true)
 
+-- the line is derived, and its coefficient is negative
 abbrev IsNegative : System → ℕ → Line → Type 0
 IsNegative system c line = IsDerived system line × (int_lt (coefficient_at c line) (pos 0) ≡ true)
 
+-- What passes a test is known, and passes it.
 pub all_kept : {X : Type 0} (P : X → Type 0) (p : X → Bool) (xs : List X) → AllByRecursion P xs
     → AllByRecursion (λ x. P x × (p x ≡ true)) (filter p xs)
 all_kept P p xs h = all_both P (λ x. p x ≡ true) (filter p xs) (all_filter P p xs h) (filter_all p xs)
 
+-- A line of a pair is derived.
 paired_derived : (system : System) (c : ℕ) (positive negative next : Line) → IsPositive system c positive → IsNegative system c negative
     → paired_line c positive negative ≡ Some next → IsDerived system next
 unfolding paired_line
@@ -123,6 +135,7 @@ paired_derived system c positive negative next h k e =
     let q_positive : pos 0 ≤ℤ q = omega (arith, ints, k.1) in
     derived_by_pair system (over g q) positive (over g p) negative next (over_not_negative g q q_positive) (over_not_negative g p p_positive) h.0 k.0 e
 
+-- The lines of all pairs are derived.
 pairs_derived : (system : System) (c : ℕ) (lines pairs : List Line) → AllDerived system lines → pairs_at c lines ≡ Some pairs
     → AllDerived system pairs
 unfolding pairs_at
@@ -136,11 +149,13 @@ pairs_derived system c lines pairs h e =
     (all_kept (IsDerived system) (λ line. int_lt (pos 0) (coefficient_at c line)) lines h))
     e
 
+-- Lists behind a front are given with the front.
 pub appended : (front : List Line) (o : Option (List Line)) (lines : List Line) → option_map (λ pairs. front ++ pairs) o ≡ Some lines
     → (pairs : List Line) × (o ≡ Some pairs) × (front ++ pairs ≡ lines)
 appended front None lines e = absurd cc
 appended front (Some pairs) lines e = (pairs, refl, cc)
 
+-- A stage with pairs keeps what is known.
 pair_stage_sound : (system : System) (work : Work) → AllDerived system work.lines → IsSoundNext system (pair_stage system work)
 unfolding pair_stage
 pair_stage_sound system work h = by_limit (are_too_many system made) where
@@ -159,6 +174,7 @@ pair_stage_sound system work h = by_limit (are_too_many system made) where
       (all_filter (IsDerived system) (λ line. not (is_nonzero (coefficient_at c line))) work.lines h)
       (pairs_derived system c work.lines split.0 h split.1)))
 
+-- To take a column out keeps what is known.
 take_column_out-sound : (system : System) (work : Work) → AllDerived system work.lines → IsSoundNext system (take_column_out system work)
 unfolding take_column_out
 take_column_out-sound system work h = by_found (find (λ line. line.equal) work.lines) refl where
@@ -168,16 +184,19 @@ take_column_out-sound system work h = by_found (find (λ line. line.equal) work.
       let at = found (IsDerived system) (λ line. line.equal) work.lines equality h e in
       equality_stage_sound system work equality at.1 at.0 h
 
+-- The test behind a stage keeps what is known.
 then_constant_test-sound : (system : System) (next : Next) → IsSoundNext system next → IsSoundNext system (then_constant_test system next)
 then_constant_test-sound system (Goes work) h = constant_test-sound system (length work.kept) work h
 then_constant_test-sound system (Ends outcome) h = h
 
+-- A stage keeps what is known.
 stage_sound : (system : System) (work : Work) → AllDerived system work.lines → IsSoundNext system (stage system work)
 unfolding stage
 stage_sound system work h = then_constant_test-sound system (take_column_out system work) (take_column_out-sound system work h)
 
 -- ---- the whole
 
+-- A point as the end is sound here, where only refutations are asked of.
 point_sound : (system : System) (n : ℕ) (kept : List Kept) (point : RationalPoint) → IsSound system (point_from n kept point)
 unfolding point_from
 point_sound system n [] point = tt
@@ -187,28 +206,33 @@ point_sound system n (kept ∷ earlier) point = at (point_sound system n earlier
   at rest None = tt
   at rest (Some p) = rest p
 
+-- An end is sound, or what goes on is.
 or_ends_sound : (system : System) (more : Work → Outcome) (next : Next) → ((work : Work) → AllDerived system work.lines → IsSound system (more work))
     → IsSoundNext system next → IsSound system (or_ends more next)
 or_ends_sound system more (Goes work) f h = f work h
 or_ends_sound system more (Ends outcome) f h = h
 
+-- What goes on is sound where each stage behind is.
 goes_on_sound : (system : System) (work : Work) (more : Work → Outcome) (lines : List Line)
     → ((next : Work) → AllDerived system next.lines → IsSound system (more next)) → AllDerived system work.lines
     → IsSound system (goes_on system work more lines)
 goes_on_sound system work more [] f h = point_sound system system.columns work.kept (record { numerators = replicate system.columns (pos 0); denominator = pos 1 })
 goes_on_sound system work more (line ∷ lines) f h = or_ends_sound system more (stage system work) f (stage_sound system work h)
 
+-- The end of the stages is sound.
 stages_sound : (fuel : ℕ) (system : System) (work : Work) → AllDerived system work.lines → IsSound system (stages fuel system work)
 unfolding stages
 stages_sound zero system work h = point_sound system system.columns work.kept (record { numerators = replicate system.columns (pos 0); denominator = pos 1 })
 stages_sound (suc fuel) system work h = goes_on_sound system work (stages fuel system) work.lines (stages_sound fuel system) h
 
+-- The outcome within so many stages is sound.
 pub outcome_sound : (fuel : ℕ) (system : System) → HasWidths system → IsSound system (outcome_within fuel system)
 unfolding outcome_within beginning
 outcome_sound fuel system w =
     or_ends_sound system (stages fuel system) (beginning system) (stages_sound fuel system)
     (constant_test-sound system 0 (record { lines = given_lines (length system.rows) 0 system.rows; kept = []; made = 0 }) (all_given_derived system 0 system.rows refl w))
 
+-- The certificate that is found refutes the system, and is reduced.
 pub certificate_is_sound : (system : System) (pairs : Pairs) → HasWidths system → outcome_of system ≡ Refuted pairs
     → IsSound system (Refuted pairs)
 certificate_is_sound system pairs w e = subst (λ (o : Outcome). IsSound system o) e (outcome_sound system.columns system w)

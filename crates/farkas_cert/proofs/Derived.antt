@@ -22,6 +22,7 @@ use Rattle.farkas_cert.proofs.Weighted.{values_at, bounds_of}
 
 -- ---- what is made
 
+-- A line that is made has the divided combination as its numbers.
 pub made_is : (equal : Bool) (a : ℤ) (xs : List ℤ) (b : ℤ) (ys : List ℤ) (line : Line) → made_line equal a xs b ys ≡ Some line
     → record { equal = equal; numbers = divided_numbers (combination a xs b ys) } ≡ line
 unfolding made_line
@@ -33,20 +34,24 @@ made_is equal a xs b ys line e = (given_where_true (combination_fits a xs b ys) 
 abbrev pub IsPrimitive : List ℤ → Type 0
 IsPrimitive xs = (g : ℕ) → DividesAll g xs → (g ≤ 1) ⊎ AllZero xs
 
+-- A divisor of numbers, times g, divides them times g.
 multiplied : (g d : ℕ) (xs : List ℤ) → DividesAll d xs → DividesAll (g * d) (map (λ x. pos g *ℤ x) xs)
 multiplied g d [] h = tt
 multiplied g d (x ∷ xs) h = (rw (unsigned_abs-mul (pos g) x) (mul-dvd-mul_left d g h.0), multiplied g d xs h.1)
 
+-- A multiple of g that divides g is g at most.
 at_most_one : (g d : ℕ) → 0 < g → g * d ∣ g → d ≤ 1
 at_most_one g zero p h = omega arith
 at_most_one g (suc zero) p h = omega arith
 at_most_one g (suc (suc d)) p h = absurd (omega (arith, le_of_dvd p h, mul-le g 2 g (suc (suc d)) (omega arith) (omega arith)))
 
+-- Divided numbers have no common divisor but 1, or are all 0.
 primitive_by : (g d : ℕ) (xs : List ℤ) → g ≡ gcd_of xs → g * d ∣ g → (d ≤ 1) ⊎ AllZero (divided_numbers xs)
 primitive_by zero d xs e h =
     inr (rw (divided-same xs (sym e)) (AllZero-from_gcd_of xs (sym e)))
 primitive_by (suc g) d xs e h = inl (at_most_one (suc g) d (omega arith) h)
 
+-- Divided numbers are primitive.
 pub divided_primitive : (xs : List ℤ) → IsPrimitive (divided_numbers xs)
 divided_primitive xs d h =
     primitive_by (gcd_of xs) d xs refl (gcd_of-greatest (gcd_of xs * d) xs (rw (divided-exact xs) at (multiplied (gcd_of xs) d (divided_numbers xs) h)))
@@ -66,15 +71,18 @@ pub record IsDerived (system : System) (line : Line) : Type 0 where
 abbrev defect : System → List ℤ → List ℤ → ℤ
 defect system y xs = product_of (take system.columns xs) y -ℤ product_of (drop (suc system.columns) xs) (values_at y system.rows)
 
+-- how far the bound of multipliers is from the weighted bounds
 abbrev bound_defect : System → List ℤ → ℤ
 bound_defect system xs = get_or xs system.columns (pos 0) -ℤ product_of (drop (suc system.columns) xs) (bounds_of system.rows)
 
+-- The defect at a point is linear in the numbers.
 defect_linear : (system : System) (y : List ℤ) → IsLinear (defect system y)
 defect_linear system y =
     difference-linear (λ xs. product_of (take system.columns xs) y) (λ xs. product_of (drop (suc system.columns) xs) (values_at y system.rows))
     (take-linear system.columns (λ xs. product_of xs y) (product-linear y))
     (drop-linear (suc system.columns) (λ xs. product_of xs (values_at y system.rows)) (product-linear (values_at y system.rows)))
 
+-- The defect of the bound is linear in the numbers.
 bound_defect_linear : (system : System) → IsLinear (bound_defect system)
 bound_defect_linear system =
     difference-linear (λ xs. get_or xs system.columns (pos 0)) (λ xs. product_of (drop (suc system.columns) xs) (bounds_of system.rows))
@@ -88,15 +96,18 @@ made_vanishes f h a xs b ys e k =
     divided_vanishes f h (combination a xs b ys)
     (of_combination f h a xs b ys ∙ ap (λ t. a *ℤ t +ℤ b *ℤ f ys) e ∙ ap (λ t. a *ℤ pos 0 +ℤ b *ℤ t) k ∙ omega (arith, linear, mul-zero_ℤ a, mul-zero_ℤ b))
 
+-- What is left of images is the images of what is left.
 drop-map : (n : ℕ) (f : ℤ → ℤ) (xs : List ℤ) → drop n (map f xs) ≡ map f (drop n xs)
 drop-map zero f xs = refl
 drop-map (suc n) f [] = refl
 drop-map (suc n) f (x ∷ xs) = drop-map n f xs
 
+-- What is left of a combination is the combination of what is left.
 drop-combination : (n : ℕ) (a : ℤ) (xs : List ℤ) (b : ℤ) (ys : List ℤ) → drop n (combination a xs b ys) ≡ combination a (drop n xs) b (drop n ys)
 drop-combination n a xs b ys =
     drop-sum n (multiple_of a xs) (multiple_of b ys) ∙ ap (λ t. sum_of t (drop n (multiple_of b ys))) (drop-scaled n a xs) ∙ ap (λ t. sum_of (multiple_of a (drop n xs)) t) (drop-scaled n b ys)
 
+-- Divided multipliers have the signs of the multipliers.
 signs_divided : (equal : Bool) (rows : List Row) (n : ℕ) (xs : List ℤ) → Signs equal rows (drop n xs) → Signs equal rows (drop n (divided_numbers xs))
 unfolding divided_numbers
 signs_divided equal rows n xs h = rw (drop-map n (over (gcd_of xs)) xs) (signs_over equal (gcd_of xs) rows (drop n xs) h)

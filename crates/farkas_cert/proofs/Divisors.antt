@@ -9,6 +9,7 @@ use Rattle.lin_rows.proofs.Divisors.{DividesAll, AllZero, AllZero-from_gcd_of, g
 use Rattle.farkas_cert.specs.Divided.{over, divided_numbers}
 use Rattle.lin_rows.proofs.Integers.{zero-mul_ℤ}
 
+-- Euclid's steps, as many as the second number, end at the greatest common divisor.
 gcd_within-IsGcd : (fuel a b : ℕ) → b ≤ fuel → IsGcd a b (gcd_within fuel a b)
 gcd_within-IsGcd zero a b h = IsGcd-from_zero a b (omega arith)
 gcd_within-IsGcd (suc fuel) a zero h = IsGcd-from_zero a zero refl
@@ -16,10 +17,12 @@ gcd_within-IsGcd (suc fuel) a (suc b) h =
     let falls : a % suc b < suc b = mod_below a (suc b) (omega arith) in
     IsGcd-from_mod a (suc b) (gcd_within fuel (suc b) (a % suc b)) (gcd_within-IsGcd fuel (suc b) (a % suc b) (omega arith))
 
+-- A divisor times the quotient is the number.
 pub over-exact : (g : ℕ) (x : ℤ) → g ∣ unsigned_abs x → pos g *ℤ over g x ≡ x
 over-exact zero x h = zero-mul_ℤ (over 0 x) ∙ sym (zero_from_abs x h)
 over-exact (suc g) x h = sym (exact_quotient x (suc g) (omega arith) h)
 
+-- A common divisor times the quotients is the numbers.
 over_all : (g : ℕ) (xs : List ℤ) → DividesAll g xs → map (λ x. pos g *ℤ x) (map (over g) xs) ≡ xs
 over_all g [] h = refl
 over_all g (x ∷ xs) h =
@@ -27,10 +30,12 @@ over_all g (x ∷ xs) h =
     let r = over_all g xs h.1 in
     cc
 
+-- The greatest common divisor times the divided numbers is the numbers.
 pub divided-exact : (xs : List ℤ) → map (λ x. pos (gcd_of xs) *ℤ x) (divided_numbers xs) ≡ xs
 unfolding divided_numbers
 divided-exact xs = over_all (gcd_of xs) xs (gcd_of-divides xs)
 
+-- Numbers that are all 0, divided by 0, stay.
 zeros_over : (g : ℕ) (xs : List ℤ) → g ≡ 0 → AllZero xs → map (over g) xs ≡ xs
 zeros_over g [] e h = refl
 zeros_over g (x ∷ xs) e h =

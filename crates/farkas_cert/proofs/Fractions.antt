@@ -18,12 +18,15 @@ pub record IsAtMost (f g : Fraction) : Type 0 where
   pub right : pos 0 <ℤ g.denominator
   pub le : (f.numerator *ℤ g.denominator) ≤ℤ (g.numerator *ℤ f.denominator)
 
+-- A fraction is at most itself.
 pub at_most_self : (f : Fraction) → pos 0 <ℤ f.denominator → IsAtMost f f
 at_most_self f h = record { left = h; right = h; le = omega (arith, linear) }
 
+-- A positive number is not negative.
 pub not_negative : (a : ℤ) → pos 0 <ℤ a → pos 0 ≤ℤ a
 not_negative a h = omega (arith, linear)
 
+-- Cross products of fractions in order are in order.
 trans_by : (a b c d e f : ℤ) → pos 0 <ℤ b → pos 0 <ℤ d → pos 0 <ℤ f → (a *ℤ d) ≤ℤ (c *ℤ b) → (c *ℤ f) ≤ℤ (e *ℤ d) → (a *ℤ f) ≤ℤ (e *ℤ b)
 trans_by a b c d e f hb hd hf h k =
     let first = mul_right_le_ℤ (a *ℤ d) (c *ℤ b) f (not_negative f hf) h in
@@ -33,6 +36,7 @@ trans_by a b c d e f hb hd hf h k =
     let right : (e *ℤ d) *ℤ b ≡ (e *ℤ b) *ℤ d = simp factors in
     le_of_mul_right_ℤ (a *ℤ f) (e *ℤ b) d hd (omega (arith, linear))
 
+-- At most what is at most is at most.
 pub at_most_trans : (f g h : Fraction) → IsAtMost f g → IsAtMost g h → IsAtMost f h
 at_most_trans f g h i k = record {
   left = i.left;
@@ -42,12 +46,14 @@ at_most_trans f g h i k = record {
 
 -- ---- whole numbers beside a fraction
 
+-- The floor times the divisor is at most the number.
 floor_by : (x d : ℤ) → pos 0 <ℤ d → (int_div_euclid x d *ℤ d) ≤ℤ x
 floor_by (pos a) (pos k) h = omega (arith, linear, div-mul-le_self a k)
 floor_by (negsuc a) (pos zero) h = absurd (omega (arith, linear))
 floor_by (negsuc a) (pos (suc k)) h = let l : a < a / suc k * suc k + suc k = lt-div-mul-add (omega arith) in omega (arith, ints)
 floor_by x (negsuc k) h = absurd (omega (arith, linear))
 
+-- A whole number up to the floor is at most the fraction.
 pub below_floor : (k : ℤ) (f : Fraction) → pos 0 <ℤ f.denominator → k ≤ℤ floor_of f → IsAtMost (whole k) f
 below_floor k f h l = record {
   left = omega (arith, linear);
@@ -55,6 +61,7 @@ below_floor k f h l = record {
   le = omega (arith, linear, mul_right_le_ℤ k (floor_of f) f.denominator (not_negative f.denominator h) l, floor_by f.numerator f.denominator h, mul-one_ℤ f.numerator);
 }
 
+-- A fraction is at most its ceiling.
 pub below_ceiling : (f : Fraction) → pos 0 <ℤ f.denominator → IsAtMost f (whole (ceiling_of f))
 below_ceiling f h = record {
   left = h;
@@ -62,11 +69,13 @@ below_ceiling f h = record {
   le = omega (arith, linear, floor_by (neg_ℤ f.numerator) f.denominator h, mul-one_ℤ f.numerator, neg-mul_ℤ (int_div_euclid (neg_ℤ f.numerator) f.denominator) f.denominator);
 }
 
+-- A number is at most itself.
 at_most_itself : (k : ℤ) → k ≤ℤ k
 at_most_itself k = omega (arith, linear)
 
 -- ---- the chosen value
 
+-- The chosen value is at most what both bounds are at most.
 pub chosen_upper : (low high : Option Fraction) (u g : Fraction) → high ≡ Some u → IsAtMost u g → ((l : Fraction) → low ≡ Some l → IsAtMost l g)
     → IsAtMost (chosen_value low high) g
 chosen_upper low None u g e h k = absurd cc
@@ -85,6 +94,7 @@ chosen_upper (Some l) (Some v) u g e h k = by_test (int_le (ceiling_of l) (floor
   by_test true t = at_most_trans (whole (ceiling_of l)) v g (below_floor (ceiling_of l) v top.left (omega (arith, ints))) top
   by_test false t = k l refl
 
+-- The chosen value is at least what is at most the lower bound.
 pub chosen_lower : (low high : Option Fraction) (l f : Fraction) → low ≡ Some l → IsAtMost f l → IsAtMost f (chosen_value low high)
 chosen_lower None high l f e h = absurd cc
 chosen_lower (Some m) None l f e h =
@@ -106,6 +116,7 @@ chosen_lower (Some m) (Some v) l f e h = by_test (int_le (ceiling_of m) (floor_o
 abbrev pub IsPositive : Option Fraction → Type 0
 IsPositive o = (f : Fraction) → o ≡ Some f → pos 0 <ℤ f.denominator
 
+-- The chosen value has a positive denominator.
 pub chosen_positive : (low high : Option Fraction) → IsPositive low → IsPositive high → pos 0 <ℤ (chosen_value low high).denominator
 chosen_positive None None h k = omega (arith, linear)
 chosen_positive None (Some v) h k = omega (arith, linear)
@@ -121,9 +132,11 @@ pub record IsFractionOf (t s : ℤ) (f : Fraction) : Type 0 where
   pub positive : pos 0 <ℤ f.denominator
   pub same : f.numerator *ℤ s ≡ t *ℤ f.denominator
 
+-- A factor of a positive product with a positive number is positive.
 pub positive_over : (g x s : ℤ) → pos 0 <ℤ g → g *ℤ x ≡ s → pos 0 <ℤ s → pos 0 <ℤ x
 positive_over g x s h e k = by_lt_z (pos 0) x (λ l. l) (λ l. absurd (omega (arith, linear, mul_right_le_ℤ x (pos 0) g (not_negative g h) l, zero-mul_ℤ g, mul_comm_ℤ x g)))
 
+-- A reduced fraction has the value.
 reduced_is : (t : ℤ) (s : ℕ) → 0 < s → IsFractionOf t (pos s) (reduced_fraction t s)
 reduced_is t s h =
     let g = gcd (unsigned_abs t) s in
@@ -136,6 +149,7 @@ reduced_is t s h =
       same = ap (λ x. over g t *ℤ x) (sym right) ∙ swapped ∙ ap (λ x. x *ℤ over g (pos s)) left;
     }
 
+-- A fraction of a number and one other than 0 has the value.
 pub fraction_is : (t s : ℤ) → ¬ (s ≡ pos 0) → IsFractionOf t s (fraction t s)
 unfolding fraction
 fraction_is t (pos zero) n = absurd (n refl)

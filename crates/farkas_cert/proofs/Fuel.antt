@@ -7,6 +7,7 @@ use Rattle.farkas_cert.specs.Elimination.{Outcome, Work, Next, Goes, Ends, const
 use Rattle.farkas_cert.proofs.OpenColumns.{count_open, close, close_falls, IsWithin, AllWithin, AllVary, IsOpen, lowest_open, lowest_of_open, Closes, ClosesTested, equality_stage_closes, pair_stage_closes}
 use Rattle.farkas_cert.proofs.Lists.{all_filter, filter_all, all_both, found}
 
+-- The test for false lines closes what the stage before closed.
 constant_test-closes : (system : System) (f : ℕ → Bool) (number : ℕ) (work : Work) → Closes system.columns f (Goes work)
     → ClosesTested system.columns f (constant_test system number work)
 unfolding constant_test
@@ -15,11 +16,13 @@ constant_test-closes system f number work h = by_found (find (is_false system.co
   by_found None = (h.0, h.1, all_filter (IsWithin system.columns (close h.0 f)) (has_variable system.columns) work.lines h.2, filter_all (has_variable system.columns) work.lines)
   by_found (Some line) = tt
 
+-- The test behind a stage closes what the stage did.
 then_constant_test-closes : (system : System) (f : ℕ → Bool) (next : Next) → Closes system.columns f next
     → ClosesTested system.columns f (then_constant_test system next)
 then_constant_test-closes system f (Goes work) h = constant_test-closes system f (length work.kept) work h
 then_constant_test-closes system f (Ends outcome) h = tt
 
+-- To take a column out closes an open one.
 take_column_out-closes : (system : System) (f : ℕ → Bool) (work : Work) (line : Line) (lines : List Line) → work.lines ≡ line ∷ lines
     → AllWithin system.columns f work.lines → AllVary system.columns work.lines → Closes system.columns f (take_column_out system work)
 unfolding take_column_out
@@ -35,6 +38,7 @@ take_column_out-closes system f work line lines s h v = by_found (find (λ line.
       let at = found (λ l. IsWithin n f l × (has_variable n l ≡ true)) (λ line. line.equal) work.lines equality (all_both (IsWithin n f) (λ l. has_variable n l ≡ true) work.lines h v) e in
       equality_stage_closes system f work equality at.0.0 at.0.1 h
 
+-- A stage closes an open column.
 pub stage_closes : (system : System) (f : ℕ → Bool) (work : Work) (line : Line) (lines : List Line) → work.lines ≡ line ∷ lines
     → AllWithin system.columns f work.lines → AllVary system.columns work.lines → ClosesTested system.columns f (stage system work)
 unfolding stage
@@ -47,12 +51,14 @@ none_left n f (line ∷ lines) h v l = let o = lowest_open n f line h.0 v.0 in a
 
 -- ---- more stages change nothing
 
+-- What goes on alike ends alike.
 same_ends : (system : System) (f : ℕ → Bool) (more other : Work → Outcome) (next : Next)
     → ((work : Work) (c : ℕ) → IsOpen system.columns f c → AllWithin system.columns (close c f) work.lines → AllVary system.columns work.lines → more work ≡ other work)
     → ClosesTested system.columns f next → or_ends more next ≡ or_ends other next
 same_ends system f more other (Goes work) same h = same work h.0 h.1 h.2 h.3
 same_ends system f more other (Ends outcome) same h = refl
 
+-- With enough stages, more change nothing.
 same_stages : (fuel other : ℕ) (system : System) (f : ℕ → Bool) (work : Work) → count_open system.columns f ≤ fuel
     → count_open system.columns f ≤ other → AllWithin system.columns f work.lines → AllVary system.columns work.lines
     → stages fuel system work ≡ stages other system work
@@ -71,13 +77,16 @@ same_stages (suc fuel) (suc other) system f work l m h v = by_lines (same_stages
 
 -- ---- from the given rows on
 
+-- every column is open
 abbrev pub all_open : ℕ → Bool
 all_open j = true
 
+-- All lines are within all columns.
 pub all_within : (n : ℕ) (lines : List Line) → AllWithin n all_open lines
 all_within n [] = tt
 all_within n (line ∷ lines) = ((λ j l e. absurd cc), all_within n lines)
 
+-- No more columns are open than there are.
 pub count_all : (n : ℕ) → count_open n all_open ≤ n
 unfolding count_open
 count_all zero = omega arith
@@ -88,6 +97,7 @@ abbrev pub Varies : System → Next → Type 0
 Varies system (Goes work) = AllVary system.columns work.lines
 Varies system (Ends outcome) = ⊤
 
+-- At the beginning each line that is left varies.
 pub beginning-varies : (system : System) → Varies system (beginning system)
 unfolding beginning constant_test
 beginning-varies system = by_found (find (is_false system.columns) (given_lines (length system.rows) 0 system.rows)) where
@@ -96,6 +106,7 @@ beginning-varies system = by_found (find (is_false system.columns) (given_lines 
   by_found None = filter_all (has_variable system.columns) (given_lines (length system.rows) 0 system.rows)
   by_found (Some line) = tt
 
+-- From the beginning, as many stages as columns are enough.
 same_from : (fuel : ℕ) (system : System) (next : Next) → system.columns ≤ fuel → Varies system next
     → or_ends (stages fuel system) next ≡ or_ends (stages system.columns system) next
 same_from fuel system (Goes work) l v =
@@ -103,6 +114,7 @@ same_from fuel system (Goes work) l v =
     same_stages fuel system.columns system all_open work (omega arith) c (all_within system.columns work.lines) v
 same_from fuel system (Ends outcome) l v = refl
 
+-- With as many stages as columns the outcome is the outcome.
 pub same_outcome : (fuel : ℕ) (system : System) → system.columns ≤ fuel → outcome_within fuel system ≡ outcome_of system
 unfolding outcome_within
 same_outcome fuel system l = same_from fuel system (beginning system) l (beginning-varies system)

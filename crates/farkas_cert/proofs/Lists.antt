@@ -1,11 +1,12 @@
 -- What holds of each element of a list, through the list operations of the elimination.
-use Rattle.std.proofs.Common.{◌≡◌, refl, subst, List, [], ◌∷◌, ◌++◌, map, Bool, true, false, cond, Some, None, Option}
+use Rattle.std.proofs.Common.{◌≡◌, refl, subst, List, [], ◌∷◌, map, Bool, true, false, cond, Some, None, Option}
 use Rattle.std.specs.Prelude.{filter, flat_map, find, not}
 use Rattle.std.specs.Option.{option_map}
 use Rattle.std.specs.List.{AllByRecursion}
-use Rattle.lin_rows.proofs.Lists.{AllByRecursion-append}
+use Rattle.lin_rows.proofs.Lists.{AllByRecursion-append, AllByRecursion-front, AllByRecursion-rest}
 use Rattle.farkas_cert.specs.Elimination.{every}
 
+-- What holds of all holds of those that pass a test.
 pub all_filter : {X : Type 0} (P : X → Type 0) (p : X → Bool) (xs : List X) → AllByRecursion P xs → AllByRecursion P (filter p xs)
 all_filter P p [] h = tt
 all_filter P p (x ∷ xs) h = keep (all_filter P p xs h.1) (p x) where
@@ -22,6 +23,7 @@ filter_all p (x ∷ xs) = keep (filter_all p xs) (p x) refl where
   keep rest true e = (e, rest)
   keep rest false e = rest
 
+-- Two facts that hold of all hold together.
 pub all_both : {X : Type 0} (P Q : X → Type 0) (xs : List X) → AllByRecursion P xs → AllByRecursion Q xs → AllByRecursion (λ x. P x × Q x) xs
 all_both P Q [] h k = tt
 all_both P Q (x ∷ xs) h k = ((h.0, k.0), all_both P Q xs h.1 k.1)
@@ -31,11 +33,13 @@ pub all_from : {X : Type 0} (P Q : X → Type 0) (xs : List X) → ((x : X) → 
 all_from P Q [] f h = tt
 all_from P Q (x ∷ xs) f h = (f x h.0, all_from P Q xs f h.1)
 
+-- A fact that goes over to images holds of all images.
 pub all_map : {X Y : Type 0} (P : X → Type 0) (Q : Y → Type 0) (f : X → Y) (xs : List X) → ((x : X) → P x → Q (f x)) → AllByRecursion P xs
     → AllByRecursion Q (map f xs)
 all_map P Q f [] g h = tt
 all_map P Q f (x ∷ xs) g h = (g x h.0, all_map P Q f xs g h.1)
 
+-- A fact that goes over to lists of images holds of all of them.
 pub all_flat_map : {X Y : Type 0} (P : X → Type 0) (Q : Y → Type 0) (f : X → List Y) (xs : List X) → ((x : X) → P x → AllByRecursion Q (f x))
     → AllByRecursion P xs → AllByRecursion Q (flat_map f xs)
 all_flat_map P Q f [] g h = tt
@@ -49,6 +53,7 @@ found {X} P p (x ∷ xs) y h e = at (found P p xs y h.1) (p x) refl e where
   at rest true t e = let same : x ≡ y = cc in subst (λ (z : X). P z × (p z ≡ true)) same (h.0, t)
   at rest false t e = rest e
 
+-- Where none is found, none passes the test.
 pub none_found : {X : Type 0} (p : X → Bool) (xs : List X) → find p xs ≡ None → AllByRecursion (λ x. p x ≡ false) xs
 none_found p [] e = tt
 none_found p (x ∷ xs) e = at (none_found p xs) (p x) refl e where
@@ -69,6 +74,7 @@ all_every {X} P (Some x ∷ os) xs h e = at (λ ys. all_every P os ys h.1) (ever
   at rest None t e = absurd cc
   at rest (Some ys) t e = let same : x ∷ ys ≡ xs = cc in rw (← same) (h.0 x refl, rest ys t)
 
+-- Where all options are given, each is, with what holds of all.
 pub all_there : {X : Type 0} (P : X → Type 0) (os : List (Option X)) (xs : List X) → every os ≡ Some xs → AllByRecursion P xs
     → AllByRecursion (λ o. (x : X) × (o ≡ Some x) × P x) os
 unfolding every
@@ -84,23 +90,18 @@ all_there {X} P (Some x ∷ os) xs e h = at (λ ys t. all_there P os ys t) (ever
       let k : AllByRecursion P (x ∷ ys) = subst (λ (zs : List X). AllByRecursion P zs) same h in
       ((x, refl, k.0), rest ys t k.1)
 
+-- What holds of all images holds of the image of each.
 pub all_unmap : {X Y : Type 0} (Q : Y → Type 0) (f : X → Y) (xs : List X) → AllByRecursion Q (map f xs) → AllByRecursion (λ x. Q (f x)) xs
 all_unmap Q f [] h = tt
 all_unmap Q f (x ∷ xs) h = (h.0, all_unmap Q f xs h.1)
 
-pub all_left : {X : Type 0} (P : X → Type 0) (xs ys : List X) → AllByRecursion P (xs ++ ys) → AllByRecursion P xs
-all_left P [] ys h = tt
-all_left P (x ∷ xs) ys h = (h.0, all_left P xs ys h.1)
-
-pub all_right : {X : Type 0} (P : X → Type 0) (xs ys : List X) → AllByRecursion P (xs ++ ys) → AllByRecursion P ys
-all_right P [] ys h = h
-all_right P (x ∷ xs) ys h = all_right P xs ys h.1
-
+-- What holds of all lists of images, one behind the other, holds of each list.
 pub all_unflat : {X Y : Type 0} (Q : Y → Type 0) (f : X → List Y) (xs : List X) → AllByRecursion Q (flat_map f xs)
     → AllByRecursion (λ x. AllByRecursion Q (f x)) xs
 all_unflat Q f [] h = tt
-all_unflat Q f (x ∷ xs) h = (all_left Q (f x) (flat_map f xs) h, all_unflat Q f xs (all_right Q (f x) (flat_map f xs) h))
+all_unflat Q f (x ∷ xs) h = (AllByRecursion-front Q (f x) (flat_map f xs) h, all_unflat Q f xs (AllByRecursion-rest Q (f x) (flat_map f xs) h))
 
+-- What holds of those that pass a test holds of each that does.
 pub all_unfilter : {X : Type 0} (P : X → Type 0) (p : X → Bool) (xs : List X) → AllByRecursion P (filter p xs)
     → AllByRecursion (λ x. p x ≡ true → P x) xs
 all_unfilter P p [] h = tt

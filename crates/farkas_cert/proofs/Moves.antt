@@ -29,10 +29,12 @@ pub record Moved (c : ℕ) (point : RationalPoint) (f : Fraction) (next : Ration
   pub numerators : next.numerators ≡ slice_set (multiple_of scale point.numerators) c (f.numerator *ℤ share)
   pub denominator : next.denominator ≡ point.denominator *ℤ scale
 
+-- A point that is given by a test is the point.
 some_point : (b : Bool) (x y : RationalPoint) → cond b (Some x) None ≡ Some y → x ≡ y
 some_point true x y e = cc
 some_point false x y e = absurd cc
 
+-- A point with a column set is the point moved there.
 pub assigned_moved : (c : ℕ) (point : RationalPoint) (f : Fraction) (next : RationalPoint) → pos 0 <ℤ point.denominator → pos 0 <ℤ f.denominator
     → assigned_point c point f ≡ Some next → Moved c point f next
 unfolding assigned_point
@@ -58,11 +60,13 @@ assigned_moved c point f next h k e =
       denominator = ap (λ (p : RationalPoint). p.denominator) (sym same);
     }
 
+-- A moved point has as many numerators.
 pub moved_length : (n c : ℕ) (point : RationalPoint) (f : Fraction) (next : RationalPoint) → Moved c point f next → length point.numerators ≡ n
     → length next.numerators ≡ n
 moved_length n c point f next m h =
     rw m.numerators (length-set (multiple_of m.scale point.numerators) c (f.numerator *ℤ m.share) ∙ length-map point.numerators (λ x. m.scale *ℤ x) ∙ h)
 
+-- A moved point has a positive denominator.
 pub moved_positive : (c : ℕ) (point : RationalPoint) (f : Fraction) (next : RationalPoint) → Moved c point f next → pos 0 <ℤ point.denominator
     → pos 0 <ℤ next.denominator
 moved_positive c point f next m h = rw m.denominator (mul-positive_ℤ point.denominator m.scale h m.scale_positive)
@@ -86,6 +90,7 @@ moved_slack n c point f next line m l h =
     let column = ap (λ t. t *ℤ y) here in
     omega (arith, linear)
 
+-- The scaled slack of a moved point, multiplied out.
 scaled_sum : (g q s v d o a w b : ℤ) → g *ℤ q ≡ v → g *ℤ s ≡ d
     → g *ℤ ((q *ℤ o +ℤ a *ℤ (w *ℤ s)) -ℤ b *ℤ (d *ℤ q)) ≡ (a *ℤ d) *ℤ w -ℤ (b *ℤ d -ℤ o) *ℤ v
 scaled_sum g q s v d o a w b e k =
@@ -116,10 +121,12 @@ slack_at n c point f next line m l h =
 
 -- ---- what holds
 
+-- A positive factor keeps that a slack is right.
 holds_scaled : (equal : Bool) (k s : ℤ) → pos 0 <ℤ k → Holds equal s → Holds equal (k *ℤ s)
 holds_scaled true k s h e = ap (λ t. k *ℤ t) e ∙ mul-zero_ℤ k
 holds_scaled false k s h e = omega (arith, linear, mul_right_le_ℤ s (pos 0) k (not_negative k h) e, mul_comm_ℤ s k, zero-mul_ℤ k)
 
+-- A positive factor may be taken off.
 pub holds_cancel : (equal : Bool) (k s : ℤ) → pos 0 <ℤ k → Holds equal (k *ℤ s) → Holds equal s
 holds_cancel true k s h e = eq_of_mul_right_ℤ s (pos 0) k h (mul_comm_ℤ s k ∙ e ∙ sym (zero-mul_ℤ k))
 holds_cancel false k s h e = le_of_mul_right_ℤ s (pos 0) k h (omega (arith, linear, mul_comm_ℤ s k, zero-mul_ℤ k))

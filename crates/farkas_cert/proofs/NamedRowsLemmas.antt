@@ -13,6 +13,7 @@ use Rattle.farkas_cert.specs.inside.Columns.{perhaps_denying, CanBeDenied}
 use Rattle.farkas_cert.specs.Proof.{with_denial}
 use Rattle.farkas_cert.specs.NamedRows.{IsNamed}
 
+-- What is not there is not there.
 none_is_not : IsSome {T = Row} None → ⊥
 none_is_not there = cc
 
@@ -21,17 +22,20 @@ row_numbered-place : (rows : List Row) (k : ℕ) → 0 < k → row_numbered rows
 row_numbered-place rows zero h = absurd (omega arith)
 row_numbered-place rows (suc k) h = let e : k ≡ suc k - 1 = omega arith in ap (slice_get rows) e
 
+-- A place in the front list has the front's element.
 slice_get-front : (xs ys : List Row) (n : ℕ) → n < length xs → slice_get (xs ++ ys) n ≡ slice_get xs n
 slice_get-front [] ys n h = absurd (omega arith)
 slice_get-front (x ∷ xs) ys zero h = refl
 slice_get-front (x ∷ xs) ys (suc n) h = slice_get-front xs ys n (omega arith)
 
+-- Behind the list only the appended element is there.
 slice_get-end : (xs : List Row) (y : Row) (n : ℕ) → length xs ≤ n → IsSome (slice_get (xs ++ y ∷ []) n) → slice_get (xs ++ y ∷ []) n ≡ Some y
 slice_get-end [] y zero h there = refl
 slice_get-end [] y (suc n) h there = absurd (none_is_not there)
 slice_get-end (x ∷ xs) y zero h there = absurd (omega arith)
 slice_get-end (x ∷ xs) y (suc n) h there = slice_get-end xs y n (omega arith) there
 
+-- Nothing is there behind the end.
 slice_get-past : (xs : List Row) (n : ℕ) → length xs ≤ n → IsSome (slice_get xs n) → ⊥
 slice_get-past [] n h there = none_is_not there
 slice_get-past (x ∷ xs) zero h there = omega arith
@@ -59,12 +63,15 @@ row_numbered-some rows zero there = absurd (none_is_not there)
 row_numbered-some rows (suc k) there = omega arith
 
 -- ---- what is known of all of them
+-- The rows of a system can be named.
 named_alone : (system : System) → IsWellFormed system → IsNamed system
 named_alone system held = record { columns = held.columns; count = let few = held.count in omega arith; rows = held.rows }
 
+-- The negation of an atom is over the same columns.
 over-negation : (columns : ℕ) (atom : Row) → IsAtom atom → length atom.coefficients ≡ columns → IsRowOver columns (negation atom)
 over-negation columns atom is_atom width = record { width = length-map atom.coefficients neg_ℤ ∙ width; fits = (IsAtom-negation atom is_atom).fits }
 
+-- The rows of a system with a denial can be named.
 named_denying : (system : System) (atom : Row) → IsWellFormed system → CanBeDenied system atom → IsNamed (with_denial system atom)
 named_denying system atom held can =
     let few = held.count in
@@ -74,10 +81,12 @@ named_denying system atom held can =
       rows = AllByRecursion-append (IsRowOver system.columns) system.rows (negation atom ∷ []) held.rows (over-negation system.columns atom can.is_atom can.width, tt);
     }
 
+-- The rows of a system, perhaps with a denial, can be named.
 pub IsNamed-perhaps_denying : (system : System) (denied : Option RowView) → IsWellFormed system → IfSome denied (λ atom. CanBeDenied system (row_of atom))
     → IsNamed (perhaps_denying system (option_map row_of denied))
 IsNamed-perhaps_denying system None held can = named_alone system held
 IsNamed-perhaps_denying system (Some atom) held can = named_denying system (row_of atom) held can
 
+-- Rows that can be named have their widths.
 pub HasWidths-named : (system : System) → IsNamed system → HasWidths system
 HasWidths-named system named = AllByRecursion-weaken (IsRowOver system.columns) (λ row. length row.coefficients ≡ system.columns) (λ row over. over.width) system.rows named.rows

@@ -7,13 +7,16 @@ use Rattle.lin_rows.proofs.Lists.{slice_get-there}
 use Rattle.farkas_cert.specs.Cert.{row_numbered}
 use Rattle.farkas_cert.specs.Proof.{numbers_of}
 
+-- The numbers of the row at a place are its coefficients and its bound.
 pub numbers_of-place : (rows : List Row) (place : ℕ) (row : Row) → slice_get rows place ≡ Some row → numbers_of (row_numbered rows (place + 1)) ≡ row.coefficients ++ row.bound ∷ []
 numbers_of-place rows place row is = ap (λ n. numbers_of (row_numbered rows n)) (add-one place) ∙ ap numbers_of is
 
+-- Whether the row at a place is an equality.
 pub equality-place : (rows : List Row) (place : ℕ) (row : Row) → slice_get rows place ≡ Some row → unwrap_or (option_map (λ named. named.equal) (row_numbered rows (place + 1))) false ≡ row.equal
 equality-place rows place row is =
     ap (λ n. unwrap_or (option_map (λ (named : Row). named.equal) (row_numbered rows n)) false) (add-one place) ∙ ap (λ (o : Option Row). unwrap_or (option_map (λ named. named.equal) o) false) is
 
+-- At each place within there is a row.
 pub IsSome-place : (rows : List Row) (place : ℕ) → place < length rows → IsSome (row_numbered rows (place + 1))
 IsSome-place rows place within =
     let there = slice_get-there rows place within in

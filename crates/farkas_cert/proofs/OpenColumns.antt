@@ -23,25 +23,30 @@ use Rattle.farkas_cert.proofs.Certificates.{appended, all_kept}
 
 -- ---- how many columns are open
 
+-- how many of the first columns are open
 unfoldable pub count_open : ℕ → (ℕ → Bool) → ℕ
 count_open zero f = 0
 count_open (suc n) f = cond (f n) (suc (count_open n f)) (count_open n f)
 
+-- the open columns without one
 abbrev pub close : ℕ → (ℕ → Bool) → ℕ → Bool
 close c f j = cond (eqb j c) false (f j)
 
+-- The closed column is not open.
 pub closed_here : (c : ℕ) (f : ℕ → Bool) → close c f c ≡ false
 closed_here c f = at (eqb c c) refl where
   at : (b : Bool) → eqb c c ≡ b → cond b false (f c) ≡ false
   at true e = refl
   at false e = absurd (eqb-false c c e refl)
 
+-- Another column is open where it was.
 closed_elsewhere : (c j : ℕ) (f : ℕ → Bool) → ¬ (j ≡ c) → close c f j ≡ f j
 closed_elsewhere c j f n = at (eqb j c) refl where
   at : (b : Bool) → eqb j c ≡ b → cond b false (f j) ≡ f j
   at true e = absurd (n (eqb-true j c e))
   at false e = refl
 
+-- A column above the first n does not count among them.
 closed_above : (n c : ℕ) (f : ℕ → Bool) → n ≤ c → count_open n (close c f) ≡ count_open n f
 unfolding count_open
 closed_above zero c f h = refl
@@ -50,12 +55,14 @@ closed_above (suc n) c f h =
     let r = closed_above n c f (omega arith) in
     rw (e, r) refl
 
+-- A count of one more, where the last column counts in both.
 by_here : (b d : Bool) (m k : ℕ) → d ≡ b → suc m ≡ k → suc (cond d (suc m) m) ≡ cond b (suc k) k
 by_here true true m k e r = ap suc r
 by_here false false m k e r = r
 by_here true false m k e r = absurd cc
 by_here false true m k e r = absurd cc
 
+-- An open column below n counts for one.
 closed_below : (n c : ℕ) (f : ℕ → Bool) → c < n → f c ≡ true → suc (count_open n (close c f)) ≡ count_open n f
 unfolding count_open
 closed_below zero c f h t = absurd (omega arith)
@@ -73,6 +80,7 @@ closed_below (suc n) c f h t = at (closed_below n c f) (eqb n c) refl where
       let i = closed_elsewhere c n f apart in
       by_here (f n) (close c f n) (count_open n (close c f)) (count_open n f) i (rest l t)
 
+-- Fewer columns are open after one is closed.
 pub close_falls : (n c : ℕ) (f : ℕ → Bool) → c < n → f c ≡ true → count_open n (close c f) < count_open n f
 close_falls n c f h t = omega (arith, closed_below n c f h t)
 
@@ -82,27 +90,33 @@ close_falls n c f h t = omega (arith, closed_below n c f h t)
 abbrev pub IsWithin : ℕ → (ℕ → Bool) → Line → Type 0
 IsWithin n f line = (j : ℕ) → j < n → f j ≡ false → coefficient_at j line ≡ pos 0
 
+-- each line has only open columns
 abbrev pub AllWithin : ℕ → (ℕ → Bool) → List Line → Type 0
 AllWithin n f lines = AllByRecursion (IsWithin n f) lines
 
+-- each line has a column
 abbrev pub AllVary : ℕ → List Line → Type 0
 AllVary n lines = AllByRecursion (λ line. has_variable n line ≡ true) lines
 
+-- A line without a column is within the others.
 within_closed : (n c : ℕ) (f : ℕ → Bool) (line : Line) → IsWithin n f line → coefficient_at c line ≡ pos 0 → IsWithin n (close c f) line
 within_closed n c f line h z j l e = at (eqb j c) refl e where
   at : (b : Bool) → eqb j c ≡ b → cond b false (f j) ≡ false → coefficient_at j line ≡ pos 0
   at true t e = rw (eqb-true j c t) z
   at false t e = h j l e
 
+-- A number that does not pass the test of nonzero is 0.
 pub zero_by_test : (x : ℤ) → is_nonzero x ≡ false → x ≡ pos 0
 zero_by_test (pos zero) e = refl
 zero_by_test (pos (suc n)) e = absurd cc
 zero_by_test (negsuc n) e = absurd cc
 
+-- What is not true is false.
 not_false : (a : Bool) → not a ≡ true → a ≡ false
 not_false true e = absurd cc
 not_false false e = refl
 
+-- The first number other than 0 is among the first, and other than 0.
 lowest_by : (n : ℕ) (xs : List ℤ) → list_any is_nonzero (take n xs) ≡ true
     → (position_or_len is_nonzero (take n xs) < n) × (is_nonzero (get_or xs (position_or_len is_nonzero (take n xs)) (pos 0)) ≡ true)
 lowest_by zero xs e = absurd cc
@@ -128,6 +142,7 @@ open_where n c f line h l e = at (f c) refl where
 abbrev pub IsOpen : ℕ → (ℕ → Bool) → ℕ → Type 0
 IsOpen n f c = (c < n) × (f c ≡ true)
 
+-- The lowest column of a line within open columns is open.
 pub lowest_open : (n : ℕ) (f : ℕ → Bool) (line : Line) → IsWithin n f line → has_variable n line ≡ true → IsOpen n f (lowest_column n line)
 lowest_open n f line h e = let l = lowest_is n line e in (l.0, open_where n (lowest_column n line) f line h l.0 l.1)
 
@@ -135,11 +150,13 @@ lowest_open n f line h e = let l = lowest_is n line e in (l.0, open_where n (low
 min_either : (P : ℕ → Type 0) (a b : ℕ) → P a → P b → P (min a b)
 min_either P a b h k = elim (cases_lt a b) [ inl l ↦ rw (min-eq_left (le_of_lt l)) h | inr l ↦ rw (min-eq_right l) k ]
 
+-- What holds of each line's lowest column holds of the least.
 folded_keeps : (P : ℕ → Type 0) (n c : ℕ) (lines : List Line) → P c → AllByRecursion (λ line. P (lowest_column n line)) lines
     → P (fold (λ c line. min c (lowest_column n line)) c lines)
 folded_keeps P n c [] h k = h
 folded_keeps P n c (line ∷ lines) h k = folded_keeps P n (min c (lowest_column n line)) lines (min_either P c (lowest_column n line) h k.0) k.1
 
+-- The lowest column of all lines is open.
 pub lowest_of_open : (n : ℕ) (f : ℕ → Bool) (line : Line) (lines : List Line) → AllWithin n f (line ∷ lines) → AllVary n (line ∷ lines)
     → IsOpen n f (lowest_of n (line ∷ lines))
 unfolding lowest_of
@@ -162,11 +179,13 @@ abbrev pub ClosesTested : ℕ → (ℕ → Bool) → Next → Type 0
 ClosesTested n f (Goes work) = (c : ℕ) × IsOpen n f c × AllWithin n (close c f) work.lines × AllVary n work.lines
 ClosesTested n f (Ends outcome) = ⊤
 
+-- What follows a stage closes the column where its lines do.
 closes_follows : (n : ℕ) (f : ℕ → Bool) (work : Work) (kept : Kept) (made c : ℕ) (o : Option (List Line)) → IsOpen n f c
     → ((lines : List Line) → o ≡ Some lines → AllWithin n (close c f) lines) → Closes n f (follows work kept made o)
 closes_follows n f work kept made c None i h = tt
 closes_follows n f work kept made c (Some lines) i h = (c, i, h lines refl)
 
+-- A line that is made is within the open columns of both.
 made_within : (n : ℕ) (f : ℕ → Bool) (equal : Bool) (a : ℤ) (left : Line) (b : ℤ) (right line : Line) → IsWithin n f left → IsWithin n f right
     → made_line equal a left.numbers b right.numbers ≡ Some line → IsWithin n f line
 made_within n f equal a left b right line h k e j l t =
@@ -174,6 +193,7 @@ made_within n f equal a left b right line h k e j l t =
     subst (λ (next : Line). coefficient_at j next ≡ pos 0) same
     (made_vanishes (λ xs. get_or xs j (pos 0)) (get-linear j) a left.numbers b right.numbers (h j l t) (k j l t))
 
+-- A line that is made has no column that cancels.
 made_loses : (c : ℕ) (equal : Bool) (a : ℤ) (left : Line) (b : ℤ) (right line : Line)
     → a *ℤ coefficient_at c left +ℤ b *ℤ coefficient_at c right ≡ pos 0 → made_line equal a left.numbers b right.numbers ≡ Some line
     → coefficient_at c line ≡ pos 0
@@ -182,6 +202,7 @@ made_loses c equal a left b right line h e =
     (divided_vanishes (λ xs. get_or xs c (pos 0)) (get-linear c) (combination a left.numbers b right.numbers)
     (of_combination (λ xs. get_or xs c (pos 0)) (get-linear c) a left.numbers b right.numbers ∙ h))
 
+-- A line in which an equality is put in is within the other columns.
 pub substituted_closes : (n c : ℕ) (f : ℕ → Bool) (equality line next : Line) → IsWithin n f equality → IsWithin n f line
     → substituted_line c equality line ≡ Some next → IsWithin n (close c f) next
 unfolding substituted_line
@@ -204,6 +225,7 @@ substituted_closes n c f equality line next h k e = at (is_nonzero q) refl e whe
       (made_loses c line.equal (over g (pos (unsigned_abs p))) line (neg_ℤ (over g (int_signum p *ℤ q))) equality next (substitution_cancels p q t) e)
   at false t e = let same : line ≡ next = cc in subst (λ (l : Line). IsWithin n (close c f) l) same (within_closed n c f line k (zero_by_test q t))
 
+-- A line of a pair is within the other columns.
 pub paired_closes : (n c : ℕ) (f : ℕ → Bool) (positive negative next : Line) → IsWithin n f positive → IsWithin n f negative
     → int_lt (pos 0) (coefficient_at c positive) ≡ true → paired_line c positive negative ≡ Some next → IsWithin n (close c f) next
 unfolding paired_line
@@ -215,6 +237,7 @@ paired_closes n c f positive negative next h k t e =
     (made_within n f false (over g q) positive (over g p) negative next h k e)
     (made_loses c false (over g q) positive (over g p) negative next (pairing_cancels p (coefficient_at c negative) (omega (arith, ints))) e)
 
+-- The lines without the equality are within the open columns.
 without_equality_within : (n : ℕ) (f : ℕ → Bool) (lines : List Line) → AllWithin n f lines → AllWithin n f (without_equality lines)
 unfolding without_equality
 without_equality_within n f [] h = tt
@@ -223,6 +246,7 @@ without_equality_within n f (line ∷ lines) h = at (without_equality_within n f
   at rest true = h.1
   at rest false = (h.0, rest)
 
+-- A stage with an equality closes its column.
 pub equality_stage_closes : (system : System) (f : ℕ → Bool) (work : Work) (equality : Line) → IsWithin system.columns f equality
     → has_variable system.columns equality ≡ true → AllWithin system.columns f work.lines
     → Closes system.columns f (equality_stage system work equality)
@@ -237,6 +261,7 @@ equality_stage_closes system f work equality e v h =
     (λ line d next s. substituted_closes n c f equality line next e d s)
     (without_equality_within n f work.lines h)) m)
 
+-- The lines of all pairs are within the other columns.
 pairs_close : (n c : ℕ) (f : ℕ → Bool) (lines pairs : List Line) → AllWithin n f lines → pairs_at c lines ≡ Some pairs → AllWithin n (close c f) pairs
 unfolding pairs_at
 pairs_close n c f lines pairs h e =
@@ -249,12 +274,14 @@ pairs_close n c f lines pairs h e =
     (all_kept (IsWithin n f) (λ line. int_lt (pos 0) (coefficient_at c line)) lines h))
     e
 
+-- The lines without a column are within the other columns.
 without_column_within : (n c : ℕ) (f : ℕ → Bool) (lines : List Line) → AllWithin n f lines → AllWithin n (close c f) (without_column c lines)
 without_column_within n c f lines h =
     all_from (λ line. IsWithin n f line × (not (is_nonzero (coefficient_at c line)) ≡ true)) (IsWithin n (close c f)) (without_column c lines)
     (λ line k. within_closed n c f line k.0 (zero_by_test (coefficient_at c line) (not_false (is_nonzero (coefficient_at c line)) k.1)))
     (all_kept (IsWithin n f) (λ line. not (is_nonzero (coefficient_at c line))) lines h)
 
+-- A stage with pairs closes its column.
 pub pair_stage_closes : (system : System) (f : ℕ → Bool) (work : Work) → IsOpen system.columns f (lowest_of system.columns work.lines)
     → AllWithin system.columns f work.lines → Closes system.columns f (pair_stage system work)
 unfolding pair_stage

@@ -13,10 +13,12 @@ use Rattle.farkas_cert.specs.BackSubstitution.{RationalPoint, Fraction, Kept, So
 use Rattle.farkas_cert.specs.Elimination.{Outcome, Refuted, Point, Leaves, Work, Next, Goes, Ends, every, refutation_outcome, constant_test, constant_test_by, follows, without_equality, substituted_line, equality_stage, with_column, without_column, positives, negatives, pairs_at, are_too_many, pair_stage, take_column_out, take_column_out_by, stage, then_constant_test, or_leaves, point_from, point_of, or_ends, goes_on, stages, beginning, outcome_of, outcome_within}
 use Rattle.farkas_cert.specs.declared.answers.LeaveKind.TheVariants.{Overflow, Rows}
 use Rattle.lin_rows.proofs.Integers.{zero-mul_ℤ}
+use Rattle.lin_rows.proofs.Points.{product_of-AllZero}
+use Rattle.lin_rows.proofs.Lists.{AllByRecursion-front, AllByRecursion-rest}
 use Rattle.farkas_cert.proofs.Integers.{linear, mul_right_le_ℤ}
 use Rattle.farkas_cert.proofs.Fractions.{not_negative}
-use Rattle.farkas_cert.proofs.Refuting.{not_true, no_variable, product_of_zeros, given_parts}
-use Rattle.farkas_cert.proofs.Lists.{all_from, all_left, all_right, all_parts, all_back, all_unfilter, found, none_found, all_both, filter_all}
+use Rattle.farkas_cert.proofs.Refuting.{not_true, no_variable, given_parts}
+use Rattle.farkas_cert.proofs.Lists.{all_from, all_parts, all_back, all_unfilter, found, none_found, all_both, filter_all}
 use Rattle.farkas_cert.proofs.Certificates.{appended}
 use Rattle.farkas_cert.proofs.OpenColumns.{count_open, close, close_falls, IsWithin, AllWithin, AllVary, IsOpen, lowest_is, lowest_of_open, substituted_closes, closed_here, zero_by_test, ClosesTested}
 use Rattle.farkas_cert.proofs.Fuel.{stage_closes, none_left, all_open, all_within, count_all, Varies, beginning-varies}
@@ -25,6 +27,7 @@ use Rattle.farkas_cert.proofs.Moves.{Moved, assigned_moved, moved_length, moved_
 use Rattle.farkas_cert.proofs.Sides.{bound_is, solved_meets, substituted_back}
 use Rattle.farkas_cert.proofs.Between.{no_bounds, chosen_has_positive, all_kept_meet}
 
+-- the point meets each line
 abbrev pub AllMeet : ℕ → RationalPoint → List Line → Type 0
 AllMeet n point lines = AllByRecursion (MeetsLine n point) lines
 
@@ -39,6 +42,7 @@ Leads system lines kept = (point : RationalPoint) (x : List ℤ) (d : ℤ) → I
 
 -- ---- the constant test
 
+-- A line without a column that is not false holds.
 true_meets : (n : ℕ) (point : RationalPoint) (line : Line) (equal : Bool) → line.equal ≡ equal → pos 0 <ℤ point.denominator
     → product_of (take n line.numbers) point.numerators ≡ pos 0 → fails equal (bound_of n line) ≡ false → Holds equal (slack n point line.numbers)
 true_meets n point line true e d z f =
@@ -48,18 +52,21 @@ true_meets n point line true e d z f =
 true_meets n point line false e d z f =
     omega (arith, ints, mul_right_le_ℤ (pos 0) (bound_of n line) point.denominator (not_negative point.denominator d) (omega (arith, ints)), zero-mul_ℤ point.denominator)
 
+-- Where both do not hold and the first does, the second does not.
 second_false : (a b : Bool) → a ≡ true → (a && b) ≡ false → b ≡ false
 second_false true b t e = e
 second_false false b t e = absurd cc
 
+-- A constant line that is not false holds at each point.
 constant_meets : (n : ℕ) (point : RationalPoint) (line : Line) → pos 0 <ℤ point.denominator → is_false n line ≡ false → has_variable n line ≡ false
     → MeetsLine n point line
 unfolding is_false
 constant_meets n point line d f v =
     let test : not (has_variable n line) ≡ true = rw v refl in
-    true_meets n point line line.equal refl d (product_of_zeros (take n line.numbers) point.numerators (no_variable n line v))
+    true_meets n point line line.equal refl d (product_of-AllZero (take n line.numbers) point.numerators (no_variable n line v))
     (second_false (not (has_variable n line)) (fails line.equal (bound_of n line)) test f)
 
+-- A line that is not false holds, where it does so if it varies.
 by_variable : (n : ℕ) (point : RationalPoint) (line : Line) → pos 0 <ℤ point.denominator → is_false n line ≡ false
     → (has_variable n line ≡ true → MeetsLine n point line) → MeetsLine n point line
 by_variable n point line d f h = at (has_variable n line) refl where
@@ -67,6 +74,7 @@ by_variable n point line d f h = at (has_variable n line) refl where
   at true v = h v
   at false v = constant_meets n point line d f v
 
+-- Where the lines that vary hold and none is false, all hold.
 constant_test-holds : (n : ℕ) (point : RationalPoint) (lines : List Line) → pos 0 <ℤ point.denominator → find (is_false n) lines ≡ None
     → AllMeet n point (filter (has_variable n) lines) → AllMeet n point lines
 constant_test-holds n point lines d e h =
@@ -79,16 +87,19 @@ constant_test-holds n point lines d e h =
 abbrev pub NoPoint : Outcome → Type 0
 NoPoint outcome = (x : List ℤ) (d : ℤ) → ¬ (outcome ≡ Point x d)
 
+-- the lines that are left lead to a point of the system, or the end is no point
 abbrev pub NextLeads : System → Next → Type 0
 NextLeads system (Goes work) = Leads system work.lines work.kept
 NextLeads system (Ends outcome) = NoPoint outcome
 
+-- A refutation gives no point.
 no_point_refuted : (system : System) (number : ℕ) (ms : List ℤ) → NoPoint (refutation_outcome system number ms)
 no_point_refuted system number ms x d = at (is_none (overflow_of system.rows (nonzero_pairs 1 ms))) where
   at : (b : Bool) → ¬ (cond b (Refuted (nonzero_pairs 1 ms)) (Leaves number Overflow) ≡ Point x d)
   at true e = cc
   at false e = cc
 
+-- The test for false lines keeps where a point leads.
 constant_test-leads : (system : System) (number : ℕ) (work : Work) → Leads system work.lines work.kept → NextLeads system (constant_test system number work)
 unfolding constant_test
 constant_test-leads system number work h = at (find (is_false system.columns) work.lines) refl where
@@ -98,16 +109,19 @@ constant_test-leads system number work h = at (find (is_false system.columns) wo
 
 -- ---- the step of the point
 
+-- A step that leads to a point gives one.
 step_is : (k : ℕ) (more : RationalPoint → Outcome) (o : Option RationalPoint) (x : List ℤ) (d : ℤ) → or_leaves k more o ≡ Point x d
     → (next : RationalPoint) × (o ≡ Some next) × (more next ≡ Point x d)
 step_is k more None x d e = absurd cc
 step_is k more (Some next) x d e = (next, refl, e)
 
+-- A moved point is over the columns.
 moved_over : (n c : ℕ) (point : RationalPoint) (f : Fraction) (next : RationalPoint) → Moved c point f next → IsOver n point → IsOver n next
 moved_over n c point f next m o = record { whole = moved_length n c point f next m o.whole; positive = moved_positive c point f next m o.positive }
 
 -- ---- a stage with an equality
 
+-- What holds of the equality and of the others holds of all.
 with_equality : (P : Line → Type 0) (lines : List Line) (equality : Line) → find (λ line. line.equal) lines ≡ Some equality → P equality
     → AllByRecursion P (without_equality lines) → AllByRecursion P lines
 unfolding without_equality
@@ -120,9 +134,11 @@ with_equality P (line ∷ lines) equality e h k = at (with_equality P lines equa
   at rest true e k = let same : equality ≡ line = cc in (subst P same h, k)
   at rest false e k = (k.0, rest e h k.1)
 
+-- A line within the other columns has no coefficient at the closed one.
 lost_column : (n c : ℕ) (line : Line) → c < n → IsWithin n (close c all_open) line → coefficient_at c line ≡ pos 0
 lost_column n c line l h = h c l (closed_here c all_open)
 
+-- A point of the lines with the equality put in, moved, meets all lines.
 equality_leads : (system : System) (work : Work) (equality : Line) (lines : List Line) → find (λ line. line.equal) work.lines ≡ Some equality
     → equality.equal ≡ true → has_variable system.columns equality ≡ true
     → every (map (substituted_line (lowest_column system.columns equality) equality) (without_equality work.lines)) ≡ Some lines
@@ -149,6 +165,7 @@ equality_leads system work equality lines found_it t v made h point x d over mee
 
 -- ---- a stage without one
 
+-- A point of the pairs, moved between the bounds, meets all lines.
 pair_leads : (system : System) (work : Work) (c : ℕ) (pairs : List Line) → c < system.columns → AllByRecursion (λ line. line.equal ≡ false) work.lines
     → pairs_at c work.lines ≡ Some pairs → Leads system work.lines work.kept
     → Leads system (without_column c work.lines ++ pairs) (Bounded c (with_column c work.lines) ∷ work.kept)
@@ -161,21 +178,23 @@ pair_leads system work c pairs l q made h point x d over meets e =
     let bounds = set.0 in
     let w = chosen_value bounds.lower bounds.upper in
     let moved = assigned_moved c point w next over.positive (chosen_has_positive n c point work.lines bounds over.positive set.1) set.2 in
-    let kept = all_kept_meet n c point next work.lines pairs bounds moved l over.whole over.positive q made (all_right (MeetsLine n point) (without_column c work.lines) pairs meets) set.1 in
+    let kept = all_kept_meet n c point next work.lines pairs bounds moved l over.whole over.positive q made (AllByRecursion-rest (MeetsLine n point) (without_column c work.lines) pairs meets) set.1 in
     let others = all_from (λ line. MeetsLine n point line × (not (is_nonzero (coefficient_at c line)) ≡ true)) (MeetsLine n next) (without_column c work.lines)
     (λ line k. still_meets n c point w next line moved l over.whole (zero_by_test (coefficient_at c line) (not_true (is_nonzero (coefficient_at c line)) k.1)) k.0)
     (all_both (MeetsLine n point) (λ line. not (is_nonzero (coefficient_at c line)) ≡ true) (without_column c work.lines)
-    (all_left (MeetsLine n point) (without_column c work.lines) pairs meets)
+    (AllByRecursion-front (MeetsLine n point) (without_column c work.lines) pairs meets)
     (filter_all (λ line. not (is_nonzero (coefficient_at c line))) work.lines)) in
     h next x d (moved_over n c point w next moved over) (all_parts (MeetsLine n next) (λ line. is_nonzero (coefficient_at c line)) work.lines kept others) step.2
 
 -- ---- a stage
 
+-- What follows a stage leads where its lines do.
 follows_leads : (system : System) (work : Work) (kept : Kept) (made : ℕ) (o : Option (List Line))
     → ((lines : List Line) → o ≡ Some lines → Leads system lines (kept ∷ work.kept)) → NextLeads system (follows work kept made o)
 follows_leads system work kept made None h = λ x d e. absurd cc
 follows_leads system work kept made (Some lines) h = h lines refl
 
+-- A stage with an equality leads back.
 equality_stage_leads : (system : System) (work : Work) (equality : Line) → find (λ line. line.equal) work.lines ≡ Some equality
     → equality.equal ≡ true → has_variable system.columns equality ≡ true → Leads system work.lines work.kept
     → NextLeads system (equality_stage system work equality)
@@ -185,6 +204,7 @@ equality_stage_leads system work equality e t v h =
     follows_leads system work (Solved c equality) work.made (every (map (substituted_line c equality) (without_equality work.lines)))
     (λ lines m. equality_leads system work equality lines e t v m h)
 
+-- A stage with pairs leads back.
 pair_stage_leads : (system : System) (work : Work) → lowest_of system.columns work.lines < system.columns
     → AllByRecursion (λ line. line.equal ≡ false) work.lines → Leads system work.lines work.kept → NextLeads system (pair_stage system work)
 unfolding pair_stage
@@ -202,6 +222,7 @@ pair_stage_leads system work l q h = by_limit (are_too_many system made) where
       (λ lines e. let split = appended (without_column c work.lines) (pairs_at c work.lines) lines e in
       subst (λ (all : List Line). Leads system all (Bounded c (with_column c work.lines) ∷ work.kept)) split.2 (pair_leads system work c split.0 l q split.1 h))
 
+-- To take a column out leads back.
 take_column_out-leads : (system : System) (work : Work) (line : Line) (lines : List Line) → work.lines ≡ line ∷ lines → AllVary system.columns work.lines
     → Leads system work.lines work.kept → NextLeads system (take_column_out system work)
 unfolding take_column_out
@@ -218,10 +239,12 @@ take_column_out-leads system work line lines s v h = at (find (λ line. line.equ
       let k = found (λ l. has_variable n l ≡ true) (λ line. line.equal) work.lines equality v e in
       equality_stage_leads system work equality e k.1 k.0 h
 
+-- The test behind a stage leads back.
 then_constant_test-leads : (system : System) (next : Next) → NextLeads system next → NextLeads system (then_constant_test system next)
 then_constant_test-leads system (Goes work) h = constant_test-leads system (length work.kept) work h
 then_constant_test-leads system (Ends outcome) h = h
 
+-- A stage leads back.
 stage_leads : (system : System) (work : Work) (line : Line) (lines : List Line) → work.lines ≡ line ∷ lines → AllVary system.columns work.lines
     → Leads system work.lines work.kept → NextLeads system (stage system work)
 unfolding stage
@@ -235,12 +258,14 @@ start_leads : (system : System) (kept : List Kept) (x : List ℤ) (d : ℤ) → 
 start_leads system kept x d h e =
     h (record { numerators = replicate system.columns (pos 0); denominator = pos 1 }) x d (record { whole = length-replicate system.columns (pos 0); positive = omega (arith, linear) }) tt e
 
+-- An end with a point leads back, or what goes on does.
 ends_lead : (system : System) (f : ℕ → Bool) (more : Work → Outcome) (next : Next) (x : List ℤ) (d : ℤ)
     → ((work : Work) (c : ℕ) → IsOpen system.columns f c → AllWithin system.columns (close c f) work.lines → AllVary system.columns work.lines → Leads system work.lines work.kept → more work ≡ Point x d → IsRationalPoint system x d)
     → ClosesTested system.columns f next → NextLeads system next → or_ends more next ≡ Point x d → IsRationalPoint system x d
 ends_lead system f more (Goes work) x d rest c h e = rest work c.0 c.1 c.2 c.3 h e
 ends_lead system f more (Ends outcome) x d rest c h e = absurd (h x d e)
 
+-- A point at the end of the stages leads back to one of the system.
 stages_lead : (fuel : ℕ) (system : System) (f : ℕ → Bool) (work : Work) (x : List ℤ) (d : ℤ) → count_open system.columns f ≤ fuel
     → AllWithin system.columns f work.lines → AllVary system.columns work.lines → Leads system work.lines work.kept
     → stages fuel system work ≡ Point x d → IsRationalPoint system x d
@@ -258,10 +283,12 @@ stages_lead (suc fuel) system f work x d l w v h e = at (stages_lead fuel system
 
 -- ---- the given rows
 
+-- A difference that is right says that the sides are.
 holds_over : (equal : Bool) (a b : ℤ) → Holds equal (a -ℤ b) → MatchBool equal (a ≡ b) (a ≤ℤ b)
 holds_over true a b h = omega (arith, linear)
 holds_over false a b h = omega (arith, linear)
 
+-- A point that meets a given line meets its row.
 given_meets : (system : System) (total k : ℕ) (row : Row) (point : RationalPoint) → length row.coefficients ≡ system.columns
     → MeetsLine system.columns point (given_line total k row) → MeetsOver row point.numerators point.denominator
 given_meets system total k row point w h =
@@ -271,6 +298,7 @@ given_meets system total k row point w h =
     (subst (λ t. Holds row.equal (product_of (take system.columns (given_line total k row).numbers) point.numerators -ℤ t *ℤ point.denominator)) parts.1 h) in
     holds_over row.equal (product_of row.coefficients point.numerators) (row.bound *ℤ point.denominator) moved
 
+-- A point that meets all given lines meets all rows.
 given_meet : (system : System) (total k : ℕ) (rows : List Row) (point : RationalPoint)
     → AllByRecursion (λ row. length row.coefficients ≡ system.columns) rows → AllMeet system.columns point (given_lines total k rows)
     → AllByRecursion (λ row. MeetsOver row point.numerators point.denominator) rows
@@ -278,6 +306,7 @@ unfolding given_lines
 given_meet system total k [] point w h = tt
 given_meet system total k (row ∷ rows) point w h = (given_meets system total k row point w.0 h.0, given_meet system total (suc k) rows point w.1 h.1)
 
+-- A point of the given lines is one of the system.
 given_leads : (system : System) → HasWidths system → Leads system (given_lines (length system.rows) 0 system.rows) []
 unfolding point_from
 given_leads system w point x d over meets e =
@@ -286,11 +315,13 @@ given_leads system w point x d over meets e =
     subst (λ (z : List ℤ). IsRationalPoint system z d) same_x (subst (λ (k : ℤ). IsRationalPoint system point.numerators k) same_d
     (record { whole = over.whole; positive = over.positive; meets = given_meet system (length system.rows) 0 system.rows point w meets }))
 
+-- A point as the outcome from the beginning is one of the system.
 outcome_by : (system : System) (next : Next) (x : List ℤ) (d : ℤ) → Varies system next → NextLeads system next
     → or_ends (stages system.columns system) next ≡ Point x d → IsRationalPoint system x d
 outcome_by system (Goes work) x d v h e = stages_lead system.columns system all_open work x d (count_all system.columns) (all_within system.columns work.lines) v h e
 outcome_by system (Ends outcome) x d v h e = absurd (h x d e)
 
+-- A point as the outcome is one of the system.
 pub point_is_sound : (system : System) (x : List ℤ) (d : ℤ) → HasWidths system → outcome_of system ≡ Point x d → IsRationalPoint system x d
 unfolding outcome_within beginning
 point_is_sound system x d w e =

@@ -16,6 +16,7 @@ record IsWeighed (x : List ℤ) (d m : ℤ) (row : Row) : Type 0 where
   allows : Allows row m
   meets : MeetsOver row x d
 
+-- The row of a listed pair is there, and weighed at the point.
 named : (x : List ℤ) (d : ℤ) (rows : List Row) (k : ℕ) (m : ℤ) → AllByRecursion (λ row. MeetsOver row x d) rows → AllowsAt (row_numbered rows k) m → (row : Row) × (row_numbered rows k ≡ Some row) × IsWeighed x d m row
 named x d rows zero m all h = absurd h
 named x d [] (suc k) m all h = absurd h
@@ -27,6 +28,7 @@ weighted-row : (m p q : ℤ) (equal : Bool) → MatchBool equal (p ≡ q) (p ≤
 weighted-row m p q true meets allows = subst (λ v. (m *ℤ p) ≤ℤ (m *ℤ v)) meets (omega (arith, ints))
 weighted-row m p q false meets allows = mul-le-mul_ℤ m p q allows meets
 
+-- A weighed row added to a sum that is met is met.
 weighted-more : (x : List ℤ) (d m : ℤ) (row ws : Row) → IsWeighed x d m row → (product_of ws.coefficients x ≤ℤ (ws.bound *ℤ d))
     → product_of (add_weighted (Some row) m ws).coefficients x ≤ℤ ((add_weighted (Some row) m ws).bound *ℤ d)
 weighted-more x d m row ws is rest =
@@ -57,6 +59,7 @@ negative-times c d p q =
     let h = mul-lt-mul_ℤ d c (pos 0) q p in
     subst (λ v. v <ℤ pos 0) (mul_comm_ℤ d c) (subst (λ v. (d *ℤ c) <ℤ v) (mul-zero_ℤ d) h)
 
+-- What is refuted has no point.
 pub refuted-has-no-point : RefutedHasNoPoint
 refuted-has-no-point system x d refuted point =
     let ws = weighted_sum system.rows refuted.0 in
@@ -79,10 +82,12 @@ add_weighted-equal : (row : Option Row) (m : ℤ) (total : Row) → total.equal 
 add_weighted-equal None m total e = e
 add_weighted-equal (Some row) m total e = refl
 
+-- A weighted sum is an inequality.
 weighted_sum-equal : (rows : List Row) (pairs : Pairs) → (weighted_sum rows pairs).equal ≡ false
 weighted_sum-equal rows [] = refl
 weighted_sum-equal rows ((k, m) ∷ pairs) = add_weighted-equal (row_numbered rows k) m (weighted_sum rows pairs) (weighted_sum-equal rows pairs)
 
+-- Points of the rows meet their weighted sums.
 pub weighted_sum-over : PointsMeetWeightedSums
 weighted_sum-over rows pairs x d in_order all =
     let ws = weighted_sum rows pairs in
@@ -90,6 +95,7 @@ weighted_sum-over rows pairs x d in_order all =
     let P : Bool → Type 0 = λ b. MatchBool b (product_of ws.coefficients x ≡ ws.bound *ℤ d) (product_of ws.coefficients x ≤ℤ (ws.bound *ℤ d)) in
     subst P (sym (weighted_sum-equal rows pairs)) holds
 
+-- Points of a system meet what it entails.
 pub points-meet-entailed : PointsMeetEntailed
 points-meet-entailed system atom z is_atom entails point =
     let at_atom = Meets-inequality atom z is_atom.no_equality in

@@ -21,6 +21,7 @@ use Rattle.farkas_cert.proofs.Moves.{Moved, slack_at, holds_cancel}
 
 -- ---- the two sides of a bound
 
+-- A value at most an upper bound is on its right side.
 upper_side : (s t : ℤ) (f w : Fraction) → pos 0 <ℤ s → IsFractionOf t s f → IsAtMost w f → (s *ℤ w.numerator -ℤ t *ℤ w.denominator) ≤ℤ pos 0
 upper_side s t f w h i k =
     let wide = mul_right_le_ℤ (w.numerator *ℤ f.denominator) (f.numerator *ℤ w.denominator) s (not_negative s h) k.le in
@@ -31,6 +32,7 @@ upper_side s t f w h i k =
     let l : (s *ℤ w.numerator) ≤ℤ (t *ℤ w.denominator) = le_of_mul_right_ℤ (s *ℤ w.numerator) (t *ℤ w.denominator) f.denominator i.positive (omega (arith, linear)) in
     omega (arith, linear)
 
+-- A value at least a lower bound is on its right side.
 lower_side : (s t : ℤ) (f w : Fraction) → s <ℤ pos 0 → IsFractionOf t s f → IsAtMost f w → (s *ℤ w.numerator -ℤ t *ℤ w.denominator) ≤ℤ pos 0
 lower_side s t f w h i k =
     let wide = mul_right_le_ℤ (f.numerator *ℤ w.denominator) (w.numerator *ℤ f.denominator) (neg_ℤ s) (omega (arith, linear)) k.le in
@@ -42,12 +44,15 @@ lower_side s t f w h i k =
     (omega (arith, linear, mul-neg_ℤ (f.numerator *ℤ w.denominator) s, mul-neg_ℤ (w.numerator *ℤ f.denominator) s)) in
     omega (arith, linear)
 
+-- A value at the bound of an equality is on it.
 same_side : (s t : ℤ) (f : Fraction) → IsFractionOf t s f → s *ℤ f.numerator -ℤ t *ℤ f.denominator ≡ pos 0
 same_side s t f i = omega (arith, linear, i.same, mul_comm_ℤ s f.numerator)
 
+-- A negative number times a positive one is negative.
 negative_product : (a d : ℤ) → a <ℤ pos 0 → pos 0 <ℤ d → (a *ℤ d) <ℤ pos 0
 negative_product a d h k = omega (arith, linear, mul-positive_ℤ (neg_ℤ a) d (omega (arith, linear)) k, neg-mul_ℤ a d)
 
+-- A number other than 0 times a positive one is not 0.
 nonzero_product : (a d : ℤ) → is_nonzero a ≡ true → pos 0 <ℤ d → ¬ (a *ℤ d ≡ pos 0)
 nonzero_product (pos zero) d e h = absurd cc
 nonzero_product (pos (suc a)) d e h = let p = mul-positive_ℤ (pos (suc a)) d (omega (arith, linear)) h in λ z. absurd (omega (arith, linear))
@@ -63,14 +68,17 @@ bound_is n c point line f z h e =
 
 -- ---- a kept line holds
 
+-- An equality whose scaled slack is 0 holds.
 holds_by : (equal : Bool) (k s : ℤ) → pos 0 <ℤ k → equal ≡ true → k *ℤ s ≡ pos 0 → Holds equal s
 holds_by true k s h t e = holds_cancel true k s h e
 holds_by false k s h t e = absurd cc
 
+-- An inequality whose scaled slack is at most 0 holds.
 holds_below : (equal : Bool) (k s : ℤ) → pos 0 <ℤ k → equal ≡ false → (k *ℤ s) ≤ℤ pos 0 → Holds equal s
 holds_below true k s h t e = absurd cc
 holds_below false k s h t e = holds_cancel false k s h e
 
+-- An equality holds at the point where its column has its value.
 pub solved_meets : (n c : ℕ) (point : RationalPoint) (f : Fraction) (next : RationalPoint) (line : Line) → Moved c point f next → c < n
     → length point.numerators ≡ n → pos 0 <ℤ point.denominator
     → is_nonzero (coefficient_at c line) ≡ true → line.equal ≡ true → bound_on n c point line ≡ Some f → MeetsLine n next line
@@ -79,6 +87,7 @@ solved_meets n c point f next line m l h d z t e =
     let s = coefficient_at c line *ℤ point.denominator in
     holds_by line.equal m.divisor (slack n next line.numbers) m.divisor_positive t (slack_at n c point f next line m l h ∙ same_side s (rest_of n c point line) f i)
 
+-- A line with an upper bound holds at a point at most there.
 pub upper_meets : (n c : ℕ) (point : RationalPoint) (w : Fraction) (next : RationalPoint) (line : Line) (f : Fraction) → Moved c point w next → c < n
     → length point.numerators ≡ n → pos 0 <ℤ point.denominator
     → line.equal ≡ false → pos 0 <ℤ coefficient_at c line → IsFractionOf (rest_of n c point line) (coefficient_at c line *ℤ point.denominator) f
@@ -88,6 +97,7 @@ upper_meets n c point w next line f m l h d t a i k =
     let side = upper_side s (rest_of n c point line) f w (mul-positive_ℤ (coefficient_at c line) point.denominator a d) i k in
     holds_below line.equal m.divisor (slack n next line.numbers) m.divisor_positive t (omega (arith, linear, slack_at n c point w next line m l h))
 
+-- A line with a lower bound holds at a point at least there.
 pub lower_meets : (n c : ℕ) (point : RationalPoint) (w : Fraction) (next : RationalPoint) (line : Line) (f : Fraction) → Moved c point w next → c < n
     → length point.numerators ≡ n → pos 0 <ℤ point.denominator
     → line.equal ≡ false → coefficient_at c line <ℤ pos 0 → IsFractionOf (rest_of n c point line) (coefficient_at c line *ℤ point.denominator) f
@@ -99,6 +109,7 @@ lower_meets n c point w next line f m l h d t a i k =
 
 -- ---- a pair that holds
 
+-- Of a pair that holds the lower bound is at most the upper one.
 pair_bounds : (p q d u v fn fd gn gd : ℤ) → pos 0 <ℤ p → pos 0 <ℤ q → pos 0 <ℤ d → pos 0 <ℤ fd → pos 0 <ℤ gd
     → fn *ℤ (p *ℤ d) ≡ u *ℤ fd → gn *ℤ (neg_ℤ q *ℤ d) ≡ v *ℤ gd → pos 0 ≤ℤ (q *ℤ u +ℤ p *ℤ v) → (gn *ℤ fd) ≤ℤ (fn *ℤ gd)
 pair_bounds p q d u v fn fd gn gd hp hq hd hf hg e k s =
@@ -119,6 +130,7 @@ slack_split : (n c : ℕ) (point : RationalPoint) (line : Line) → c < n
 slack_split n c point line l =
     omega (arith, linear, without_product (take n line.numbers) point.numerators c, ap (λ t. t *ℤ get_or point.numerators c (pos 0)) (get_or-take n line.numbers c (pos 0) l))
 
+-- What holds of divided numbers holds of the numbers.
 holds_unreduced : (equal : Bool) (f : List ℤ → ℤ) → IsLinear f → (xs : List ℤ) → Holds equal (f (divided_numbers xs)) → Holds equal (f xs)
 holds_unreduced true f l xs h = from_divided_vanishes f l xs h
 holds_unreduced false f l xs h = from_divided_at_most f l xs h
@@ -132,6 +144,7 @@ unreduced n point equal a left b right next e h =
     let here : Holds equal (slack n point (divided_numbers xs)) = subst (λ (line : Line). MeetsLine n point line) (sym (made_is equal a left.numbers b right.numbers next e)) h in
     subst (λ t. Holds equal t) (of_combination (slack n point) (slack_linear n point) a left.numbers b right.numbers) (holds_unreduced equal (slack n point) (slack_linear n point) xs here)
 
+-- A line holds where its form with the equality put in does.
 pub substituted_back : (n c : ℕ) (point : RationalPoint) (equality line next : Line) → is_nonzero (coefficient_at c equality) ≡ true
     → equality.equal ≡ true → MeetsLine n point equality → substituted_line c equality line ≡ Some next → MeetsLine n point next → MeetsLine n point line
 unfolding substituted_line
@@ -179,6 +192,7 @@ pair_sum g a b p q u v x hg e k h =
     let meet : p *ℤ (q *ℤ x) ≡ q *ℤ (p *ℤ x) = mul_left_comm_ℤ p q x in
     omega (arith, linear, add-mul_ℤ (a *ℤ sl) (b *ℤ sr) g, zero-mul_ℤ g, mul-add_ℤ q (p *ℤ x) (neg_ℤ u), mul-neg_ℤ q u, mul-add_ℤ p (neg_ℤ q *ℤ x) (neg_ℤ v), mul-neg_ℤ p v, ap (λ t. p *ℤ t) (neg-mul_ℤ q x), mul-neg_ℤ p (q *ℤ x))
 
+-- Of a pair that holds the bounds are in order.
 pub paired_bounds : (n c : ℕ) (point : RationalPoint) (positive negative next : Line) (f g : Fraction) → c < n → pos 0 <ℤ point.denominator
     → pos 0 <ℤ coefficient_at c positive → coefficient_at c negative <ℤ pos 0
     → IsFractionOf (rest_of n c point positive) (coefficient_at c positive *ℤ point.denominator) f

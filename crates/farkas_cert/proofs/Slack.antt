@@ -17,12 +17,14 @@ use Rattle.farkas_cert.proofs.Linear.{IsLinear, product-linear, get-linear, take
 abbrev pub slack : ℕ → RationalPoint → List ℤ → ℤ
 slack n point xs = product_of (take n xs) point.numerators -ℤ get_or xs n (pos 0) *ℤ point.denominator
 
+-- A linear function times a number is linear.
 times_linear : (f : List ℤ → ℤ) (d : ℤ) → IsLinear f → IsLinear (λ xs. f xs *ℤ d)
 times_linear f d h = record {
   of_sum = λ xs ys. ap (λ t. t *ℤ d) (h.of_sum xs ys) ∙ add-mul_ℤ (f xs) (f ys) d;
   of_scaled = λ k xs. ap (λ t. t *ℤ d) (h.of_scaled k xs) ∙ mul_assoc_ℤ k (f xs) d;
 }
 
+-- The slack is linear in the numbers.
 pub slack_linear : (n : ℕ) (point : RationalPoint) → IsLinear (slack n point)
 slack_linear n point =
     difference-linear (λ xs. product_of (take n xs) point.numerators) (λ xs. get_or xs n (pos 0) *ℤ point.denominator)
@@ -34,11 +36,13 @@ abbrev pub Holds : Bool → ℤ → Type 0
 Holds true s = s ≡ pos 0
 Holds false s = s ≤ℤ pos 0
 
+-- the line holds at the point
 abbrev pub MeetsLine : ℕ → RationalPoint → Line → Type 0
 MeetsLine n point line = Holds line.equal (slack n point line.numbers)
 
 -- ---- one column of a product
 
+-- The product with a number that is set is the one without it and the new product.
 pub set_product : (xs ns : List ℤ) (c : ℕ) (y : ℤ) → c < length ns
     → product_of xs (slice_set ns c y) ≡ product_of (slice_set xs c (pos 0)) ns +ℤ get_or xs c (pos 0) *ℤ y
 set_product [] ns c y h = omega (arith, linear, zero-mul_ℤ y)
@@ -46,6 +50,7 @@ set_product (x ∷ xs) [] c y h = absurd (omega arith)
 set_product (x ∷ xs) (n ∷ ns) zero y h = omega (arith, linear, zero-mul_ℤ n)
 set_product (x ∷ xs) (n ∷ ns) (suc c) y h = omega (arith, linear, set_product xs ns c y (omega arith))
 
+-- A product is the one without a place and the product there.
 pub without_product : (xs ns : List ℤ) (c : ℕ)
     → product_of xs ns ≡ product_of (slice_set xs c (pos 0)) ns +ℤ get_or xs c (pos 0) *ℤ get_or ns c (pos 0)
 without_product [] ns c = omega (arith, linear, zero-mul_ℤ (get_or ns c (pos 0)))
@@ -54,6 +59,7 @@ without_product (x ∷ xs) [] (suc c) = omega (arith, linear, mul-zero_ℤ (get_
 without_product (x ∷ xs) (n ∷ ns) zero = omega (arith, linear, zero-mul_ℤ n)
 without_product (x ∷ xs) (n ∷ ns) (suc c) = omega (arith, linear, without_product xs ns c)
 
+-- The product with a multiple is the multiple of the product.
 pub product-scaled_right : (k : ℤ) (xs ns : List ℤ) → product_of xs (multiple_of k ns) ≡ k *ℤ product_of xs ns
 product-scaled_right k [] ns = sym (mul-zero_ℤ k)
 product-scaled_right k (x ∷ xs) [] = sym (mul-zero_ℤ k)
@@ -65,6 +71,7 @@ product-scaled_right k (x ∷ xs) (n ∷ ns) = omega (arith, linear, product-sca
 abbrev pub rest_of : ℕ → ℕ → RationalPoint → Line → ℤ
 rest_of n c point line = bound_of n line *ℤ point.denominator -ℤ product_of (slice_set (take n line.numbers) c (pos 0)) point.numerators
 
+-- A number less products, where it is given, is the difference.
 minus_is : (t : ℤ) (xs ns : List ℤ) (r : ℤ) → minus_products t xs ns ≡ Some r → r ≡ t -ℤ product_of xs ns
 minus_is t [] ns r e = let same : t ≡ r = cc in omega (arith, linear)
 minus_is t (x ∷ xs) [] r e = let same : t ≡ r = cc in omega (arith, linear)
@@ -74,20 +81,24 @@ minus_is t (x ∷ xs) (n ∷ ns) r e = by_fit (minus_is (t -ℤ x *ℤ n) xs ns 
   by_fit rest true e = let h = rest e in omega (arith, linear)
   by_fit rest false e = absurd cc
 
+-- A number that is given is the number.
 fitting_is : (x y : ℤ) → fitting x ≡ Some y → x ≡ y
 fitting_is x y e = by_fit (fits x) e where
   by_fit : (b : Bool) → cond b (Some x) None ≡ Some y → x ≡ y
   by_fit true e = cc
   by_fit false e = absurd cc
 
+-- What is given behind a step has the step given.
 pub and_then_is : {X Y : Type 0} (f : X → Option Y) (o : Option X) (y : Y) → option_and_then f o ≡ Some y → (x : X) × (o ≡ Some x) × (f x ≡ Some y)
 and_then_is f None y e = absurd cc
 and_then_is f (Some x) y e = (x, refl, e)
 
+-- An image that is given is that of what is given.
 pub map_is : {X Y : Type 0} (f : X → Y) (o : Option X) (y : Y) → option_map f o ≡ Some y → (x : X) × (o ≡ Some x) × (f x ≡ y)
 map_is f None y e = absurd cc
 map_is f (Some x) y e = (x, refl, cc)
 
+-- The bound of a line is the fraction of its rest and its coefficient.
 pub bound_on_is : (n c : ℕ) (point : RationalPoint) (line : Line) (f : Fraction) → bound_on n c point line ≡ Some f
     → f ≡ fraction (rest_of n c point line) (coefficient_at c line *ℤ point.denominator)
 unfolding bound_on

@@ -9,15 +9,19 @@ use Rattle.farkas_cert.specs.BackSubstitution.{fraction, bound_on, bounds_from, 
 use Rattle.farkas_cert.specs.Elimination.{Refuted, Point, Leaves, outcome_of, outcome_within, beginning, stages, stage, take_column_out, point_from, constant_test, equality_stage, pair_stage, pairs_at, paired_line, substituted_line, without_equality, every}
 use Rattle.farkas_cert.specs.declared.answers.LeaveKind.TheVariants.{Overflow}
 
+-- an inequality of these coefficients and this bound
 abbrev at_most : List ℤ → ℤ → Row
 at_most coefficients bound = record { equal = false; coefficients = coefficients; bound = bound }
 
+-- an equality of these coefficients and this bound
 abbrev equals : List ℤ → ℤ → Row
 equals coefficients bound = record { equal = true; coefficients = coefficients; bound = bound }
 
+-- a system of these rows
 abbrev over_columns : ℕ → List Row → System
 over_columns n rows = record { columns = n; rows = rows }
 
+-- 2^126
 abbrev large : ℕ
 large = 85070591730234615865843651857942052864
 

@@ -44,6 +44,7 @@ le-floor g p b h =
     )
 
 -- ---- the normal form
+-- The quotients by a common divisor, times it, are the numbers.
 scaled-quotients : (g : ℕ) (xs : List ℤ) → 0 < g → DividesAll g xs → multiple_of (pos g) (quotients g xs) ≡ xs
 scaled-quotients g [] p all = refl
 scaled-quotients g (x ∷ xs) p all = ap₂ ◌∷◌ (sym (exact_quotient x g p all.0)) (scaled-quotients g xs p all.1)
@@ -54,6 +55,7 @@ product_of-reduced row z p =
     let g = gcd_of row.coefficients in
     ap (λ xs. product_of xs z) (sym (scaled-quotients g row.coefficients p (gcd_of-divides row.coefficients))) ∙ product_of-scaled (pos g) (quotients g row.coefficients) z
 
+-- A point meets an inequality exactly where it meets the reduced one.
 pub Meets-reduced : (row : Row) (z : List ℤ) → row.equal ≡ false → 0 < gcd_of row.coefficients → Meets row z ↔ Meets (reduced_row row) z
 Meets-reduced row z e p =
     let g = gcd_of row.coefficients in
@@ -63,6 +65,7 @@ Meets-reduced row z e p =
     let same = product_of-reduced row z p in
     (λ meets. floor.0 (subst P same (open_row.0 meets)), λ meets. open_row.1 (subst P (sym same) (floor.1 meets)))
 
+-- A reduced inequality whose bound is not the greatest is an atom.
 pub IsAtom-reduced : (row : Row) → RowFits row → 0 < gcd_of row.coefficients → (reduced_row row).bound ≢ greatest → IsAtom (reduced_row row)
 IsAtom-reduced row fits p room =
     let g = gcd_of row.coefficients in
@@ -77,12 +80,15 @@ IsAtom-reduced row fits p room =
     }
 
 -- ---- a row whose coefficients are all 0
+-- A row whose coefficients have the greatest common divisor 0 is constant.
 pub IsConstant-from_gcd_of : (row : Row) → gcd_of row.coefficients ≡ 0 → IsConstant row
 IsConstant-from_gcd_of row e = AllZero-from_gcd_of row.coefficients e
 
+-- A row of which that is not 0 is not constant.
 pub gcd_of-positive : (row : Row) → (gcd_of row.coefficients ≡ 0 → ⊥) → ¬ IsConstant row
 gcd_of-positive row positive all = positive (gcd_of-AllZero row.coefficients all)
 
+-- A constant inequality holds where its form does.
 pub HoldsAlike-constant : (row : Row) (form : NormalForm) → row.equal ≡ false → IsConstant row → IsConstantForm row.bound form → HoldsAlike row form
 HoldsAlike-constant row Always e all h = λ z. (Meets-inequality row z e).1 (subst (λ v. v ≤ℤ row.bound) (sym (product_of-AllZero row.coefficients z all)) h)
 HoldsAlike-constant row Never e all h = λ z meets.
@@ -90,24 +96,29 @@ HoldsAlike-constant row Never e all h = λ z meets.
     omega (arith, ints, le, h)
 HoldsAlike-constant row (Atom atom) e all h = absurd h
 
+-- A constant row has its form as normal form.
 pub IsNormalForm-constant : (row : Row) (form : NormalForm) → IsConstant row → IsConstantForm row.bound form → IsNormalForm row (Ok form)
 IsNormalForm-constant row Always all h = (all, h)
 IsNormalForm-constant row Never all h = (all, h)
 IsNormalForm-constant row (Atom atom) all h = absurd h
 
 -- ---- negation
+-- A bound that is not the greatest is none that is one below 2^127.
 not_greatest : (b : ℤ) → b ≢ greatest → up b + 1 ≡ down b + 2 ^ 127 → ⊥
 not_greatest (pos n) room e = room (ap pos (omega arith))
 not_greatest (negsuc n) room e = omega arith
 
+-- The bound of a negation fits.
 Fits-bound_below : (b : ℤ) → Fits b → b ≢ greatest → Fits (neg_ℤ b -ℤ pos 1)
 Fits-bound_below b fits room =
     let range = Fits-out b fits in
     Fits-in (neg_ℤ b -ℤ pos 1) (omega (arith, ints, range)) (omega (arith, ints, range, not_greatest b room))
 
+-- The bound of a negation is not the greatest.
 has_room-bound_below : (b : ℤ) → Fits b → (neg_ℤ b -ℤ pos 1) ≢ greatest
 has_room-bound_below b fits e = omega (arith, ints, Fits-out b fits, e)
 
+-- The negation of an atom is an atom.
 pub IsAtom-negation : (row : Row) → IsAtom row → IsAtom (negation row)
 IsAtom-negation row atom = record {
   no_equality = refl;
@@ -119,6 +130,7 @@ IsAtom-negation row atom = record {
   has_room = has_room-bound_below row.bound atom.fits.bound;
 }
 
+-- A point meets the negation of an inequality exactly where it does not meet the inequality.
 pub Meets-negation : (row : Row) (z : List ℤ) → row.equal ≡ false → Meets (negation row) z ↔ (¬ Meets row z)
 Meets-negation row z e =
     let open_row = Meets-inequality row z e in
@@ -133,5 +145,6 @@ Meets-negation row z e =
 pub negation-parts : (row : Row) (xs : List ℤ) (b : ℤ) → xs ≡ map neg_ℤ row.coefficients → b ≡ neg_ℤ row.bound -ℤ pos 1 → inequality xs b ≡ negation row
 negation-parts row xs b p q = ap₂ inequality p q
 
+-- The inequality of the reduced parts is the reduced row.
 pub reduced-parts : (row : Row) (xs : List ℤ) (b : ℤ) → xs ≡ quotients (gcd_of row.coefficients) row.coefficients → b ≡ int_div_euclid row.bound (pos (gcd_of row.coefficients)) → inequality xs b ≡ reduced_row row
 reduced-parts row xs b p q = ap₂ inequality p q

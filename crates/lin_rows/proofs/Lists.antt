@@ -4,6 +4,7 @@ use Rattle.std.specs.Prelude.{Some, slice_set}
 use Rattle.std.specs.List.{AllByRecursion, slice_range, slice_get}
 use Rattle.std.proofs.lemmas.List.{take-take, drop-drop, drop-take, length-take-le, length-drop}
 
+-- What holds of each image holds of the image of the element at a place.
 pub AllByRecursion-map_at : {A B : Type 0} (P : B → Type 0) (f : A → B) (xs : List A) (n : ℕ) (x : A) → AllByRecursion P (map f xs) → n < length xs → x ≡ get_or xs n x → P (f x)
 AllByRecursion-map_at P f [] n x all h e = absurd (omega arith)
 AllByRecursion-map_at P f (y ∷ ys) zero x all h e = subst (λ v. P (f v)) (sym e) all.0

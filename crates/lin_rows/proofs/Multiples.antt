@@ -1,11 +1,11 @@
 -- The least common multiple of two positive numbers.
-use Rattle.std.proofs.Common.{◌≡◌, ℕ, zero, suc, ◌+◌, ◌*◌, ◌/◌, ◌%◌, ◌≤◌, ◌<◌, refl, sym, ◌∙◌, ap, subst, arith, mod-lt, le_refl, mul_assoc, mul_comm, mul_left_comm, mul-le-mul_left, ℤ, pos, negsuc, ◌*ℤ◌, unsigned_abs}
+use Rattle.std.proofs.Common.{◌≡◌, ℕ, zero, suc, ◌+◌, ◌*◌, ◌/◌, ◌%◌, ◌<◌, refl, sym, ◌∙◌, ap, subst, arith, mul_assoc, mul_comm, mul_left_comm, mul-le-mul_left, ℤ, pos, negsuc, ◌*ℤ◌, unsigned_abs}
 use Rattle.std.specs.Prelude.{◌<ℤ◌}
-use Rattle.std.specs.Int.{IsGcd, ◌∣◌, int_div_euclid}
-use Rattle.std.proofs.lemmas.Nat.Gcd.{dvd_refl, dvd_trans, mod-eq-zero_of_dvd}
+use Rattle.std.specs.Int.{◌∣◌, int_div_euclid}
+use Rattle.std.proofs.lemmas.Nat.Gcd.{mod-eq-zero_of_dvd}
 use Rattle.std.proofs.lemmas.Int.{ints}
-use Rattle.std.proofs.Math.Nat.{div-add-mod, dvd-add_iff_right, dvd-mul_left, dvd-mul_right, dvd-mul_right_of_dvd, mul-dvd-mul_left, mul-dvd-mul_right, dvd_of_mul-dvd-mul_right, eq-zero_of_zero-dvd}
-use Rattle.lin_rows.specs.Gcd.{gcd_within, gcd, lcm, MultiplesAreLeast}
+use Rattle.std.proofs.Math.Nat.{div-add-mod, dvd-add_iff_right, dvd-mul_left, dvd-mul_right_of_dvd, mul-dvd-mul_left, mul-dvd-mul_right, dvd_of_mul-dvd-mul_right, eq-zero_of_zero-dvd}
+use Rattle.lin_rows.specs.Gcd.{gcd_within, gcd, lcm}
 use Rattle.lin_rows.proofs.Divisors.{IsGcd-gcd}
 
 -- what divides both multiples of m divides that of a remainder
@@ -25,6 +25,7 @@ positive_divisor : (a g : ℕ) → 0 < a → g ∣ a → 0 < g
 positive_divisor a zero some h = absurd (omega (arith, eq-zero_of_zero-dvd h))
 positive_divisor a (suc g) some h = omega arith
 
+-- The greatest common divisor of a positive number and another is positive.
 gcd-positive : (a b : ℕ) → 0 < a → 0 < gcd a b
 gcd-positive a b some = positive_divisor a (gcd a b) some (IsGcd-gcd a b).0
 
@@ -48,19 +49,23 @@ positive_left : (a b : ℕ) → 0 < a * b → 0 < a
 positive_left zero b p = absurd (omega arith)
 positive_left (suc a) b p = omega arith
 
+-- The least common multiple of positive numbers is positive.
 pub lcm-positive : (a b : ℕ) → 0 < a → 0 < b → 0 < lcm a b
 lcm-positive a b p q =
     let exact = lcm-mul-gcd a b in
     let some = mul_positive a b p q in
     positive_left (lcm a b) (gcd a b) (omega (arith, exact, some))
 
+-- The first number divides the least common multiple.
 pub lcm-first : (a b : ℕ) → 0 < a → a ∣ lcm a b
 lcm-first a b some =
     dvd_of_mul-dvd-mul_right a (gcd-positive a b some) (subst (λ n. a * gcd a b ∣ n) (sym (lcm-mul-gcd a b)) (mul-dvd-mul_left (gcd a b) a (IsGcd-gcd a b).1))
 
+-- The second number divides the least common multiple.
 pub lcm-second : (a b : ℕ) → b ∣ lcm a b
 lcm-second a b = dvd-mul_left b (a / gcd a b)
 
+-- The least common multiple divides each common multiple.
 pub lcm-least : (a b m : ℕ) → 0 < a → a ∣ m → b ∣ m → lcm a b ∣ m
 lcm-least a b m some p q =
     let first : a * b ∣ m * a = subst (λ n. a * b ∣ n) (mul_comm a m) (mul-dvd-mul_left b a q) in
@@ -69,6 +74,7 @@ lcm-least a b m some p q =
     dvd_of_mul-dvd-mul_right (lcm a b) (gcd-positive a b some) (subst (λ n. n ∣ m * gcd a b) (sym (lcm-mul-gcd a b)) all)
 
 -- ---- of integers
+-- The greatest common divisor with a positive integer is positive.
 pub gcd-positive_ℤ : (a b : ℤ) → pos 0 <ℤ a → pos 0 <ℤ pos (gcd (unsigned_abs a) (unsigned_abs b))
 gcd-positive_ℤ (pos a) b some = let h = gcd-positive a (unsigned_abs b) (omega (arith, ints)) in omega (arith, ints)
 gcd-positive_ℤ (negsuc a) b some = absurd (omega (arith, ints))

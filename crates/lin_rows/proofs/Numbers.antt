@@ -19,25 +19,30 @@ pub Fits-int_div_euclid : (z : ℤ) (g : ℕ) → Fits z → Fits (int_div_eucli
 Fits-int_div_euclid (pos n) g h = omega (arith, div-le_self n g)
 Fits-int_div_euclid (negsuc n) g h = omega (arith, div-le_self n g)
 
+-- The number with the other sign fits.
 pub Fits-neg : (z : ℤ) → Fits z → Fits (neg_ℤ z)
 Fits-neg (pos zero) h = h
 Fits-neg (pos (suc n)) h = h
 Fits-neg (negsuc n) h = h
 
+-- The absolute value of a number that fits is below 2^127.
 pub unsigned_abs-below : (z : ℤ) → Fits z → unsigned_abs z < 2 ^ 127
 unsigned_abs-below (pos n) h = h
 unsigned_abs-below (negsuc n) h = h
 
 -- ---- for arithmetic, where a number is read as `up z - down z`
+-- What fits, as two inequalities between natural numbers.
 pub Fits-out : (z : ℤ) → Fits z → (up z < down z + 2 ^ 127) × (down z < up z + 2 ^ 127)
 Fits-out (pos n) h = (omega arith, omega arith)
 Fits-out (negsuc n) h = (omega arith, omega arith)
 
+-- These inequalities say that a number fits.
 pub Fits-in : (z : ℤ) → up z < down z + 2 ^ 127 → down z < up z + 2 ^ 127 → Fits z
 Fits-in (pos n) a b = omega arith
 Fits-in (negsuc n) a b = omega arith
 
 -- ---- the test of what fits
+-- What passes the test fits.
 pub fits-true : (z : ℤ) → fits z ≡ true → Fits z
 fits-true (pos n) e = ltb-true n (2 ^ 127) e
 fits-true (negsuc n) e = ltb-true (suc n) (2 ^ 127) e
@@ -48,12 +53,15 @@ true-fits (pos n) h = lt-ltb n (2 ^ 127) h
 true-fits (negsuc n) h = lt-ltb (suc n) (2 ^ 127) h
 
 -- ---- small numbers, and absolute values
+-- 0 fits.
 pub zero_fits : Fits (pos 0)
 zero_fits = lit< tt
 
+-- 1 fits.
 pub one_fits : Fits (pos 1)
 one_fits = lit< tt
 
+-- -1 fits.
 pub minus_one_fits : Fits (negsuc 0)
 minus_one_fits = lit< tt
 

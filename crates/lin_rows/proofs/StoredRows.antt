@@ -17,9 +17,11 @@ length-rows_of c [] xs = refl
 length-rows_of c (side ∷ sides) xs = ap suc (length-rows_of c sides (drop c xs))
 
 -- ---- products with the number of columns
+-- One row more has its numbers behind those of the others.
 pub row_end : (n c : ℕ) → suc n * c ≡ c + n * c
 row_end n c = omega (arith, suc-mul n c)
 
+-- A product does not change where its factors change places.
 mul_comm_ℕ : (m n : ℕ) → m * n ≡ n * m
 mul_comm_ℕ m n = omega arith
 
@@ -28,6 +30,7 @@ sub-mul : (m n c : ℕ) → m * c - n * c ≡ (m - n) * c
 sub-mul m n c = ap₂ (λ x y. x - y) (mul_comm_ℕ m c) (mul_comm_ℕ n c) ∙ sym (mul-sub c m n) ∙ mul_comm_ℕ c (m - n)
 
 -- ---- parts
+-- The rows behind the first n are those of what is stored behind them.
 rows_of-drop : (c n : ℕ) (sides : List RightSide) (xs : List ℤ) → rows_of c (drop n sides) (drop (n * c) xs) ≡ drop n (rows_of c sides xs)
 rows_of-drop c zero sides xs = ap (λ k. rows_of c sides (drop k xs)) (zero-mul c)
 rows_of-drop c (suc n) [] xs = refl
@@ -52,6 +55,7 @@ rows_of-slice_range c from to sides xs =
     ∙ ap (λ rows. take (to - from) rows) (rows_of-drop c from sides xs)
 
 -- ---- one row
+-- The row at a place is made of its part of the numbers.
 pub slice_get-rows_of : (c n : ℕ) (sides : List RightSide) (xs : List ℤ) (side : RightSide) → slice_get sides n ≡ Some side
     → slice_get (rows_of c sides xs) n ≡ Some (stored_row (take c (drop (n * c) xs)) side)
 slice_get-rows_of c zero [] xs side e = absurd cc
@@ -71,6 +75,7 @@ slice_range-row c n xs =
     ap (λ k. take k (drop (n * c) xs)) size
 
 -- ---- more rows
+-- A list of length 0 is empty.
 none_left : (xs : List ℤ) → length xs ≡ 0 → xs ≡ []
 none_left [] e = refl
 none_left (x ∷ xs) e = absurd (omega arith)
@@ -87,6 +92,7 @@ rows_of-append c (side ∷ sides) more xs ys e =
     (ap (λ l. rows_of c (sides ++ more) l) (drop-append-le c xs ys within) ∙ rows_of-append c sides more (drop c xs) ys rest)
 
 -- ---- what is known of what is held
+-- The rows of what is stored are over the columns, and fit.
 all_over : (c : ℕ) (sides : List RightSide) (xs : List ℤ) → length xs ≡ length sides * c → AllByRecursion Fits xs → AllByRecursion BoundFits sides
     → AllByRecursion (IsRowOver c) (rows_of c sides xs)
 all_over c [] xs e fit bounds = tt
@@ -157,6 +163,7 @@ pub rows_of-one : (c : ℕ) (side : RightSide) (xs : List ℤ) → length xs ≡
 rows_of-one c side xs e = ap (λ l. stored_row l side ∷ []) (take_all c xs (omega arith))
 
 -- ---- what is held once more is appended
+-- There are as many rows as right sides.
 length-stored : (c : ℕ) (sides : List RightSide) (xs : List ℤ) (system : System) → system ≡ stored_system c sides xs → length system.rows ≡ length sides
 length-stored c sides xs system e = ap (λ s. length s.rows) e ∙ length-rows_of c sides xs
 

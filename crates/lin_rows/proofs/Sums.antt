@@ -42,6 +42,7 @@ pub overflow-here : (xs ys : List ℤ) (sum : ℤ) (n : ℕ) → n < length xs �
 overflow-here xs ys sum n h e is all =
     all ∙ ap (λ o. option_map (λ i. n + i) o) (overflow-step xs ys sum n None h e is) ∙ ap (λ (i : ℕ). Some i) (omega arith)
 
+-- A place one further on, counted from one place further on.
 later : (n : ℕ) (o : Option ℕ) → option_map (λ i. n + i) (option_map suc o) ≡ option_map (λ i. n + 1 + i) o
 later n None = refl
 later n (Some i) = ap (λ (i : ℕ). Some i) (omega arith)
@@ -64,6 +65,7 @@ product_of-later xs ys sum more n h e is all =
     regroup p sum more t rest less a b c = omega (arith, ints)
 
 -- ---- the whole sum
+-- A sum of which no part is too great is given.
 pub sum_in_order-some : (xs ys : List ℤ) → sum_overflow xs ys ≡ None → sum_in_order xs ys ≡ Some (product_of xs ys)
 sum_in_order-some xs ys e = rw e refl
 

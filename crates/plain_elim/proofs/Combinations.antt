@@ -1,22 +1,10 @@
 -- What the loop that makes a combination has done, and what is left of it.
-use Rattle.std.proofs.Common.{◌≡◌, ℕ, zero, suc, ◌+◌, ◌<◌, max, refl, sym, ◌∙◌, ap, subst, arith, List, [], ◌∷◌, ◌++◌, map, length, take, drop, get_or, Bool, true, false, cond, Option, Some, None, append_assoc, append-nil, add-one, add-zero}
-use Rattle.std.specs.Prelude.{ℤ, pos, ◌+ℤ◌, ◌*ℤ◌, ◌≤◌, ◌&&◌, slice_set}
-use Rattle.std.specs.Option.{option_map, option_and_then}
-use Rattle.std.specs.List.{AllByRecursion}
-use Rattle.std.proofs.lemmas.List.{take_more, take_more_set, drop_more, drop-set-lt, map-append, get_or-drop, take_at}
-use Rattle.std.proofs.lemmas.Int.{ints}
-use Rattle.thr_base.specs.Number.{Fits, fits}
-use Rattle.lin_rows.specs.Exact.{fitting}
-use Rattle.lin_rows.specs.Row.{multiple_of}
-use Rattle.lin_rows.proofs.Integers.{mul-zero_ℤ, map-over_one}
-use Rattle.lin_rows.proofs.Lists.{AllByRecursion-map}
-use Rattle.lin_rows.proofs.Numbers.{Fits-int_div_euclid, fits-true}
-use Rattle.farkas_cert.specs.Divided.{divided_numbers, over}
-use Rattle.std.specs.Int.{int_div_euclid}
-use Rattle.lin_rows.specs.Gcd.{gcd_of}
-use Rattle.farkas_cert.specs.Line.{all_fit, combination, combination_fits, made_line}
-use Rattle.farkas_cert.proofs.Linear.{sum-none}
-use Rattle.farkas_cert.proofs.Divisors.{divided-same}
+use Rattle.std.proofs.Common.{◌≡◌, ℕ, suc, ◌+◌, ◌<◌, max, refl, sym, ◌∙◌, ap, List, [], ◌∷◌, ◌++◌, length, take, drop, get_or, Bool, Option, Some, None, append-nil, add-one}
+use Rattle.std.specs.Prelude.{ℤ, pos}
+use Rattle.std.specs.Option.{option_map}
+use Rattle.std.proofs.lemmas.List.{take_at}
+use Rattle.farkas_cert.specs.Divided.{divided_numbers}
+use Rattle.farkas_cert.specs.Line.{combination, combination_fits, made_line}
 use Rattle.farkas_cert.specs.Combination.{combined_number, combined_numbers, in_front}
 use Rattle.farkas_cert.proofs.Combinations.{front_more, combined_numbers-step, combined_numbers-end, combined_numbers-all, some_by, none_by}
 

@@ -1,11 +1,10 @@
 -- The constant test: what a false line refutes by, and which lines stay.
-use Rattle.std.proofs.Common.{◌≡◌, ℕ, suc, ◌+◌, ◌<◌, ◌≤◌, refl, sym, ◌∙◌, ap, List, [], ◌∷◌, ◌++◌, map, length, drop, get_or, true, false, cond, Option, Some, None, append_assoc, append-nil, add-one}
-use Rattle.std.specs.Prelude.{ℤ, pos, neg_ℤ, ◌&&◌, int_lt, filter, find}
+use Rattle.std.proofs.Common.{◌≡◌, ℕ, refl, List, map, true, false, Option, Some, None}
+use Rattle.std.specs.Prelude.{pos, neg_ℤ, ◌&&◌, int_lt, filter, find}
 use Rattle.std.specs.Option.{option_map}
-use Rattle.std.proofs.lemmas.List.{drop_more, drop_all}
 use Rattle.lin_rows.specs.System.{System}
 use Rattle.farkas_cert.specs.Cert.{Pairs}
-use Rattle.farkas_cert.specs.Line.{Line, is_nonzero, bound_of, multipliers_of, refuting_multipliers, nonzero_pairs, is_false, has_variable}
+use Rattle.farkas_cert.specs.Line.{Line, bound_of, multipliers_of, refuting_multipliers, nonzero_pairs, is_false, has_variable}
 use Rattle.farkas_cert.specs.Elimination.{Work, Goes, Ends, constant_test, constant_test_by}
 use Rattle.plain_elim.specs.inside.Held.{refuted_by}
 use Rattle.plain_elim.specs.inside.Stages.{refutation_of}

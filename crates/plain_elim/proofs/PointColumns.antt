@@ -8,12 +8,13 @@ use Rattle.lin_rows.specs.Row.{multiple_of}
 use Rattle.lin_rows.proofs.Integers.{mul-zero_ℤ}
 use Rattle.std.specs.Bool.{OnTrue}
 use Rattle.std.specs.List.{AllByRecursion}
-use Rattle.lin_rows.proofs.Numbers.{fits-true, true-fits}
+use Rattle.lin_rows.proofs.Numbers.{true-fits}
 use Rattle.farkas_cert.proofs.Integers.{mul-positive_ℤ}
-use Rattle.plain_elim.proofs.PointFractions.{fitting_is}
 use Rattle.farkas_cert.specs.Line.{all_fit}
 use Rattle.plain_elim.specs.inside.PointParts.{IsPoint}
 use Rattle.farkas_cert.specs.BackSubstitution.{RationalPoint, assigned_point_by}
+use Rattle.farkas_cert.proofs.Reduced.{fitting_is}
+use Rattle.farkas_cert.proofs.Combinations.{all_fit-true}
 
 -- ---- a list of which the first i numbers are multiplied by k
 abbrev pub scaled_to : ℤ → ℕ → List ℤ → List ℤ
@@ -60,13 +61,6 @@ pub fit_among : (k : ℤ) (xs : List ℤ) (c : ℕ) (w : ℤ) → c < length xs 
     → all_fit (multiple_of k (slice_set xs c (pos 0))) ≡ all_fit (slice_set (multiple_of k xs) c w)
 fit_among k xs c w h f = sym (fit_set k xs c w h ∙ ap (λ b. b && all_fit (multiple_of k (slice_set xs c (pos 0)))) (true-fits w f))
 
-all_from_fit : (xs : List ℤ) → all_fit xs ≡ true → AllByRecursion Fits xs
-all_from_fit [] t = tt
-all_from_fit (x ∷ xs) t = at (all_from_fit xs) (fits x) refl t where
-  at : (all_fit xs ≡ true → AllByRecursion Fits xs) → (b : Bool) → fits x ≡ b → (b && all_fit xs) ≡ true → Fits x × AllByRecursion Fits xs
-  at rest true e t = (fits-true x e, rest t)
-  at rest false e t = absurd cc
-
 -- ---- the point with column c set to w, over d, where the numerators fit
 abbrev pub set_point : ℕ → List ℤ → ℤ → ℤ → ℤ → Option RationalPoint
 set_point c xs scale w d = cond (all_fit (slice_set (multiple_of scale xs) c w)) (Some (record { numerators = slice_set (multiple_of scale xs) c w; denominator = d })) None
@@ -102,7 +96,7 @@ pub IsPoint-set : (xs ys : List ℤ) (d e scale : ℤ) → ys ≡ xs → all_fit
 IsPoint-set xs ys d e scale same t h k f =
     let product = fitting_is (e *ℤ scale) d f in
     let positive : pos 0 <ℤ d = subst (λ (z : ℤ). pos 0 <ℤ z) (sym product.0) (mul-positive_ℤ e scale h k) in
-    let fit : AllByRecursion Fits ys = subst (λ (zs : List ℤ). AllByRecursion Fits zs) (sym same) (all_from_fit xs t) in
+    let fit : AllByRecursion Fits ys = subst (λ (zs : List ℤ). AllByRecursion Fits zs) (sym same) (all_fit-true xs t) in
     record { positive = positive; numerators_fit = fit; denominator_fits = product.1 }
 
 pub OnTrue-set : (b : Bool) (k : ℤ) (xs ys : List ℤ) (c : ℕ) (w : ℤ) → OnTrue b (ys ≡ multiple_of k (slice_set xs c (pos 0)))

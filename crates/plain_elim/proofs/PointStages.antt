@@ -5,9 +5,9 @@ use Rattle.std.proofs.lemmas.List.{reverse-append, map-append, length-map, lengt
 use Rattle.farkas_cert.specs.BackSubstitution.{RationalPoint, Kept, set_column}
 use Rattle.farkas_cert.specs.Elimination.{Point, Leaves, point_from}
 use Rattle.farkas_cert.specs.declared.answers.LeaveKind.TheVariants.{Overflow}
-use Rattle.farkas_cert.proofs.Lists.{all_left, all_right}
 use Rattle.plain_elim.specs.declared.kept.Kept.{Kept as HeldKept}
 use Rattle.plain_elim.specs.inside.Held.{kept_of, BoundsItsColumn}
+use Rattle.lin_rows.proofs.Lists.{AllByRecursion-front, AllByRecursion-rest}
 
 -- what the program holds, latest first
 abbrev pub latest_first : List HeldKept → List Kept
@@ -31,12 +31,12 @@ point_from-goes n kept rest latest point next e some = rw (latest_first-append k
 pub bounds_of_rest : (n : ℕ) (kept rest : List HeldKept) (latest : HeldKept) → kept ≡ rest ++ latest ∷ []
     → AllByRecursion (BoundsItsColumn n) (map kept_of kept) → AllByRecursion (BoundsItsColumn n) (map kept_of rest)
 bounds_of_rest n kept rest latest e all =
-    all_left (BoundsItsColumn n) (map kept_of rest) (kept_of latest ∷ []) (rw (e, map-append kept_of rest (latest ∷ [])) at all)
+    AllByRecursion-front (BoundsItsColumn n) (map kept_of rest) (kept_of latest ∷ []) (rw (e, map-append kept_of rest (latest ∷ [])) at all)
 
 pub bounds_of_latest : (n : ℕ) (kept rest : List HeldKept) (latest : HeldKept) → kept ≡ rest ++ latest ∷ []
     → AllByRecursion (BoundsItsColumn n) (map kept_of kept) → BoundsItsColumn n (kept_of latest)
 bounds_of_latest n kept rest latest e all =
-    (all_right (BoundsItsColumn n) (map kept_of rest) (kept_of latest ∷ []) (rw (e, map-append kept_of rest (latest ∷ [])) at all)).0
+    (AllByRecursion-rest (BoundsItsColumn n) (map kept_of rest) (kept_of latest ∷ []) (rw (e, map-append kept_of rest (latest ∷ [])) at all)).0
 
 pub point_from-end : (n : ℕ) (kept : List HeldKept) (point : RationalPoint) → length kept ≡ 0
     → Point point.numerators point.denominator ≡ point_from n (latest_first kept) point

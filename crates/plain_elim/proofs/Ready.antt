@@ -7,10 +7,10 @@ use Rattle.std.specs.Int.{int_signum}
 use Rattle.std.specs.Option.{option_map}
 use Rattle.std.specs.List.{AllByRecursion}
 use Rattle.std.proofs.lemmas.List.{length-set, length-map, length-replicate}
-use Rattle.lin_rows.specs.Gcd.{gcd, gcd_of}
-use Rattle.lin_rows.specs.Row.{Row, multiple_of, sum_of}
+use Rattle.lin_rows.specs.Gcd.{gcd}
+use Rattle.lin_rows.specs.Row.{Row, multiple_of}
 use Rattle.lin_rows.specs.System.{System}
-use Rattle.farkas_cert.specs.Divided.{divided_numbers, over}
+use Rattle.farkas_cert.specs.Divided.{over}
 use Rattle.farkas_cert.specs.Line.{Line, given_line, given_lines, coefficient_at, has_variable, is_false, is_nonzero, lowest_column, lowest_of, combination, made_line}
 use Rattle.farkas_cert.specs.BackSubstitution.{Kept, Solved, Bounded}
 use Rattle.farkas_cert.specs.Elimination.{Leaves, Work, Ends, stage_number, every, constant_test, constant_test_by, follows, without_equality, substituted_line, equality_stage, paired_line, positives, negatives, with_column, without_column, pairs_at, are_too_many, pair_stage, take_column_out, take_column_out_by}
@@ -19,6 +19,7 @@ use Rattle.farkas_cert.proofs.Derived.{made_is}
 use Rattle.farkas_cert.proofs.Fuel.{all_open, all_within}
 use Rattle.farkas_cert.proofs.Lists.{all_filter, filter_all, all_both, all_from, all_map, all_flat_map, all_every, found}
 use Rattle.farkas_cert.proofs.OpenColumns.{lowest_is, lowest_of_open}
+use Rattle.farkas_cert.proofs.Lengths.{length-sum, length-divided}
 use Rattle.plain_elim.specs.inside.Held.{BoundsColumn, BoundsItsColumn, IsOpen, IsReady, IsReadyNext}
 use Rattle.plain_elim.specs.inside.Stages.{IsWide, IsWideWork, IsWideNext, KeepsOneMore}
 
@@ -38,15 +39,6 @@ all_given_wide system k [] h = tt
 all_given_wide system k (row ∷ rows) h = (given_wide system k row h.0, all_given_wide system (suc k) rows h.1)
 
 -- ---- made lines
-
-length-sum : (xs ys : List ℤ) → length xs ≡ length ys → length (sum_of xs ys) ≡ length ys
-length-sum [] ys h = refl
-length-sum (x ∷ xs) [] h = absurd (omega arith)
-length-sum (x ∷ xs) (y ∷ ys) h = ap suc (length-sum xs ys (omega arith))
-
-length-divided : (xs : List ℤ) → length (divided_numbers xs) ≡ length xs
-unfolding divided_numbers
-length-divided xs = length-map xs (over (gcd_of xs))
 
 made_wide : (system : System) (equal : Bool) (a : ℤ) (left : Line) (b : ℤ) (right made : Line) → IsWide system left → IsWide system right
     → made_line equal a left.numbers b right.numbers ≡ Some made → IsWide system made

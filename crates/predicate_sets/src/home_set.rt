@@ -74,7 +74,8 @@ pub(crate) fn place_of(atoms: &[Atom], atom: &Atom) -> Option<usize>
     None
 }
 
-fn is_same(one: &Atom, other: &Atom) -> bool
+/// Whether two atoms are the same.
+pub fn is_same(one: &Atom, other: &Atom) -> bool
     ensures { IsTrue result ↔ one.now ≡ other.now }
 {
     one.bound() == other.bound() && one.coefficients() == other.coefficients()

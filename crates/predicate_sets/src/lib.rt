@@ -5,7 +5,7 @@
 mod home_set;
 mod sets;
 
-pub use home_set::HomeSet;
+pub use home_set::{HomeSet, is_same};
 pub use sets::{AddStop, Added, Sets};
 
 #[cfg(test)]

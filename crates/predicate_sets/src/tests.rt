@@ -47,6 +47,7 @@ fn lists_grow_and_are_put_back(rt: HostRuntime) -> Result<(), Fail> {
     let set = sets.at(HomeNo(1))?;
     for (place, atom) in set.atoms().iter().enumerate() {
         assert!(rt; set.position(atom) == Some(place as u32 + 1));
+        assert!(rt; is_same(atom, atom));
     }
     assert_eq!(rt; sets.at(HomeNo(2))?.atoms().len(), 0);
     assert_eq!(rt; before.atoms().len(), 0);

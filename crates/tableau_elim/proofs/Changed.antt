@@ -1,5 +1,5 @@
 -- What a pivot makes of a line, and that its divisor stays positive.
-use Rattle.std.proofs.Common.{◌≡◌, ℕ, zero, suc, ◌<◌, refl, ap, ◌∙◌, subst, arith, List, [], ◌∷◌, length, get_or, Bool, true, false, cond, Some, None}
+use Rattle.std.proofs.Common.{◌≡◌, ℕ, zero, suc, ◌<◌, refl, ap, ◌∙◌, subst, arith, List, [], ◌∷◌, length, get_or, Bool, true, false, cond, Some}
 use Rattle.std.specs.Prelude.{ℤ, pos, negsuc, neg_ℤ, ◌*ℤ◌, ◌<ℤ◌, ◌≢◌, slice_set, unsigned_abs}
 use Rattle.std.specs.Int.{int_signum}
 use Rattle.std.proofs.lemmas.Int.{ints, by_lt_z}
@@ -7,6 +7,7 @@ use Rattle.lin_rows.specs.Gcd.{gcd_of}
 use Rattle.lin_rows.specs.Row.{multiple_of}
 use Rattle.lin_rows.proofs.Divisors.{gcd_of-divides}
 use Rattle.lin_rows.proofs.Integers.{mul-le-mul_ℤ, mul-zero_ℤ}
+use Rattle.lin_rows.proofs.Booleans.{given_where_true}
 use Rattle.farkas_cert.specs.Divided.{over, divided_numbers}
 use Rattle.farkas_cert.specs.Line.{combination, combination_fits, is_nonzero}
 use Rattle.farkas_cert.proofs.Divisors.{over-exact}
@@ -51,10 +52,6 @@ combination_front a (x ∷ xs) j b (y ∷ ys) h f l e =
     let some = mul-positive_ℤ a x h f in
     omega (arith, linear)
 
-given_by : {X : Type 0} (b : Bool) (x y : X) → cond b (Some x) None ≡ Some y → (b ≡ true) × (x ≡ y)
-given_by true x y e = (refl, cc)
-given_by false x y e = absurd cc
-
 pub substituted_is : (pivot : Pivot) (line new : Line) → combined_line pivot line ≡ Some new →
     let a = pos (unsigned_abs pivot.number) in
     let b = neg_ℤ (int_signum pivot.number) *ℤ number_at pivot.place line in
@@ -66,7 +63,7 @@ substituted_is pivot line new e =
     let a = pos (unsigned_abs pivot.number) in
     let b = neg_ℤ (int_signum pivot.number) *ℤ number_at pivot.place line in
     let rest = slice_set line.numbers (suc pivot.place) (pos 0) in
-    given_by (combination_fits a rest b pivot.moved) (record { basic = line.basic; numbers = divided_numbers (combination a rest b pivot.moved) }) new e
+    given_where_true (combination_fits a rest b pivot.moved) (record { basic = line.basic; numbers = divided_numbers (combination a rest b pivot.moved) }) new e
 
 substituted_front : (pivot : Pivot) (line new : Line) → pivot.number ≢ pos 0 → get_or pivot.moved 0 (pos 0) ≡ pos 0 → 0 < length line.numbers → Front line.numbers
     → combined_line pivot line ≡ Some new → Front new.numbers

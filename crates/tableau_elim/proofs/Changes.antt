@@ -1,13 +1,14 @@
 -- All lines are changed in place, one after the other.
-use Rattle.std.proofs.Common.{◌≡◌, ℕ, zero, suc, ◌+◌, ◌<◌, ◌≤◌, refl, sym, ◌∙◌, ap, subst, arith, List, [], ◌∷◌, ◌++◌, length, map, take, drop, get_or, Option, Some, None, append_assoc, append-nil, add-one, add-zero}
+use Rattle.std.proofs.Common.{◌≡◌, ℕ, zero, suc, ◌+◌, ◌<◌, ◌≤◌, refl, sym, ◌∙◌, ap, subst, arith, List, [], ◌∷◌, ◌++◌, length, map, take, drop, get_or, Option, Some, None, append-nil, add-one, add-zero}
 use Rattle.std.specs.Prelude.{slice_set}
 use Rattle.std.specs.Option.{option_map, option_and_then}
 use Rattle.std.specs.List.{AllByRecursion}
 use Rattle.std.proofs.lemmas.List.{take_more_set, drop-set-lt, drop_more, get_or-drop, drop_all, take_all}
 use Rattle.lin_rows.proofs.Lists.{AllByRecursion-at}
 use Rattle.farkas_cert.specs.Elimination.{every}
+use Rattle.farkas_cert.proofs.Combinations.{front_more}
 use Rattle.tableau_elim.specs.Tableau.{Line, Pivot, line_after_pivot}
-use Rattle.tableau_elim.specs.inside.Held.{IsSound}
+use Rattle.tableau_elim.specs.inside.Lines.{IsSound}
 use Rattle.tableau_elim.proofs.Lines.{no_line}
 
 -- the first k lines are made, and the others are as they were
@@ -35,11 +36,6 @@ same_from_drop now given k d e =
     let right = get_or-drop k given 0 d in
     let same = ap (λ xs. get_or xs 0 d) e in
     rw (sym (add-zero k)) (sym left ∙ same ∙ right)
-
-pub front_more : {X : Type 0} (front : List X) (x : X) (o : Option (List X))
-    → option_map (λ rest. (front ++ x ∷ []) ++ rest) o ≡ option_map (λ rest. front ++ rest) (option_map (λ xs. x ∷ xs) o)
-front_more front x None = refl
-front_more front x (Some xs) = ap Some (append_assoc front (x ∷ []) xs)
 
 pub nothing_before : {X : Type 0} (o : Option (List X)) → option_map (λ rest. [] ++ rest) o ≡ o
 nothing_before None = refl

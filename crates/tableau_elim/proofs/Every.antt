@@ -3,7 +3,8 @@ use Rattle.std.proofs.Common.{◌≡◌, ℕ, suc, ◌+◌, ◌<◌, ◌≤◌, 
 use Rattle.std.specs.Option.{option_map}
 use Rattle.std.proofs.lemmas.List.{drop_all}
 use Rattle.farkas_cert.specs.Elimination.{every}
-use Rattle.tableau_elim.proofs.Changes.{in_front, every-step, front_more, nothing_before, every_nothing}
+use Rattle.farkas_cert.proofs.Combinations.{front_more}
+use Rattle.tableau_elim.proofs.Changes.{in_front, every-step, nothing_before, every_nothing}
 
 -- what is made, followed by what is left to make
 abbrev pub IsMaking : {X Y : Type 0} → (X → Option Y) → List X → List Y → ℕ → Type 0

@@ -1,35 +1,20 @@
 -- The tableau of the given rows, as it is made.
 use Rattle.std.proofs.Common.{◌≡◌, ℕ, zero, suc, ◌+◌, ◌-◌, ◌*◌, ◌<◌, ◌≤◌, ◌^◌, refl, sym, ◌∙◌, ap, ap₂, subst, arith, List, [], ◌∷◌, ◌++◌, map, length, take, drop, get_or, append_assoc, append-nil, add-one}
-use Rattle.std.specs.Prelude.{ℤ, pos, slice_get, Option, Some, IsSome, Bool, false}
+use Rattle.std.specs.Prelude.{ℤ, pos, slice_get, Some, Bool}
 use Rattle.std.specs.List.{AllByRecursion, range_with_len}
-use Rattle.std.specs.Option.{option_map, unwrap_or}
 use Rattle.std.proofs.Math.Nat.{suc-mul, zero-mul}
 use Rattle.std.proofs.lemmas.List.{take_at, take_all, length-drop, drop_all, length-append, nil_from_length, take-append-le, drop-append-le}
 use Rattle.std.proofs.lemmas.Int.{ints}
 use Rattle.lin_rows.specs.Row.{Row}
 use Rattle.lin_rows.specs.System.{System, IsRowOver}
-use Rattle.lin_rows.proofs.Lists.{slice_get-there}
 use Rattle.lin_rows.proofs.Numbers.{one_fits}
-use Rattle.farkas_cert.specs.Cert.{row_numbered}
-use Rattle.farkas_cert.specs.Proof.{numbers_of}
+use Rattle.farkas_cert.proofs.NumberedRows.{drop_row}
 use Rattle.tableau_elim.specs.Tableau.{Line, given_tableau, given_lines}
 use Rattle.tableau_elim.specs.declared.variable.Variable.{Variable}
 use Rattle.tableau_elim.specs.declared.variable.Variable.TheVariants.{Column, Slack}
-use Rattle.tableau_elim.specs.declared.tableau.Tableau.{Tableau as HeldTableau}
-use Rattle.tableau_elim.specs.inside.Held.{lines_of, tableau_of, IsSound, IsHeld}
+use Rattle.tableau_elim.specs.inside.Lines.{lines_of, tableau_by, IsHeld, IsSound}
 
 -- ---- by the numbers of rows, from 1
-pub IsSome-place : (rows : List Row) (place : ℕ) → place < length rows → IsSome (row_numbered rows (place + 1))
-IsSome-place rows place within =
-    let there = slice_get-there rows place within in
-    subst (λ (o : Option Row). IsSome o) (sym (ap (row_numbered rows) (add-one place) ∙ there.1)) refl
-
-pub numbers_of-place : (rows : List Row) (place : ℕ) (row : Row) → slice_get rows place ≡ Some row → numbers_of (row_numbered rows (place + 1)) ≡ row.coefficients ++ row.bound ∷ []
-numbers_of-place rows place row is = ap (λ n. numbers_of (row_numbered rows n)) (add-one place) ∙ ap numbers_of is
-
-pub equality-place : (rows : List Row) (place : ℕ) (row : Row) → slice_get rows place ≡ Some row → unwrap_or (option_map (λ named. named.equal) (row_numbered rows (place + 1))) false ≡ row.equal
-equality-place rows place row is =
-    ap (λ n. unwrap_or (option_map (λ (named : Row). named.equal) (row_numbered rows n)) false) (add-one place) ∙ ap (λ (o : Option Row). unwrap_or (option_map (λ named. named.equal) o) false) is
 
 pub slack_is : (r : ℕ) (equal other : Bool) (bound more : ℤ) → equal ≡ other → bound ≡ more → Slack (record { row = r; equal = equal; bound = bound }) ≡ Slack (record { row = r; equal = other; bound = more })
 slack_is r equal other bound more e f = rw (e, f) refl
@@ -67,11 +52,6 @@ lines_append w (b ∷ basics) numbers ys x e l =
     let rest = lines_append w basics (drop w numbers) ys x (omega (arith, length-drop w numbers)) l in
     ap₂ (λ n ls. record { basic = b; numbers = n } ∷ ls) front (ap (lines_of w (basics ++ x ∷ [])) back ∙ rest)
 
-drop_row : (rows : List Row) (place : ℕ) (row : Row) → slice_get rows place ≡ Some row → drop place rows ≡ row ∷ drop (suc place) rows
-drop_row [] place row e = absurd cc
-drop_row (r ∷ rows) zero row e = let same : r ≡ row = cc in rw same refl
-drop_row (r ∷ rows) (suc place) row e = drop_row rows place row e
-
 -- the lines of the rows so far, and those of the rows that are left
 pub record IsGiving (rows : List Row) (w : ℕ) (basics : List Variable) (numbers : List ℤ) (place : ℕ) : Type 0 where
   pub whole : lines_of w basics numbers ++ given_lines place (drop place rows) ≡ given_lines 0 rows
@@ -103,32 +83,34 @@ unfolding given_lines
 giving_ends rows w basics numbers place h i =
     sym (append-nil (lines_of w basics numbers)) ∙ ap (λ rs. lines_of w basics numbers ++ given_lines place rs) (sym (drop_all place rows h)) ∙ i.whole
 
+-- the lines of given rows are sound
 given_sound : (columns k : ℕ) (rows : List Row) → AllByRecursion (IsRowOver columns) rows → AllByRecursion IsSound (given_lines k rows)
 unfolding given_lines
 given_sound columns k [] h = tt
-given_sound columns k (row ∷ rows) h = (record { fits = (one_fits, h.0.fits.coefficients); positive = omega (arith, ints) }, given_sound columns (suc k) rows h.1)
+given_sound columns k (row ∷ rows) h = (((one_fits, h.0.fits.coefficients), omega (arith, ints)), given_sound columns (suc k) rows h.1)
 
 pub long_range : (a n : ℕ) → length (map Column (range_with_len a n)) ≡ n
 long_range a zero = refl
 long_range a (suc n) = ap suc (long_range (a + 1) n)
 
 -- the whole tableau
-pub given_is : (system : System) (held : HeldTableau) (w : ℕ) → held.places.items ≡ map Column (range_with_len 0 system.columns) → w ≡ suc system.columns
-    → lines_of w held.basics.items held.numbers.items ≡ given_lines 0 system.rows → tableau_of held ≡ given_tableau system
-given_is system held w p e l =
-    let wide : suc (length held.places.items) ≡ w = ap suc (ap length p ∙ long_range 0 system.columns) ∙ sym e in
-    let lines : lines_of (suc (length held.places.items)) held.basics.items held.numbers.items ≡ given_lines 0 system.rows = ap (λ w. lines_of w held.basics.items held.numbers.items) wide ∙ l in
+pub given_is : (system : System) (basics : List Variable) (numbers : List ℤ) (places : List Variable) (w : ℕ) → places ≡ map Column (range_with_len 0 system.columns) → w ≡ suc system.columns
+    → lines_of w basics numbers ≡ given_lines 0 system.rows → tableau_by basics numbers places ≡ given_tableau system
+given_is system basics numbers places w p e l =
+    let wide : suc (length places) ≡ w = ap suc (ap length p ∙ long_range 0 system.columns) ∙ sym e in
+    let lines : lines_of (suc (length places)) basics numbers ≡ given_lines 0 system.rows = ap (λ w. lines_of w basics numbers) wide ∙ l in
     rw (lines, p) refl
 
-pub given_held : (system : System) (held : HeldTableau) (w : ℕ) → held.places.items ≡ map Column (range_with_len 0 system.columns) → w ≡ suc system.columns → system.columns < 2 ^ 32
-    → AllByRecursion (IsRowOver system.columns) system.rows → lines_of w held.basics.items held.numbers.items ≡ given_lines 0 system.rows
-    → length held.numbers.items ≡ length held.basics.items * w → IsHeld held
-given_held system held w p e few rows l size =
-    let long : length held.places.items ≡ system.columns = ap length p ∙ long_range 0 system.columns in
-    let wide : suc (length held.places.items) ≡ w = ap suc long ∙ sym e in
-    let lines : lines_of (suc (length held.places.items)) held.basics.items held.numbers.items ≡ given_lines 0 system.rows = ap (λ w. lines_of w held.basics.items held.numbers.items) wide ∙ l in
+-- what always holds of a tableau holds of that of given rows
+pub given_held : (system : System) (basics : List Variable) (numbers : List ℤ) (places : List Variable) (w : ℕ) → places ≡ map Column (range_with_len 0 system.columns) → w ≡ suc system.columns → system.columns < 2 ^ 32
+    → AllByRecursion (IsRowOver system.columns) system.rows → lines_of w basics numbers ≡ given_lines 0 system.rows
+    → length numbers ≡ length basics * w → IsHeld basics numbers places
+given_held system basics numbers places w p e few rows l size =
+    let long : length places ≡ system.columns = ap length p ∙ long_range 0 system.columns in
+    let wide : suc (length places) ≡ w = ap suc long ∙ sym e in
+    let lines : lines_of (suc (length places)) basics numbers ≡ given_lines 0 system.rows = ap (λ w. lines_of w basics numbers) wide ∙ l in
     record {
-      size = size ∙ ap (λ w. length held.basics.items * w) (sym wide);
+      size = size ∙ ap (λ w. length basics * w) (sym wide);
       sound = subst (λ (ls : List Line). AllByRecursion IsSound ls) (sym lines) (given_sound system.columns 0 system.rows rows);
       few = subst (λ (n : ℕ). n < 2 ^ 32) (sym long) few;
     }

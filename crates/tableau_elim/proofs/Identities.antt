@@ -6,10 +6,13 @@ use Rattle.std.proofs.lemmas.Int.{ints}
 use Rattle.std.proofs.lemmas.List.{map-set}
 use Rattle.lin_rows.specs.Row.{product_of, multiple_of}
 use Rattle.lin_rows.proofs.Integers.{mul-add_ℤ, mul-neg_ℤ, neg-mul_ℤ, mul-zero_ℤ, zero-mul_ℤ, one-mul_ℤ}
+use Rattle.lin_rows.proofs.Points.{product_of-scaled}
 use Rattle.farkas_cert.specs.Line.{combination, is_nonzero}
 use Rattle.farkas_cert.proofs.Integers.{linear, factors}
-use Rattle.farkas_cert.proofs.Linear.{product-linear, product-scaled, of_combination, divided_vanishes}
+use Rattle.farkas_cert.proofs.Linear.{product-linear, of_combination, divided_vanishes}
 use Rattle.farkas_cert.proofs.Slack.{set_product, without_product}
+use Rattle.farkas_cert.proofs.Eliminates.{sign_self}
+use Rattle.farkas_cert.proofs.OpenColumns.{zero_by_test}
 use Rattle.tableau_elim.specs.Tableau.{Line, Tableau, divisor_of, number_at, pivot_at, solved_line, combined_line, line_after_pivot}
 use Rattle.tableau_elim.proofs.Changed.{substituted_is, by_change}
 use Rattle.tableau_elim.specs.declared.variable.Variable.{Variable}
@@ -64,11 +67,6 @@ exchanged xs ns j a y h k =
     omega (arith, linear)
 
 -- ---- signs
-
-sign_self : (p : ℤ) → int_signum p *ℤ p ≡ pos (unsigned_abs p)
-sign_self (pos zero) = refl
-sign_self (pos (suc n)) = let sign : int_signum (pos (suc n)) ≡ pos 1 = omega (arith, ints) in ap (λ s. s *ℤ pos (suc n)) sign ∙ one-mul_ℤ (pos (suc n))
-sign_self (negsuc n) = omega (arith, ints)
 
 pub sign_twice : (p : ℤ) → p ≢ pos 0 → int_signum p *ℤ int_signum p ≡ pos 1
 sign_twice (pos zero) h = absurd (h refl)
@@ -151,7 +149,7 @@ front_product : (xs ns : List ℤ) (k p z : ℤ) → 0 < length xs
     → product_of (slice_set (multiple_of k (slice_set xs 0 (pos 0))) 0 p) (z ∷ ns) ≡ p *ℤ z +ℤ k *ℤ product_of (slice_set xs 0 (pos 0)) (z ∷ ns)
 front_product [] ns k p z h = absurd (omega arith)
 front_product (x ∷ xs) ns k p z h =
-    let more = product-scaled k xs ns in
+    let more = product_of-scaled k xs ns in
     let inner : pos 0 *ℤ z +ℤ product_of xs ns ≡ product_of xs ns = omega (arith, linear, zero-mul_ℤ z) in
     omega (arith, linear, ap (λ t. k *ℤ t) inner)
 
@@ -212,15 +210,10 @@ substituted_holds v tableau j own line new h wo wl eo el e =
     subst (λ (made : Line). Holds v (places_after j own tableau.places) made) (substituted_is (pivot_at j own tableau) line new e).1
     (divided_vanishes (λ xs. product_of xs ws) (product-linear ws) (combination a rest b (moved_numbers j own)) none)
 
-pub zero_is : (z : ℤ) → is_nonzero z ≡ false → z ≡ pos 0
-zero_is (pos zero) e = refl
-zero_is (pos (suc n)) e = absurd cc
-zero_is (negsuc n) e = absurd cc
-
 pub same_defect : (v : Values) (places : List Variable) (j : ℕ) (own line : Line) → j < length places → is_nonzero (number_at j line) ≡ false
     → defect v (places_after j own places) line ≡ defect v places line
 same_defect v places j own line h e =
-    let none = zero_is (number_at j line) e in
+    let none = zero_by_test (number_at j line) e in
     let after = set_product line.numbers (weighed v places line.basic) (suc j) (v own.basic) (omega (arith, length-map v places)) in
     let before = without_product line.numbers (weighed v places line.basic) (suc j) in
     let left = ap (λ t. t *ℤ v own.basic) none ∙ zero-mul_ℤ (v own.basic) in

@@ -7,14 +7,14 @@ use Rattle.std.proofs.lemmas.Int.{ints}
 use Rattle.std.proofs.lemmas.Bool.{ne_eqb}
 use Rattle.std.proofs.lemmas.Bool.Decides.{nat_tests}
 use Rattle.std.specs.Option.{option_map}
-use Rattle.lin_rows.specs.Row.{Row, multiple_of, sum_of}
+use Rattle.lin_rows.specs.Row.{Row, multiple_of}
 use Rattle.lin_rows.specs.System.{System, HasWidths}
-use Rattle.lin_rows.proofs.Lists.{AllByRecursion-at}
-use Rattle.farkas_cert.specs.Divided.{divided_numbers}
+use Rattle.lin_rows.proofs.Lists.{AllByRecursion-at, AllByRecursion-set}
 use Rattle.farkas_cert.specs.Line.{combination}
 use Rattle.farkas_cert.specs.Elimination.{every}
 use Rattle.farkas_cert.proofs.Lists.{all_every, all_map, all_both}
 use Rattle.farkas_cert.proofs.Signs.{split_at}
+use Rattle.farkas_cert.proofs.Lengths.{length-sum, length-divided}
 use Rattle.tableau_elim.specs.Tableau.{Line, Tableau, Pivot, are_same, divisor_of, number_at, given_tableau, given_lines, pivot_at, solved_line, combined_line, line_after_pivot, pivoted_tableau}
 use Rattle.tableau_elim.specs.declared.variable.Variable.{Variable}
 use Rattle.tableau_elim.specs.declared.variable.Variable.TheVariants.{Column, Slack}
@@ -42,15 +42,10 @@ apart_turned (Column c) (Slack s) h = refl
 apart_turned (Slack s) (Column c) h = refl
 apart_turned (Slack s) (Slack q) h = eq_turned s.row q.row h
 
-all_set : {X : Type 0} (P : X → Type 0) (xs : List X) (i : ℕ) (y : X) → P y → AllByRecursion P xs → AllByRecursion P (slice_set xs i y)
-all_set P [] i y h k = tt
-all_set P (x ∷ xs) zero y h k = (h, k.1)
-all_set P (x ∷ xs) (suc i) y h k = (k.0, all_set P xs i y h k.1)
-
 distinct_set : (xs : List Variable) (i : ℕ) (y : Variable) → Distinct xs → NotAmong y xs → Distinct (slice_set xs i y)
 distinct_set [] i y d n = tt
 distinct_set (x ∷ xs) zero y d n = (n.1, d.1)
-distinct_set (x ∷ xs) (suc i) y d n = (all_set (Apart x) xs i y (apart_turned y x n.0) d.0, distinct_set xs i y d.1 n.1)
+distinct_set (x ∷ xs) (suc i) y d n = (AllByRecursion-set (Apart x) xs i y (apart_turned y x n.0) d.0, distinct_set xs i y d.1 n.1)
 
 -- what stood at a place is not among the others once it is replaced
 replaced_apart : (xs : List Variable) (i : ℕ) (y d : Variable) → i < length xs → Distinct xs → NotAmong y xs → NotAmong (get_or xs i d) (slice_set xs i y)
@@ -86,17 +81,8 @@ long_map : (f : ℤ → ℤ) (xs : List ℤ) → length (map f xs) ≡ length xs
 long_map f [] = refl
 long_map f (x ∷ xs) = ap suc (long_map f xs)
 
-long_divided : (xs : List ℤ) → length (divided_numbers xs) ≡ length xs
-unfolding divided_numbers
-long_divided xs = long_map _ xs
-
-long_sum : (xs ys : List ℤ) → length xs ≡ length ys → length (sum_of xs ys) ≡ length ys
-long_sum [] ys e = refl
-long_sum (x ∷ xs) [] e = e
-long_sum (x ∷ xs) (y ∷ ys) e = ap suc (long_sum xs ys (omega arith))
-
 long_combination : (a : ℤ) (xs : List ℤ) (b : ℤ) (ys : List ℤ) → length xs ≡ length ys → length (combination a xs b ys) ≡ length ys
-long_combination a xs b ys e = long_sum (multiple_of a xs) (multiple_of b ys) (long_map _ xs ∙ e ∙ sym (long_map _ ys)) ∙ long_map _ ys
+long_combination a xs b ys e = length-sum (multiple_of a xs) (multiple_of b ys) (long_map _ xs ∙ e ∙ sym (long_map _ ys)) ∙ long_map _ ys
 
 long_moved : (j : ℕ) (own : Line) (tableau : Tableau) → length (pivot_at j own tableau).moved ≡ length own.numbers
 unfolding pivot_at
@@ -105,7 +91,7 @@ long_moved j own tableau = long_set (slice_set own.numbers (suc j) (neg_ℤ (div
 long_solved : (pivot : Pivot) → length (solved_line pivot).numbers ≡ length pivot.moved
 unfolding solved_line
 long_solved pivot =
-    long_divided (slice_set (multiple_of (neg_ℤ (int_signum pivot.number)) pivot.moved) 0 (pos (unsigned_abs pivot.number)))
+    length-divided (slice_set (multiple_of (neg_ℤ (int_signum pivot.number)) pivot.moved) 0 (pos (unsigned_abs pivot.number)))
     ∙ long_set (multiple_of (neg_ℤ (int_signum pivot.number)) pivot.moved) 0 (pos (unsigned_abs pivot.number)) ∙ long_map _ pivot.moved
 
 long_substituted : (pivot : Pivot) (line new : Line) → length line.numbers ≡ length pivot.moved → combined_line pivot line ≡ Some new → length new.numbers ≡ length pivot.moved
@@ -114,7 +100,7 @@ long_substituted pivot line new e m =
     let b = neg_ℤ (int_signum pivot.number) *ℤ number_at pivot.place line in
     let rest = slice_set line.numbers (suc pivot.place) (pos 0) in
     subst (λ (made : Line). length made.numbers ≡ length pivot.moved) (substituted_is pivot line new m).1
-    (long_divided (combination a rest b pivot.moved) ∙ long_combination a rest b pivot.moved (long_set line.numbers (suc pivot.place) (pos 0) ∙ e))
+    (length-divided (combination a rest b pivot.moved) ∙ long_combination a rest b pivot.moved (long_set line.numbers (suc pivot.place) (pos 0) ∙ e))
 
 front_moved : (j : ℕ) (own : Line) (tableau : Tableau) → get_or (pivot_at j own tableau).moved 0 (pos 0) ≡ pos 0
 unfolding pivot_at
@@ -151,7 +137,7 @@ kept_line system tableau j own line new h p d of ko kl e =
       positive = changed_front pivot line new (pivot_some j own tableau p) (front_moved j own tableau) (omega (arith, kl.wide)) kl.positive e;
       apart = basic_changed (λ x. NotAmong x (places_after j own places)) pivot line new e
           (entering_apart j own tableau (replaced_apart places j own.basic (Column 0) h d ko.apart))
-          (λ s. all_set (Apart line.basic) places j own.basic (leaving_is j own tableau line s) kl.apart);
+          (λ s. AllByRecursion-set (Apart line.basic) places j own.basic (leaving_is j own tableau line s) kl.apart);
       known = basic_changed (IsOf system) pivot line new e (entering_known system j own tableau h of) (λ s. kl.known);
     }
   where
@@ -206,7 +192,7 @@ kept_by_pivot system tableau next j own h p k ko eo e =
           (all_map (IsKeptLine system tableau.places) (λ o. (new : Line) → o ≡ Some new → IsKeptLine system (places_after j own tableau.places) new) (line_after_pivot (pivot_at j own tableau)) tableau.lines
           (λ line kl new m. kept_line system tableau j own line new h p k.distinct k.known ko kl m) k.lines) lines);
       distinct = rw places (distinct_set tableau.places j own.basic k.distinct ko.apart);
-      known = rw places (all_set (IsOf system) tableau.places j own.basic ko.known k.known);
+      known = rw places (AllByRecursion-set (IsOf system) tableau.places j own.basic ko.known k.known);
       says = λ v g. rw places (all_every (Holds v (places_after j own tableau.places)) (map (line_after_pivot (pivot_at j own tableau)) tableau.lines) next.lines
           (all_map (λ line. IsKeptLine system tableau.places line × Holds v tableau.places line) (λ o. (new : Line) → o ≡ Some new → Holds v (places_after j own tableau.places) new) (line_after_pivot (pivot_at j own tableau)) tableau.lines
           (λ line both new m. changed_holds v tableau j own line new h ko.wide both.0.wide (eo v (k.says v g)) both.1 m)

@@ -1,14 +1,15 @@
 -- Lines whose numbers stand in one list, one line behind the other.
 use Rattle.std.proofs.Common.{◌≡◌, ℕ, zero, suc, ◌+◌, ◌-◌, ◌*◌, ◌<◌, ◌≤◌, refl, sym, ◌∙◌, ap, ap₂, arith, List, [], ◌∷◌, ◌++◌, length, take, drop, get_or, add-one}
 use Rattle.std.specs.Prelude.{ℤ, slice_set}
-use Rattle.std.proofs.Math.Nat.{suc-mul, zero-mul, mul-le-mul_right}
+use Rattle.std.proofs.Math.Nat.{zero-mul, mul-le-mul_right}
 use Rattle.std.proofs.lemmas.List.{take-take, drop-drop, drop-take, length-take-le, length-drop, drop_at}
 use Rattle.std.proofs.lemmas.Slice.{take-put_mid_below, drop-put_mid, take-put_mid}
 use borrow.Rule.Slice.PartMut.{put_mid}
 use Rattle.tableau_elim.specs.Tableau.{Line}
 use Rattle.tableau_elim.specs.declared.variable.Variable.{Variable}
 use Rattle.tableau_elim.specs.declared.variable.Variable.TheVariants.{Column}
-use Rattle.tableau_elim.specs.inside.Held.{lines_of}
+use Rattle.tableau_elim.specs.inside.Lines.{lines_of}
+use Rattle.lin_rows.proofs.StoredRows.{row_end}
 
 abbrev pub no_line : Line
 no_line = record { basic = Column 0; numbers = [] }
@@ -16,9 +17,6 @@ no_line = record { basic = Column 0; numbers = [] }
 pub length-lines : (w : ℕ) (basics : List Variable) (numbers : List ℤ) → length (lines_of w basics numbers) ≡ length basics
 length-lines w [] numbers = refl
 length-lines w (x ∷ basics) numbers = ap suc (length-lines w basics (drop w numbers))
-
-row_end : (n c : ℕ) → suc n * c ≡ c + n * c
-row_end n c = omega (arith, suc-mul n c)
 
 -- so many numbers are a line's
 pub part_is : (n c : ℕ) → (n + 1) * c - n * c ≡ c

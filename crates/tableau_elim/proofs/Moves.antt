@@ -10,7 +10,8 @@ use Rattle.lin_rows.proofs.Lists.{AllByRecursion-at}
 use Rattle.tableau_elim.specs.Tableau.{Line, Tableau, Pivot, divisor_of, pivot_at, line_after_pivot, pivoted_tableau}
 use Rattle.tableau_elim.specs.declared.variable.Variable.{Variable}
 use Rattle.tableau_elim.specs.declared.tableau.Tableau.{Tableau as HeldTableau}
-use Rattle.tableau_elim.specs.inside.Held.{lines_of, tableau_of, IsSound, IsHeld, IsPivot}
+use Rattle.tableau_elim.specs.inside.Held.{tableau_of}
+use Rattle.tableau_elim.specs.inside.Lines.{lines_of, tableau_by, IsHeld, IsSound, IsPivot}
 use Rattle.tableau_elim.proofs.Soundness.{all_changed_sound, all_wide}
 
 pub pivot_same : (place : ℕ) (basic : Variable) (numbers : List ℤ) (places : List Variable) (line : Line) (tableau : Tableau)
@@ -27,6 +28,7 @@ pub front_zero : (xs : List ℤ) (y : ℤ) → get_or (slice_set xs 0 y) 0 y ≡
 front_zero [] y = refl
 front_zero (x ∷ xs) y = refl
 
+-- where a line does not fit, the pivot is not made
 pub pivoted_by_none : (held : HeldTableau) (pivot other : Pivot) (w : ℕ) (basics : List Variable) (numbers : List ℤ) → pivot ≡ other
     → w ≡ suc (length held.places.items) → basics ≡ held.basics.items → numbers ≡ held.numbers.items
     → every (map (line_after_pivot pivot) (lines_of w basics numbers)) ≡ None → None ≡ pivoted_tableau other (tableau_of held)
@@ -35,42 +37,46 @@ pivoted_by_none held pivot other w basics numbers e f g h none =
     let all : every (map (line_after_pivot other) (tableau_of held).lines) ≡ None = rw (← e, ← f, ← g, ← h) none in
     rw all refl
 
-pub pivoted_by_some : (held made : HeldTableau) (pivot other : Pivot) (w : ℕ) (basics more : List Variable) (numbers next : List ℤ) → pivot ≡ other
+-- where all lines fit, the tableau is that of the changed parts
+pub pivoted_by_some : (held : HeldTableau) (pivot other : Pivot) (w : ℕ) (basics more made_basics made_places : List Variable) (numbers next made_numbers : List ℤ) → pivot ≡ other
     → w ≡ suc (length held.places.items) → basics ≡ held.basics.items → numbers ≡ held.numbers.items
     → every (map (line_after_pivot pivot) (lines_of w basics numbers)) ≡ Some (lines_of w more next)
-    → made.basics.items ≡ more → made.numbers.items ≡ next → made.places.items ≡ slice_set held.places.items pivot.place pivot.leaving
-    → Some (tableau_of made) ≡ pivoted_tableau other (tableau_of held)
+    → made_basics ≡ more → made_numbers ≡ next → made_places ≡ slice_set held.places.items pivot.place pivot.leaving
+    → Some (tableau_by made_basics made_numbers made_places) ≡ pivoted_tableau other (tableau_of held)
 unfolding pivoted_tableau
-pivoted_by_some held made pivot other w basics more numbers next e f g h some b n p =
+pivoted_by_some held pivot other w basics more made_basics made_places numbers next made_numbers e f g h some b n p =
     let all : every (map (line_after_pivot other) (tableau_of held).lines) ≡ Some (lines_of w more next) = rw (← e, ← f, ← g, ← h) some in
-    let places : made.places.items ≡ slice_set held.places.items other.place other.leaving = rw (← e) p in
-    let wide : suc (length made.places.items) ≡ w = ap suc (ap length places ∙ length-set held.places.items other.place other.leaving) ∙ sym f in
+    let places : made_places ≡ slice_set held.places.items other.place other.leaving = rw (← e) p in
+    let wide : suc (length made_places) ≡ w = ap suc (ap length places ∙ length-set held.places.items other.place other.leaving) ∙ sym f in
     rw (all, wide, b, n, places) refl
 
-pub held_by : (held made : HeldTableau) (pivot : Pivot) (w : ℕ) (basics more : List Variable) (numbers next : List ℤ)
-    → IsHeld held → IsPivot (suc (length held.places.items)) pivot
+-- what always holds of a tableau holds of the changed parts
+pub held_by : (held : HeldTableau) (pivot : Pivot) (w : ℕ) (basics more made_basics made_places : List Variable) (numbers next made_numbers : List ℤ)
+    → IsPivot (suc (length held.places.items)) pivot
     → w ≡ suc (length held.places.items) → basics ≡ held.basics.items → numbers ≡ held.numbers.items
     → every (map (line_after_pivot pivot) (lines_of w basics numbers)) ≡ Some (lines_of w more next)
     → length more ≡ length basics → length next ≡ length numbers
-    → made.basics.items ≡ more → made.numbers.items ≡ next → made.places.items ≡ slice_set held.places.items pivot.place pivot.leaving
-    → IsHeld made
-held_by held made pivot w basics more numbers next k is_pivot f g h some l m b n p =
+    → made_basics ≡ more → made_numbers ≡ next → made_places ≡ slice_set held.places.items pivot.place pivot.leaving
+    → IsHeld made_basics made_numbers made_places
+held_by held pivot w basics more made_basics made_places numbers next made_numbers is_pivot f g h some l m b n p =
     let known : IsPivot w pivot = rw f is_pivot in
-    let wide : suc (length made.places.items) ≡ w = ap suc (ap length p ∙ length-set held.places.items pivot.place pivot.leaving) ∙ sym f in
-    let size : length numbers ≡ length basics * w = rw (f, g, h) k.size in
-    let sound : AllByRecursion IsSound (lines_of w basics numbers) = rw (f, g, h) k.sound in
+    let wide : suc (length made_places) ≡ w = ap suc (ap length p ∙ length-set held.places.items pivot.place pivot.leaving) ∙ sym f in
+    let size : length numbers ≡ length basics * w = rw (f, g, h) held.size in
+    let sound : AllByRecursion IsSound (lines_of w basics numbers) = rw (f, g, h) held.sound in
     let long = all_from (λ (line : Line). length line.numbers ≡ w) (λ line. 0 < length line.numbers) (lines_of w basics numbers) (λ line e. omega (arith, known.within)) (all_wide w basics numbers size) in
     record {
       size = rw (wide, b, n) (m ∙ size ∙ ap (λ k. k * w) (sym l));
       sound = rw (wide, b, n) (all_changed_sound w pivot (lines_of w basics numbers) (lines_of w more next) known sound long some);
-      few = let e : length made.places.items ≡ length held.places.items = omega (arith, wide, f) in rw e k.few;
+      few = let e : length made_places ≡ length held.places.items = omega (arith, wide, f) in rw e held.few;
     }
 
+-- the first number of a line is its divisor
 pub divisor_read : (line : Line) (n : ℕ) → length line.numbers ≡ suc n → get_or line.numbers 0 (pos 0) ≡ divisor_of line
 divisor_read line n e = at line.numbers e where
   at : (xs : List ℤ) → length xs ≡ suc n → get_or xs 0 (pos 0) ≡ get_or xs 0 (pos 1)
   at [] e = absurd (omega arith)
   at (x ∷ xs) e = refl
 
+-- the divisor of a sound line fits
 pub divisor_fits : (line : Line) (n : ℕ) → length line.numbers ≡ suc n → IsSound line → Fits (divisor_of line)
-divisor_fits line n e s = AllByRecursion-at Fits line.numbers 0 (pos 1) s.fits (omega arith)
+divisor_fits line n e s = AllByRecursion-at Fits line.numbers 0 (pos 1) s.0 (omega arith)

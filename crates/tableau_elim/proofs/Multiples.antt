@@ -16,14 +16,15 @@ use Rattle.lin_rows.specs.Sum.{sum_with_product, overflow_from}
 use Rattle.lin_rows.proofs.Divisors.{IsGcd-gcd}
 use Rattle.lin_rows.proofs.Numbers.{fits-true, true-fits, Fits-int_div_euclid, zero_fits}
 use Rattle.lin_rows.proofs.Sums.{summed-some, sum_in_order-given}
-use Rattle.farkas_cert.specs.BackSubstitution.{Fraction, fraction}
+use Rattle.farkas_cert.specs.BackSubstitution.{Fraction}
 use Rattle.farkas_cert.specs.Divided.{over}
 use Rattle.farkas_cert.proofs.Divisors.{over-exact}
-use Rattle.farkas_cert.proofs.Eliminates.{gcd_positive, positive_abs}
+use Rattle.farkas_cert.proofs.Eliminates.{positive_abs}
 use Rattle.farkas_cert.proofs.Fractions.{positive_over}
 use Rattle.tableau_elim.specs.Tableau.{Line, sum_of_line, value_at_place}
 use Rattle.farkas_cert.specs.Elimination.{every}
 use Rattle.farkas_cert.specs.Line.{all_fit}
+use Rattle.farkas_cert.proofs.Reduced.{fitting_is, divisor_positive}
 use Rattle.tableau_elim.specs.Rounds.{common_denominator, point_over, Point, GaveUp}
 use Rattle.tableau_elim.specs.inside.Combined.{numerator_over}
 use Rattle.tableau_elim.specs.declared.variable.Variable.{Variable}
@@ -31,15 +32,6 @@ use Rattle.tableau_elim.specs.declared.point.Value.{Value as HeldValue}
 use Rattle.tableau_elim.specs.inside.Held.{fraction_in, IsValue}
 
 -- ---- fractions
-
-pub divisor_positive : (t s : ℤ) → pos 0 <ℤ s → pos 0 <ℤ pos (gcd (unsigned_abs t) (unsigned_abs s))
-divisor_positive t s h = gcd_positive (unsigned_abs t) (unsigned_abs s) (positive_abs s h)
-
-pub fraction_parts : (t s : ℤ) → pos 0 <ℤ s →
-    let g = gcd (unsigned_abs t) (unsigned_abs s) in record { numerator = over g t; denominator = over g s } ≡ fraction t s
-unfolding fraction
-fraction_parts t (pos s) h = refl
-fraction_parts t (negsuc s) h = absurd (omega (arith, ints))
 
 pub value_parts : (t s : ℤ) → Fits t → Fits s → pos 0 <ℤ s →
     let g = gcd (unsigned_abs t) (unsigned_abs s) in IsValue (record { numerator = over g t; denominator = over g s })
@@ -53,12 +45,6 @@ value_parts t s ht hs h =
     }
 
 -- ---- what is given where it fits
-
-pub fitting_is : (z x : ℤ) → Some x ≡ fitting z → (x ≡ z) × Fits x
-fitting_is z x e = by_test (fits z) refl e where
-  by_test : (b : Bool) → fits z ≡ b → Some x ≡ cond b (Some z) None → (x ≡ z) × Fits x
-  by_test true t e = let same : x ≡ z = cc in (same, subst Fits (sym same) (fits-true z t))
-  by_test false t e = absurd cc
 
 pub fitting_none : (z : ℤ) → None ≡ fitting z → fits z ≡ false
 fitting_none z e = by_test (fits z) refl e where

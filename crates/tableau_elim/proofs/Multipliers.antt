@@ -1,14 +1,14 @@
 -- The multipliers of a line, as they are set.
-use Rattle.std.proofs.Common.{◌≡◌, ℕ, zero, suc, ◌+◌, ◌<◌, ◌≤◌, refl, sym, ◌∙◌, ap, ap₂, subst, arith, List, [], ◌∷◌, ◌++◌, map, drop, length, get_or, replicate, Option, Some, None, Bool, true, false, cond, add-one, append_assoc, append-nil}
+use Rattle.std.proofs.Common.{◌≡◌, ℕ, zero, suc, ◌+◌, ◌<◌, ◌≤◌, refl, sym, ◌∙◌, ap, ap₂, subst, arith, List, [], ◌∷◌, map, drop, length, get_or, replicate, Option, Some, None, cond}
 use Rattle.std.specs.Prelude.{ℤ, pos, neg_ℤ, ◌*ℤ◌, slice_set, is_none}
 use Rattle.std.specs.List.{AllByRecursion}
 use Rattle.std.proofs.lemmas.List.{drop_more, drop_all, length-map}
 use Rattle.thr_base.specs.Number.{Fits}
 use Rattle.lin_rows.specs.System.{System, HasWidths}
-use Rattle.lin_rows.proofs.Lists.{AllByRecursion-map, AllByRecursion-at, AllByRecursion-drop}
+use Rattle.lin_rows.proofs.Lists.{AllByRecursion-map, AllByRecursion-at, AllByRecursion-drop, AllByRecursion-set}
 use Rattle.lin_rows.proofs.Numbers.{Fits-neg, zero_fits}
 use Rattle.farkas_cert.specs.Divided.{divided_numbers}
-use Rattle.farkas_cert.specs.Line.{is_nonzero, nonzero_pairs}
+use Rattle.farkas_cert.specs.Line.{nonzero_pairs}
 use Rattle.tableau_elim.specs.Tableau.{Line, divisor_of}
 use Rattle.std.specs.Int.{int_signum}
 use Rattle.std.proofs.lemmas.Int.{ints}
@@ -21,9 +21,9 @@ use Rattle.tableau_elim.specs.declared.variable.Variable.TheVariants.{Column, Sl
 use Rattle.tableau_elim.specs.declared.standing.Side.{Side}
 use Rattle.tableau_elim.specs.declared.standing.Side.TheVariants.{High, Low}
 use Rattle.tableau_elim.specs.declared.tableau.Tableau.{Tableau as HeldTableau}
-use Rattle.tableau_elim.specs.inside.Held.{tableau_of, line_at, IsHeld, IsSound}
+use Rattle.tableau_elim.specs.inside.Held.{tableau_of}
+use Rattle.tableau_elim.specs.inside.Lines.{line_at, IsSound}
 use Rattle.tableau_elim.proofs.Lines.{no_line, length-lines}
-use Rattle.tableau_elim.proofs.Pivots.{all_set}
 
 pub set_past : (xs : List ℤ) (i : ℕ) (y : ℤ) → length xs ≤ i → xs ≡ slice_set xs i y
 set_past [] i y h = refl
@@ -58,7 +58,7 @@ with_ends places ts ms whole k h i = sym (with_none (drop k places) (drop k ts) 
 
 multiplier_fits : (x : Variable) (m : ℤ) (ms : List ℤ) → Fits m → AllByRecursion Fits ms → AllByRecursion Fits (with_multiplier x m ms)
 multiplier_fits (Column c) m ms h k = k
-multiplier_fits (Slack s) m ms h k = all_set Fits ms s.row m h k
+multiplier_fits (Slack s) m ms h k = AllByRecursion-set Fits ms s.row m h k
 
 pub places_fit : (places : List Variable) (ts ms : List ℤ) → AllByRecursion Fits ts → AllByRecursion Fits ms → AllByRecursion Fits (with_places places ts ms)
 unfolding with_places
@@ -149,10 +149,6 @@ set_fit places line old set h d zeros s =
 pub sign_fit : (side : Side) (set signed_ones : List ℤ) → AllByRecursion Fits set → signed_ones ≡ signed_multipliers side set → AllByRecursion Fits signed_ones
 sign_fit side set signed_ones h e = subst (λ (xs : List ℤ). AllByRecursion Fits xs) (sym e) (signed_fit side set h)
 
-pub long_divided : (xs : List ℤ) → length (divided_numbers xs) ≡ length xs
-unfolding divided_numbers
-long_divided xs = length-map xs _
-
 pub zeros_are : (n : ℕ) (xs : List ℤ) → xs ≡ replicate n (pos 0) → xs ≡ replicate (length xs) (pos 0)
 zeros_are n xs e = e ∙ ap (λ n. replicate n (pos 0)) (sym (ap length e ∙ long_zeros n))
 
@@ -190,6 +186,7 @@ divisor_fit line h = at line.numbers h where
   at [] h = omega arith
   at (x ∷ xs) h = h.0
 
-pub held_line : (held : HeldTableau) (k : ℕ) → IsHeld held → k < length held.basics.items → IsSound (line_at k (tableau_of held))
-held_line held k h l =
-    AllByRecursion-at IsSound (tableau_of held).lines k no_line h.sound (omega (arith, length-lines (suc (length held.places.items)) held.basics.items held.numbers.items))
+-- a line of what is held is sound
+pub held_line : (held : HeldTableau) (k : ℕ) → k < length held.basics.items → IsSound (line_at k (tableau_of held))
+held_line held k l =
+    AllByRecursion-at IsSound (tableau_of held).lines k no_line held.sound (omega (arith, length-lines (suc (length held.places.items)) held.basics.items held.numbers.items))

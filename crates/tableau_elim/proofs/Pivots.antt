@@ -1,5 +1,5 @@
 -- How a pivot changes a line, as the program does it.
-use Rattle.std.proofs.Common.{◌≡◌, ℕ, zero, suc, ◌+◌, refl, sym, subst, arith, List, [], ◌∷◌, length, get_or, true, false, Some, None, add-one}
+use Rattle.std.proofs.Common.{◌≡◌, zero, suc, ◌+◌, refl, sym, subst, arith, List, [], ◌∷◌, length, get_or, true, false, Some, None, add-one}
 use Rattle.std.specs.Prelude.{ℤ, pos, negsuc, neg_ℤ, ◌*ℤ◌, slice_set, unsigned_abs}
 use Rattle.std.specs.Int.{int_signum}
 use Rattle.std.specs.List.{AllByRecursion}
@@ -9,17 +9,13 @@ use Rattle.thr_base.specs.Number.{Fits}
 use Rattle.lin_rows.specs.Row.{multiple_of}
 use Rattle.lin_rows.proofs.Numbers.{Fits-unsigned_abs, Fits-neg, zero_fits}
 use Rattle.lin_rows.proofs.Integers.{zero-mul_ℤ}
+use Rattle.lin_rows.proofs.Lists.{AllByRecursion-set}
 use Rattle.farkas_cert.specs.Divided.{divided_numbers}
 use Rattle.farkas_cert.specs.Line.{combination, combination_fits, is_nonzero}
 use Rattle.tableau_elim.specs.Tableau.{Line, Pivot, are_same, solved_line, combined_line, line_after_pivot}
 use Rattle.tableau_elim.specs.declared.variable.Variable.{Variable}
 use Rattle.farkas_cert.specs.Combination.{combined_numbers}
 use Rattle.tableau_elim.proofs.Combinations.{made_by, none_by}
-
-pub all_set : {X : Type 0} (P : X → Type 0) (xs : List X) (i : ℕ) (y : X) → P y → AllByRecursion P xs → AllByRecursion P (slice_set xs i y)
-all_set P [] i y h k = tt
-all_set P (x ∷ xs) zero y h k = (h, k.1)
-all_set P (x ∷ xs) (suc i) y h k = (k.0, all_set P xs i y h k.1)
 
 signed_fits : (p x : ℤ) → Fits x → Fits (neg_ℤ (int_signum p) *ℤ x)
 signed_fits (pos zero) x h = subst Fits (sym (zero-mul_ℤ x)) zero_fits
@@ -36,7 +32,7 @@ turned_fit p (x ∷ xs) h = (signed_fits p x h.0, turned_fit p xs h.1)
 pub solved_fit : (moved now : List ℤ) (p size : ℤ) → AllByRecursion Fits moved → Fits p → now ≡ multiple_of (neg_ℤ (int_signum p)) moved → size ≡ pos (unsigned_abs p)
     → AllByRecursion Fits (slice_set now 0 size)
 solved_fit moved now p size h k e f =
-    all_set Fits now 0 size (subst Fits (sym f) (Fits-unsigned_abs p k)) (subst (λ (xs : List ℤ). AllByRecursion Fits xs) (sym e) (turned_fit p moved h))
+    AllByRecursion-set Fits now 0 size (subst Fits (sym f) (Fits-unsigned_abs p k)) (subst (λ (xs : List ℤ). AllByRecursion Fits xs) (sym e) (turned_fit p moved h))
 
 -- ---- what is put into another line
 

@@ -15,6 +15,7 @@ use Rattle.lin_rows.specs.System.{System, HasWidths, IsRationalPoint}
 use Rattle.lin_rows.proofs.Divisors.{IsGcd-gcd}
 use Rattle.lin_rows.proofs.Integers.{mul_comm_ℤ, mul-zero_ℤ, zero-mul_ℤ, one-mul_ℤ}
 use Rattle.lin_rows.proofs.Sums.{sum_in_order-given}
+use Rattle.lin_rows.proofs.Multiples.{lcm-second}
 use Rattle.farkas_cert.specs.Cert.{Pairs}
 use Rattle.farkas_cert.specs.Divided.{over, divided_numbers}
 use Rattle.farkas_cert.specs.Elimination.{every}
@@ -60,9 +61,6 @@ lcm_first a b =
     turn : (x g y : ℕ) → x * (g * y) ≡ (g * x) * y
     turn x g y = sym (mul_assoc x g y) ∙ ap (λ n. n * y) (mul_comm x g)
 
-lcm_second : (a b : ℕ) → b ∣ lcm a b
-lcm_second a b = subst (λ (n : ℕ). b ∣ n) (mul_comm b (a / gcd a b)) (dvd-mul_right b (a / gcd a b))
-
 denominators_from : (d : ℕ) (values : List Fraction)
     → (d ∣ fold (λ d value. lcm d (unsigned_abs value.denominator)) d values)
     × AllByRecursion (λ value. unsigned_abs value.denominator ∣ fold (λ d value. lcm d (unsigned_abs value.denominator)) d values) values
@@ -70,7 +68,7 @@ denominators_from d [] = (dvd_refl d, tt)
 denominators_from d (value ∷ values) =
     let n = unsigned_abs value.denominator in
     let rest = denominators_from (lcm d n) values in
-    (dvd_trans _ (lcm_first d n) rest.0, (dvd_trans _ (lcm_second d n) rest.0, rest.1))
+    (dvd_trans _ (lcm_first d n) rest.0, (dvd_trans _ (lcm-second d n) rest.0, rest.1))
 
 denominators : (values : List Fraction) → AllByRecursion (λ value. unsigned_abs value.denominator ∣ common_denominator values) values
 unfolding common_denominator

@@ -13,7 +13,7 @@ use Rattle.lin_rows.specs.Row.{Row, product_of}
 use Rattle.lin_rows.specs.Sum.{sum_in_order}
 use Rattle.lin_rows.specs.System.{System, HasWidths}
 use Rattle.lin_rows.proofs.Integers.{one-mul_ℤ, zero-mul_ℤ, mul-zero_ℤ, mul-le-mul_ℤ, mul-neg_ℤ, mul_comm_ℤ}
-use Rattle.lin_rows.proofs.Points.{product_of-neg, product_of-nil}
+use Rattle.lin_rows.proofs.Points.{product_of-neg, product_of-nil, product_of-AllZero}
 use Rattle.lin_rows.proofs.Sums.{sum_in_order-given}
 use Rattle.farkas_cert.specs.Cert.{weighted_sum}
 use Rattle.farkas_cert.specs.Divided.{divided_numbers}
@@ -21,7 +21,7 @@ use Rattle.farkas_cert.specs.Line.{nonzero_pairs}
 use Rattle.farkas_cert.proofs.Derived.{divided_primitive}
 use Rattle.farkas_cert.proofs.Integers.{linear}
 use Rattle.farkas_cert.proofs.Linear.{product-linear, divided_vanishes, of_divided}
-use Rattle.farkas_cert.proofs.Refuting.{IsProvedBy, product_of_zeros}
+use Rattle.farkas_cert.proofs.Refuting.{IsProvedBy, zeros_product}
 use Rattle.farkas_cert.proofs.Signs.{Signs, RowSign, signs_over, nonzero_pairs-in_order, split_at}
 use Rattle.farkas_cert.proofs.Weighted.{values_at, bounds_of, weighted_coefficients, weighted_bound, zeros_from_products, divides_listed}
 use Rattle.tableau_elim.specs.Tableau.{Line, Tableau, divisor_of, comes_before, value_at_place, given_tableau, given_lines, sum_of_line}
@@ -138,11 +138,6 @@ line_out places line side e = at line.basic refl e where
 
 -- ---- what the multipliers weigh
 
-zeros_product : (n : ℕ) (ys : List ℤ) → product_of (replicate n (pos 0)) ys ≡ pos 0
-zeros_product zero ys = refl
-zeros_product (suc n) [] = refl
-zeros_product (suc n) (y ∷ ys) = omega (arith, linear, zeros_product n ys, zero-mul_ℤ y)
-
 get_zeros : (n i : ℕ) → get_or (replicate n (pos 0)) i (pos 0) ≡ pos 0
 get_zeros zero i = refl
 get_zeros (suc n) zero = refl
@@ -221,7 +216,7 @@ proved_by system ms s c b =
       },
       λ g d. elim (divided_primitive ms g (divides_listed g 1 (divided_numbers ms) d)) [
         | inl l ↦ l
-        | inr all ↦ absurd (omega (arith, linear, product_of_zeros (divided_numbers ms) (bounds_of system.rows) all))
+        | inr all ↦ absurd (omega (arith, linear, product_of-AllZero (divided_numbers ms) (bounds_of system.rows) all))
       ],
     )
 

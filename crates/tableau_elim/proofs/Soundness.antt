@@ -12,7 +12,7 @@ use Rattle.farkas_cert.specs.Line.{combination}
 use Rattle.farkas_cert.proofs.Lists.{all_every, all_map, all_both}
 use Rattle.tableau_elim.specs.Tableau.{Line, Pivot, number_at, solved_line, line_after_pivot}
 use Rattle.tableau_elim.specs.declared.variable.Variable.{Variable}
-use Rattle.tableau_elim.specs.inside.Held.{lines_of, IsSound, IsPivot}
+use Rattle.tableau_elim.specs.inside.Lines.{lines_of, IsSound, IsPivot}
 use Rattle.tableau_elim.proofs.Changed.{substituted_is, by_change, changed_front}
 use Rattle.farkas_cert.proofs.Combinations.{divided_fit}
 use Rattle.tableau_elim.proofs.Combinations.{combination_all_fit}
@@ -35,15 +35,17 @@ solved_fits w pivot k =
     divided_fit (slice_set (multiple_of (neg_ℤ (int_signum pivot.number)) pivot.moved) 0 (pos (unsigned_abs pivot.number)))
     (solved_fit pivot.moved (multiple_of (neg_ℤ (int_signum pivot.number)) pivot.moved) pivot.number (pos (unsigned_abs pivot.number)) k.fits k.number_fits refl refl)
 
+-- a line that a pivot changes stays sound
 changed_sound : (w : ℕ) (pivot : Pivot) (line new : Line) → IsPivot w pivot → IsSound line → 0 < length line.numbers → line_after_pivot pivot line ≡ Some new → IsSound new
-changed_sound w pivot line new k s l e = record {
-  fits = by_change (λ made. AllByRecursion Fits made.numbers) pivot line new e
+changed_sound w pivot line new k s l e = (
+  by_change (λ made. AllByRecursion Fits made.numbers) pivot line new e
       (λ t. solved_fits w pivot k)
       (λ t u m. let is = substituted_is pivot line new m in subst (λ (made : Line). AllByRecursion Fits made.numbers) is.1 (divided_fit (combination (a_of pivot) (rest_of pivot line) (b_of pivot line) pivot.moved) (combination_all_fit (a_of pivot) (rest_of pivot line) (b_of pivot line) pivot.moved is.0)))
-      (λ t u. s.fits);
-  positive = changed_front pivot line new k.some k.front l s.positive e;
-}
+      (λ t u. s.0),
+  changed_front pivot line new k.some k.front l s.1 e,
+)
 
+-- lines that a pivot changes stay sound
 pub all_changed_sound : (w : ℕ) (pivot : Pivot) (lines made : List Line) → IsPivot w pivot → AllByRecursion IsSound lines
     → AllByRecursion (λ line. 0 < length line.numbers) lines → every (map (line_after_pivot pivot) lines) ≡ Some made → AllByRecursion IsSound made
 all_changed_sound w pivot lines made k s l e =

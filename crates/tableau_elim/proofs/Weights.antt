@@ -12,12 +12,12 @@ use Rattle.lin_rows.proofs.Points.{product_of-nil}
 use Rattle.farkas_cert.specs.Line.{is_nonzero}
 use Rattle.farkas_cert.proofs.Integers.{linear}
 use Rattle.farkas_cert.proofs.Signs.{Signs, RowSign}
+use Rattle.farkas_cert.proofs.OpenColumns.{zero_by_test}
 use Rattle.tableau_elim.specs.Rounds.{is_suitable, suitable_from, with_places, signed_multipliers}
 use Rattle.tableau_elim.specs.declared.variable.Variable.{Variable}
 use Rattle.tableau_elim.specs.declared.variable.Variable.TheVariants.{Column, Slack}
 use Rattle.tableau_elim.specs.declared.standing.Side.{Side}
 use Rattle.tableau_elim.specs.declared.standing.Side.TheVariants.{High, Low}
-use Rattle.tableau_elim.proofs.Identities.{zero_is}
 use Rattle.tableau_elim.proofs.Kept.{NotAmong, Distinct, IsOf, IsSlackOf}
 
 -- ---- products
@@ -106,7 +106,7 @@ pub only_slacks : (side : Side) (v : Variable → ℤ) (ys : List ℤ) (places :
 only_slacks side v ys [] ts u = refl
 only_slacks side v ys (x ∷ places) [] u = refl
 only_slacks side v ys (Column c ∷ places) (t ∷ ts) u =
-    let none = zero_is t (column_unsuitable side c t u.0) in
+    let none = zero_by_test t (column_unsuitable side c t u.0) in
     let left = ap (λ t. t *ℤ v (Column c)) none ∙ zero-mul_ℤ (v (Column c)) in
     omega (arith, linear, only_slacks side v ys places ts u.1, mul-zero_ℤ t)
 only_slacks side v ys (Slack s ∷ places) (t ∷ ts) u = ap (λ z. t *ℤ get_or ys s.row (pos 0) +ℤ z) (only_slacks side v ys places ts u.1)

@@ -4,7 +4,7 @@ ghost use Rattle.lin_rows.specs.Row.{Row};
 ghost use Rattle.farkas_cert.specs.NamedRows.{IsNamed};
 ghost use Rattle.tableau_elim.specs.Tableau as specs;
 ghost use Rattle.tableau_elim.specs.declared.variable.Variable.TheVariants.{Column};
-ghost use Rattle.tableau_elim.specs.inside.Held.{tableau_of, IsHeld};
+ghost use Rattle.tableau_elim.specs.inside.Held.{tableau_of};
 
 use crate::tableau::Tableau;
 use crate::variable::{Slack, Variable};
@@ -52,8 +52,7 @@ fn slack_of(rows: &NamedRows<'_>, place: u32, bound: i128) -> Variable
 
 /// The tableau of the given rows.
 pub fn given_tableau(alloc: Global, rows: &NamedRows<'_>) -> Result<Tableau, AllocError>
-    ensures tableau { IfOk result (λ tableau. tableau_of tableau ≡ specs.given_tableau rows.now) }
-    ensures held { IfOk result IsHeld }
+    ensures { IfOk result (λ tableau. tableau_of tableau ≡ specs.given_tableau rows.now) }
 {
     let places = columns_at_places(alloc, rows.columns())?;
     let count = rows.count();

@@ -3,7 +3,8 @@ ghost use Rattle.std.specs.Option.{option_map};
 ghost use Rattle.lin_rows.specs.Exact.{fitting};
 ghost use Rattle.tableau_elim.specs.Tableau as tableau_specs;
 ghost use Rattle.tableau_elim.specs.Rounds as specs;
-ghost use Rattle.tableau_elim.specs.inside.Held.{tableau_of, line_at, IsHeld};
+ghost use Rattle.tableau_elim.specs.inside.Held.{tableau_of};
+ghost use Rattle.tableau_elim.specs.inside.Lines.{line_at};
 ghost use Rattle.tableau_elim.specs.inside.Steps.{comes_first, earlier_out};
 
 use crate::standing::{Side, Standing};
@@ -26,7 +27,6 @@ pub fn values_at_places(alloc: Global, places: &[Variable]) -> Result<Vec<i128>,
 /// The sum of a line's numbers times the values, where all products and sums fit.
 #[tactic(auto, unfolding(crate::specs::Tableau::sum_of_line))]
 pub fn sum_of_line(tableau: &Tableau, values: &[i128], line: usize) -> Option<i128>
-    requires held { IsHeld tableau.now }
     requires values { values.now ≡ map tableau_specs.value_at_place tableau.now.places.items }
     requires within { line < length tableau.now.basics.items }
     ensures { result ≡ tableau_specs.sum_of_line tableau.now.places.items (line_at line (tableau_of tableau.now)) }
@@ -49,7 +49,6 @@ fn standing_by_limit(equal: bool, sum: i128, limit: i128) -> Standing
 
 /// How a slack stands to its bound, by its line.
 fn standing_of_slack(tableau: &Tableau, values: &[i128], line: usize, slack: Slack) -> Standing
-    requires held { IsHeld tableau.now }
     requires values { values.now ≡ map tableau_specs.value_at_place tableau.now.places.items }
     requires within { line < length tableau.now.basics.items }
     ensures { let at = line_at line (tableau_of tableau.now) in result ≡ specs.standing_by slack.equal (tableau_specs.sum_of_line tableau.now.places.items at) (fitting (slack.bound *ℤ tableau_specs.divisor_of at)) }
@@ -66,7 +65,6 @@ fn standing_of_slack(tableau: &Tableau, values: &[i128], line: usize, slack: Sla
 /// How a line stands. A column has no bound.
 #[tactic(auto, unfolding(crate::specs::Rounds::standing_of))]
 pub fn standing_of(tableau: &Tableau, values: &[i128], line: usize) -> Standing
-    requires held { IsHeld tableau.now }
     requires values { values.now ≡ map tableau_specs.value_at_place tableau.now.places.items }
     requires within { line < length tableau.now.basics.items }
     ensures { result ≡ specs.standing_of tableau.now.places.items (line_at line (tableau_of tableau.now)) }
@@ -97,7 +95,6 @@ fn comes_first(tableau: &Tableau, best: Option<usize>, line: usize) -> bool
 
 /// The best so far, or a line that is out and comes before it.
 fn earlier(tableau: &Tableau, values: &[i128], best: Option<usize>, line: usize) -> Option<usize>
-    requires held { IsHeld tableau.now }
     requires values { values.now ≡ map tableau_specs.value_at_place tableau.now.places.items }
     requires line { line < length tableau.now.basics.items }
     requires best { IfSome best (λ k. k < length tableau.now.basics.items) }
@@ -115,8 +112,7 @@ fn earlier(tableau: &Tableau, values: &[i128], best: Option<usize>, line: usize)
 
 /// Of the lines that are not within, the one of the lowest row.
 pub fn first_out(tableau: &Tableau, values: &[i128]) -> Option<usize>
-    requires held { IsHeld tableau.now }
-    requires values { values.now ≡ map tableau_specs.value_at_place tableau.now.places.items }
+    requires { values.now ≡ map tableau_specs.value_at_place tableau.now.places.items }
     ensures line { option_map (λ k. line_at k (tableau_of tableau.now)) result ≡ specs.first_out (tableau_of tableau.now) }
     ensures within { IfSome result (λ k. k < length tableau.now.basics.items) }
 {

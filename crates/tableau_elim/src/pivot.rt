@@ -4,7 +4,7 @@ ghost use Rattle.std.specs.List.{AllByRecursion};
 ghost use Rattle.thr_base.specs.Number.{Fits};
 ghost use Rattle.lin_rows.specs.Row.{multiple_of};
 ghost use Rattle.tableau_elim.specs.Tableau as specs;
-ghost use Rattle.tableau_elim.specs.inside.Held.{pivot_of, IsPivot};
+ghost use Rattle.tableau_elim.specs.inside.Lines.{pivot_of, IsPivot};
 
 use crate::numbers::{combine, turn, with_other_sign};
 use crate::variable::Variable;

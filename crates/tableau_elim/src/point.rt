@@ -9,7 +9,8 @@ ghost use Rattle.farkas_cert.specs.Elimination.{every};
 ghost use Rattle.tableau_elim.specs.Tableau as tableau_specs;
 ghost use Rattle.tableau_elim.specs.Rounds as specs;
 ghost use Rattle.tableau_elim.specs.Decision.{outcome_in};
-ghost use Rattle.tableau_elim.specs.inside.Held.{tableau_of, line_at, IsHeld, fraction_in, IsValue};
+ghost use Rattle.tableau_elim.specs.inside.Held.{tableau_of, fraction_in, IsValue};
+ghost use Rattle.tableau_elim.specs.inside.Lines.{line_at};
 ghost use Rattle.tableau_elim.specs.inside.Combined.{numerator_over};
 
 use crate::looking::sum_of_line;
@@ -59,8 +60,7 @@ fn line_of_column(tableau: &Tableau, column: u32) -> Option<usize>
 /// The value of a column: 0 at a place.
 #[tactic(auto, unfolding(crate::specs::Rounds::column_value))]
 fn column_value(tableau: &Tableau, values: &[i128], column: u32) -> Option<Value>
-    requires held { IsHeld tableau.now }
-    requires values { values.now ≡ map tableau_specs.value_at_place tableau.now.places.items }
+    requires { values.now ≡ map tableau_specs.value_at_place tableau.now.places.items }
     ensures value { option_map fraction_in result ≡ specs.column_value (tableau_of tableau.now) column }
     ensures known { IfSome result IsValue }
 {
@@ -81,8 +81,7 @@ fn column_values(
     values: &[i128],
     columns: u32,
 ) -> Result<Option<Vec<Value>>, AllocError>
-    requires held { IsHeld tableau.now }
-    requires values { values.now ≡ map tableau_specs.value_at_place tableau.now.places.items }
+    requires { values.now ≡ map tableau_specs.value_at_place tableau.now.places.items }
     ensures values { IfOk result (λ made. option_map (λ (v : Vec Value). map fraction_in v.items) made ≡ every (map (specs.column_value (tableau_of tableau.now)) (range_with_len 0 columns))) }
     ensures known { IfOk result (λ made. IfSome made (λ v. AllByRecursion IsValue v.items)) }
 {
@@ -163,8 +162,7 @@ pub fn point_of(
     values: &[i128],
     columns: u32,
 ) -> Result<Tried, AllocError>
-    requires held { IsHeld tableau.now }
-    requires values { values.now ≡ map tableau_specs.value_at_place tableau.now.places.items }
+    requires { values.now ≡ map tableau_specs.value_at_place tableau.now.places.items }
     ensures { IfOk result (λ tried. outcome_in tried ≡ specs.point_of columns (tableau_of tableau.now)) }
 {
     let made = column_values(alloc, tableau, values, columns)?;

@@ -7,7 +7,8 @@ ghost use Rattle.farkas_cert.specs.Line.{nonzero_pairs};
 ghost use Rattle.tableau_elim.specs.Tableau.{divisor_of};
 ghost use Rattle.tableau_elim.specs.Rounds as specs;
 ghost use Rattle.tableau_elim.specs.Decision.{outcome_in};
-ghost use Rattle.tableau_elim.specs.inside.Held.{tableau_of, line_at, IsHeld};
+ghost use Rattle.tableau_elim.specs.inside.Held.{tableau_of};
+ghost use Rattle.tableau_elim.specs.inside.Lines.{line_at};
 
 use crate::numbers::turn;
 use crate::standing::Side;
@@ -61,8 +62,7 @@ fn sign(multipliers: &mut [i128], side: Side)
 
 /// Sets all multipliers of a line, but for their sign.
 fn set_all(multipliers: &mut [i128], tableau: &Tableau, line: usize)
-    requires held { IsHeld tableau.now }
-    requires within { line < length tableau.now.basics.items }
+    requires { line < length tableau.now.basics.items }
     ensures { let at = line_at line (tableau_of tableau.now) in multipliers.new ≡ specs.with_places tableau.now.places.items (drop 1 at.numbers) (specs.with_multiplier at.basic (divisor_of at) multipliers.old) }
 {
     set_multiplier(
@@ -79,7 +79,6 @@ fn set_all(multipliers: &mut [i128], tableau: &Tableau, line: usize)
 
 /// Makes the multipliers by which a line refutes of zeros.
 fn weigh(multipliers: &mut [i128], side: Side, tableau: &Tableau, line: usize)
-    requires held { IsHeld tableau.now }
     requires within { line < length tableau.now.basics.items }
     requires zeros { multipliers.old ≡ replicate (length multipliers.old) (pos 0) }
     ensures { multipliers.new ≡ divided_numbers (specs.multipliers side (length multipliers.old) tableau.now.places.items (line_at line (tableau_of tableau.now))) }
@@ -97,8 +96,7 @@ fn certificate(
     tableau: &Tableau,
     line: usize,
 ) -> Result<Cert, AllocError>
-    requires held { IsHeld tableau.now }
-    requires within { line < length tableau.now.basics.items }
+    requires { line < length tableau.now.basics.items }
     ensures { IfOk result (λ cert. cert ≡ nonzero_pairs 1 (divided_numbers (specs.multipliers side rows tableau.now.places.items (line_at line (tableau_of tableau.now))))) }
 {
     let mut multipliers = vec![in alloc; 0; rows as usize]?;
@@ -115,7 +113,6 @@ pub fn refutation(
     tableau: &Tableau,
     line: usize,
 ) -> Result<Tried, AllocError>
-    requires held { IsHeld tableau.now }
     requires within { line < length tableau.now.basics.items }
     requires widths { HasWidths rows.now }
     requires leads { specs.outcome_of rows.now ≡ specs.refuted_outcome rows.now side tableau.now.places.items (line_at line (tableau_of tableau.now)) }

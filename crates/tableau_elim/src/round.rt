@@ -5,7 +5,8 @@ ghost use Rattle.tableau_elim.specs.Rounds as specs;
 ghost use Rattle.tableau_elim.specs.Rounds.{Outcome};
 ghost use Rattle.tableau_elim.specs.declared.standing.Side.{Side};
 ghost use Rattle.tableau_elim.specs.declared.standing.Standing.{Standing};
-ghost use Rattle.tableau_elim.specs.inside.Held.{tableau_of, line_at, IsHeld, found_of, IsForPivot};
+ghost use Rattle.tableau_elim.specs.inside.Held.{tableau_of, found_of, IsForPivot};
+ghost use Rattle.tableau_elim.specs.inside.Lines.{line_at};
 
 use crate::looking::{first_out, standing_of, values_at_places};
 use crate::place::chosen_place;
@@ -32,7 +33,6 @@ fn mended_by_place(
     line: usize,
     side: Side,
 ) -> Result<Found, AllocError>
-    requires held { IsHeld tableau.now }
     requires within { line < length tableau.now.basics.items }
     requires widths { HasWidths rows.now }
     requires leads { let at = line_at line (tableau_of tableau.now) in specs.chosen_place side tableau.now.places.items (drop 1 at.numbers) ≡ None → specs.outcome_of rows.now ≡ specs.refuted_outcome rows.now side tableau.now.places.items at }
@@ -57,7 +57,6 @@ fn mended_by_standing(
     line: usize,
     standing: Standing,
 ) -> Result<Found, AllocError>
-    requires held { IsHeld tableau.now }
     requires within { line < length tableau.now.basics.items }
     requires widths { HasWidths rows.now }
     requires leads { let at = line_at line (tableau_of tableau.now) in (side : Side) → standing ≡ Standing.Out side → specs.chosen_place side tableau.now.places.items (drop 1 at.numbers) ≡ None → specs.outcome_of rows.now ≡ specs.refuted_outcome rows.now side tableau.now.places.items at }
@@ -72,7 +71,6 @@ fn mended_by_standing(
 
 /// A round: the point, where no line is out, and else what the first such line comes to.
 pub fn round(alloc: Global, rows: &NamedRows<'_>, tableau: &Tableau) -> Result<Found, AllocError>
-    requires held { IsHeld tableau.now }
     requires widths { HasWidths rows.now }
     requires leads { (outcome : Outcome) → specs.round_of rows.now (tableau_of tableau.now) ≡ specs.Ends outcome → specs.outcome_of rows.now ≡ outcome }
     ensures found { IfOk result (λ found. found_of (tableau_of tableau.now) found ≡ specs.round_of rows.now (tableau_of tableau.now)) }

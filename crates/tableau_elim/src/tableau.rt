@@ -1,10 +1,10 @@
-ghost use Rattle.std.specs.Prelude.{◌≡◌, ◌≢◌, ◌<◌, ◌*◌, ◌+◌, ◌<ℤ◌, pos, suc, [], Some, None, MatchBool, IfOk, IfSome, length, map};
+ghost use Rattle.std.specs.Prelude.{◌≡◌, ◌≢◌, ◌<◌, ◌*◌, ◌+◌, ◌^◌, ◌<ℤ◌, pos, suc, [], Some, None, MatchBool, IfOk, IfSome, length, map};
 ghost use Rattle.std.specs.Option.{option_map};
 ghost use Rattle.std.specs.List.{AllByRecursion};
 ghost use Rattle.thr_base.specs.Number.{Fits};
 ghost use Rattle.farkas_cert.specs.Elimination.{every};
 ghost use Rattle.tableau_elim.specs.Tableau as specs;
-ghost use Rattle.tableau_elim.specs.inside.Held.{pivot_of, IsPivot, lines_of, tableau_of, line_at, IsHeld, IsSound};
+ghost use Rattle.tableau_elim.specs.inside.Lines.{pivot_of, AllSound-prop, IsPivot, lines_of, line_at, IsSound};
 
 use crate::pivot::Pivot;
 use crate::variable::Variable;
@@ -18,9 +18,14 @@ pub struct Tableau {
     /// The numbers of all lines, one line behind the other: its divisor, and a number for each place.
     pub numbers: Vec<i128>,
     pub places: Vec<Variable>,
+    ghost size: { length numbers.items ≡ length basics.items * suc (length places.items) },
+    ghost sound: { AllByRecursion IsSound (lines_of (suc (length places.items)) basics.items numbers.items) } by { AllSound-prop (lines_of (suc (length places.items)) basics.items numbers.items) },
+    ghost few: { length places.items < 2 ^ 32 },
 }
 
 impl Tableau {
+    ghost use Rattle.tableau_elim.specs.inside.Held.{tableau_of};
+
     /// How many numbers a line has.
     fn width(&self) -> usize
         ensures { result ≡ suc (length self.now.places.items) }
@@ -30,8 +35,7 @@ impl Tableau {
 
     /// The numbers of a line.
     pub fn numbers_of(&self, line: usize) -> &[i128]
-        requires held { IsHeld self.now }
-        requires within { line < length self.now.basics.items }
+        requires { line < length self.now.basics.items }
         ensures numbers { result.now ≡ (line_at line (tableau_of self.now)).numbers }
         ensures width { length result.now ≡ suc (length self.now.places.items) }
         ensures sound { IsSound (line_at line (tableau_of self.now)) }
@@ -50,8 +54,7 @@ impl Tableau {
 
     /// The divisor of a line.
     pub fn divisor_of(&self, line: usize) -> i128
-        requires held { IsHeld self.now }
-        requires within { line < length self.now.basics.items }
+        requires { line < length self.now.basics.items }
         ensures divisor { result ≡ specs.divisor_of (line_at line (tableau_of self.now)) }
         ensures positive { pos 0 <ℤ result }
         ensures fits { Fits result }
@@ -61,7 +64,6 @@ impl Tableau {
 
     /// The pivot of a line at a place.
     fn pivot_at(&self, alloc: Global, line: usize, place: usize) -> Result<Pivot, AllocError>
-        requires held { IsHeld self.now }
         requires line { line < length self.now.basics.items }
         requires place { place < length self.now.places.items }
         requires number { specs.number_at place (line_at line (tableau_of self.now)) ≢ pos 0 }
@@ -86,22 +88,28 @@ impl Tableau {
         line: usize,
         place: usize,
     ) -> Result<Option<Tableau>, AllocError>
-        requires held { IsHeld self }
         requires line { line < length self.basics.items }
         requires place { place < length self.places.items }
         requires number { specs.number_at place (line_at line (tableau_of self)) ≢ pos 0 }
         ensures tableau { IfOk result (λ made. option_map tableau_of made ≡ specs.pivoted_tableau (specs.pivot_at place (line_at line (tableau_of self)) (tableau_of self)) (tableau_of self)) }
-        ensures held { IfOk result (λ made. IfSome made IsHeld) }
         ensures sizes { IfOk result (λ made. IfSome made (λ next. (length next.basics.items ≡ length self.basics.items) × (length next.places.items ≡ length self.places.items))) }
     {
         let pivot = self.pivot_at(alloc, line, place)?;
-        let mut tableau = self;
-        let width = tableau.width();
-        if !change_all(&mut tableau.basics, &mut tableau.numbers, width, &pivot) {
+        let width = self.width();
+        let Tableau {
+            mut basics,
+            mut numbers,
+            mut places,
+        } = self;
+        if !change_all(&mut basics, &mut numbers, width, &pivot) {
             return Ok(None);
         }
-        tableau.places[place] = pivot.leaving;
-        Ok(Some(tableau))
+        places[place] = pivot.leaving;
+        Ok(Some(Tableau {
+            basics,
+            numbers,
+            places,
+        }))
     }
 }
 

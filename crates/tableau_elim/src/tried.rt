@@ -4,7 +4,7 @@ ghost use Rattle.lin_rows.specs.View.{system_of};
 ghost use Rattle.tableau_elim.specs.Tableau.{given_tableau};
 ghost use Rattle.tableau_elim.specs.Rounds as specs;
 ghost use Rattle.tableau_elim.specs.Decision.{outcome_in, IsEvidence};
-ghost use Rattle.tableau_elim.specs.inside.Held.{tableau_of, IsHeld};
+ghost use Rattle.tableau_elim.specs.inside.Held.{tableau_of};
 
 use crate::given::given_tableau;
 use crate::round::{Found, round};
@@ -23,7 +23,6 @@ pub enum Tried {
 
 /// The answer after the last pivot that may be made.
 fn last_round(alloc: Global, rows: &NamedRows<'_>, tableau: &Tableau) -> Result<Tried, AllocError>
-    requires held { IsHeld tableau.now }
     requires widths { HasWidths rows.now }
     requires leads { specs.outcome_of rows.now ≡ specs.outcome_after 0 rows.now (tableau_of tableau.now) }
     ensures { IfOk result (λ tried. outcome_in tried ≡ specs.outcome_of rows.now) }
@@ -42,7 +41,6 @@ fn rounds(
     limit: u64,
     first: Tableau,
 ) -> Result<Tried, AllocError>
-    requires held { IsHeld first }
     requires widths { HasWidths rows.now }
     requires leads { specs.outcome_of rows.now ≡ specs.outcome_after limit rows.now (tableau_of first) }
     ensures { IfOk result (λ tried. outcome_in tried ≡ specs.outcome_of rows.now) }

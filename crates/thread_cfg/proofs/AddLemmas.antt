@@ -21,9 +21,11 @@ use Rattle.thread_cfg.specs.inside.Meant.{frame_of}
 
 -- ---- the first refusal
 
+-- the earlier of three refusals, whichever two are compared first
 of_two-of_two : (d e f : Refusal) → of_two d (of_two e f) ≡ of_two (of_two d e) f
 of_two-of_two d e f = grind arith
 
+-- the earlier of three that may be missing, whichever two are compared first
 earlier-earlier : (a b c : Option Refusal) → earlier a (earlier b c) ≡ earlier (earlier a b) c
 earlier-earlier None b c = refl
 earlier-earlier (Some d) None c = refl
@@ -42,6 +44,7 @@ front-nil : {X : Type 0} → (xs ys : List X) → xs ++ ys ≡ [] → xs ≡ []
 front-nil [] ys e = refl
 front-nil (x ∷ xs) ys e = absurd cc
 
+-- where a list joined of two is empty, so is the second
 back-nil : {X : Type 0} → (xs ys : List X) → xs ++ ys ≡ [] → ys ≡ []
 back-nil [] ys e = e
 back-nil (x ∷ xs) ys e = absurd cc
@@ -66,6 +69,7 @@ Adds-same a b rs ss es fs e f h = subst (λ l. Adds a b l fs) e (subst (λ l. Ad
 
 -- ---- ways
 
+-- over joined lists, it is joined of what both give
 flat_map-append : {X Y : Type 0} (f : X → List Y) → (xs ys : List X) → flat_map f (xs ++ ys) ≡ flat_map f xs ++ flat_map f ys
 flat_map-append f [] ys = refl
 flat_map-append f (x ∷ xs) ys = ap (λ l. f x ++ l) (flat_map-append f xs ys) ∙ sym (append_assoc (f x) (flat_map f xs) (flat_map f ys))
@@ -79,6 +83,7 @@ AddsWays-then running at a b c xs ys one other =
 
 -- ---- actions
 
+-- the refusals of joined actions, the second ones at the locations behind the first
 refusals_from-append : (columns : ℕ) (frame : Frame) (at : ℕ) (xs ys : List Action)
     → refusals_from columns frame at (xs ++ ys) ≡ refusals_from columns frame at xs ++ refusals_from columns frame (at + length xs) ys
 refusals_from-append columns frame at [] ys = ap (λ n. refusals_from columns frame n ys) (omega arith)
@@ -87,6 +92,7 @@ refusals_from-append columns frame at (x ∷ xs) ys =
     refusals_from-append columns frame (at + 1) xs ys ∙ ap (λ n. refusals_from columns frame (at + 1) xs ++ refusals_from columns frame n ys) (omega arith))
     ∙ sym (append_assoc (action_refusals columns frame at x) (refusals_from columns frame (at + 1) xs) (refusals_from columns frame (at + length (x ∷ xs)) ys))
 
+-- the edges of joined actions, the second ones at the locations behind the first
 edges_from-append : (columns : ℕ) (frame : Frame) (at : ℕ) (xs ys : List Action)
     → edges_from columns frame at (xs ++ ys) ≡ edges_from columns frame at xs ++ edges_from columns frame (at + length xs) ys
 edges_from-append columns frame at [] ys = ap (λ n. edges_from columns frame n ys) (omega arith)
@@ -131,6 +137,7 @@ AddsWays-unfit running at place old new a is e =
 
 -- ---- actions are small
 
+-- a test is never too large: it has three alternatives at most, with one event each
 pub small-test : (from : ℕ) (m : Mark) (a b : Arithmetic) (t f : Option ℕ) → is_too_large (test_action from m a b t f) ≡ false
 small-test from mark.Equal a b None None = refl
 small-test from mark.Equal a b None (Some f) = refl

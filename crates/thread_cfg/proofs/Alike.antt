@@ -38,9 +38,11 @@ module _ (tree : plain.Tree) (program : Program) (known : IsKnown tree program) 
     threads : map (λ (s : RunStep). s.thread) steps ≡ map (λ (s : SourceStep). s.thread) done
     at_each : (k : ℕ) → k ≤ length steps → Behind state steps c done k
 
+  -- behind no steps the run is where it began
   behind-none : (state : List ℤ) (steps : List RunStep) (c : Configuration) (done : List SourceStep) → Shows c state → Behind state steps c done 0
   behind-none state steps c done t = record { state = state; configuration = c; run_leads = refl; interleaving_leads = refl; tells = t }
 
+  -- one step more of both, in front
   behind-more : (state next : List ℤ) (taken : RunStep) (steps : List RunStep) (c d : Configuration) (one : SourceStep) (done : List SourceStep) (k : ℕ)
       → Leads program taken state next → Interleaves tree one c d → Behind next steps d done k → Behind state (taken ∷ steps) c (one ∷ done) (suc k)
   behind-more state next taken steps c d one done k leads goes b = record {
@@ -51,6 +53,7 @@ module _ (tree : plain.Tree) (program : Program) (known : IsKnown tree program) 
     tells = b.tells;
   }
 
+  -- no steps go together
   together-none : (state : List ℤ) (c : Configuration) → Shows c state → Together state [] state c [] c
   together-none state c t = record { leads = refl; goes = refl; ends = t; threads = refl; at_each = by }
     where
@@ -58,6 +61,7 @@ module _ (tree : plain.Tree) (program : Program) (known : IsKnown tree program) 
       by zero h = behind-none state [] c [] t
       by (suc k) h = absurd (omega (arith, h))
 
+  -- one step more of both goes together
   together-more : (state next : List ℤ) (taken : RunStep) (steps : List RunStep) (last : List ℤ) (c d : Configuration) (one : SourceStep) (done : List SourceStep) (end : Configuration)
       → Shows c state → taken.thread ≡ one.thread → Leads program taken state next → Interleaves tree one c d → Together next steps last d done end
       → Together state (taken ∷ steps) last c (one ∷ done) end
@@ -73,6 +77,7 @@ module _ (tree : plain.Tree) (program : Program) (known : IsKnown tree program) 
       by zero h = behind-none state (taken ∷ steps) c (one ∷ done) t
       by (suc k) h = behind-more state next taken steps c d one done k leads goes (more.at_each k (omega (arith, h)))
 
+  -- the steps of a run go as some steps of the text
   run-goes : (steps : List RunStep) (state last : List ℤ) (c : Configuration) → Shows c state → LeadTo program state steps last
       → (done : List SourceStep) × (end : Configuration) × Together state steps last c done end
   run-goes [] state last c t lead = ([], c, subst (λ s. Together state [] s c [] c) lead (together-none state c t))
@@ -81,6 +86,7 @@ module _ (tree : plain.Tree) (program : Program) (known : IsKnown tree program) 
       let more = run-goes steps next last on.next on.tells lead in
       (on.done ∷ more.0, more.1, together-more state next taken steps last c on.next on.done more.0 more.1 t on.same_thread leads on.interleaves more.2)
 
+  -- the steps of the text go as some steps of a run
   text-goes : (done : List SourceStep) (c end : Configuration) (state : List ℤ) → Shows c state → InterleaveTo tree c done end
       → (steps : List RunStep) × (last : List ℤ) × Together state steps last c done end
   text-goes [] c end state t lead = ([], state, subst (λ d. Together state [] state c [] d) lead (together-none state c t))
@@ -99,6 +105,7 @@ module _ (tree : plain.Tree) (program : Program) (known : IsKnown tree program) 
     ends : Shows end last
     alike : GoAlike tree program lefts run interleaving
 
+  -- of a run there is an interleaving that goes as it does
   of-run : (run : Run) (last : List ℤ) → IsRun program run last → Told run last
   unfolding start_with
   of-run run last is =
@@ -125,6 +132,7 @@ module _ (tree : plain.Tree) (program : Program) (known : IsKnown tree program) 
     ends : Shows end last
     alike : GoAlike tree program lefts run interleaving
 
+  -- of an interleaving there is a run that goes as it does
   of-interleaving : (interleaving : Interleaving) (end : Configuration) → IsInterleaving tree interleaving end → Reached interleaving end
   unfolding start_with
   of-interleaving interleaving end is =

@@ -34,6 +34,7 @@ on_ok-fits f from (Some x) y e then = then x refl e
 on_ok-fits f from None y e then = absurd cc
 
 -- ---- the values behind all events
+-- the values behind events, each of which takes the next of the inputs that are left
 abbrev pub finally : Frame → List ℤ → List Event → List ℤ → List ℤ
 finally frame now [] left = now
 finally frame now (Event.Requires from r a b ∷ events) left = finally frame now events left

@@ -25,12 +25,14 @@ use Rattle.thread_cfg.proofs.AddLemmas.{Adds-none, Adds-same, AddsWays-then, fir
 
 -- ---- what stands for events that are written so
 
+-- an expression that is stored whole means the one whose postfix form it is
 means-whole : (x : Expression) (a : Arithmetic) → whole x ≡ Some (postfix a) → Means x a
 means-whole (expression.Number k) a e = absurd cc
 means-whole (expression.Value v) a e = absurd cc
 means-whole (expression.Whole os) a e = cc
 means-whole (expression.Cut os n) a e = absurd cc
 
+-- a stored event that is written as an event stands for it
 stands-for : (s : StoredEvent) (e : Event) → event_of s ≡ event_written e → StandsFor s e
 stands-for (stored.Requires from r left right) (Event.Requires place q a b) e = (cc, cc, means-whole left a cc, means-whole right b cc)
 stands-for (stored.Sets at v value) (Event.Sets place w x) e = (cc, cc, means-whole value x cc)
@@ -42,6 +44,7 @@ stands-for (stored.Sets at v value) (Event.SetsAny w) e = absurd cc
 stands-for (stored.SetsAny v) (Event.Requires place q a b) e = absurd cc
 stands-for (stored.SetsAny v) (Event.Sets place w x) e = absurd cc
 
+-- stored events that are written as events stand for these, one by one
 pub stand-for : (ss : List StoredEvent) (es : List Event) → map event_of ss ≡ map event_written es → StandFor ss es
 stand-for [] [] e = tt
 stand-for [] (x ∷ es) e = absurd cc
@@ -61,6 +64,7 @@ long-path s p next e = ap (λ n. nat_lt most_tests n) (length-written s p e)
     length-written s p e =
         sym (length-map s.events.items event_of) ∙ sym (length-reverse (map event_of s.events.items)) ∙ ap (λ w. length w.events) e ∙ length-map p.events event_written
 
+-- of stored paths one is too long exactly where one of the paths that they are written as is
 pub long-any : (ss : List StoredPath) (ps : List Path) (next : ℕ) → map path_of ss ≡ map path_written ps
     → list_any is_long_path ss ≡ list_any is_long (map (path_alternative next) ps)
 long-any [] [] next e = refl
@@ -71,11 +75,13 @@ long-any (s ∷ ss) (p ∷ ps) next e =
     let then : map path_of ss ≡ map path_written ps = cc in
     ap₂ (λ x y. x || y) (long-path s p next first) (long-any ss ps next then)
 
+-- paths that are told to be too many are; those that are given are all of them, and not too many
 few-cases : (ps : List WrittenPath) (x : Bool) → nat_lt most_paths (length ps) ≡ x → (qs : Option (List WrittenPath)) → qs ≡ few ps
     → (qs ≡ None → x ≡ true) × ((rs : List WrittenPath) → qs ≡ Some rs → (x ≡ false) × (rs ≡ ps))
 few-cases ps true h qs e = let none : qs ≡ None = e ∙ rw h refl in (λ n. refl, λ rs some. absurd cc)
 few-cases ps false h qs e = let some : qs ≡ Some ps = e ∙ rw h refl in (λ n. absurd cc, λ rs is. (refl, cc))
 
+-- a block has as many ways on as its body has paths
 length-block : (from : ℕ) (inner : Stmts) (next : ℕ) → length (block_action from inner next).alternatives ≡ length (map path_written (block_paths inner))
 length-block from inner next = length-map (block_paths inner) (path_alternative next) ∙ sym (length-map (block_paths inner) path_written)
 
@@ -111,6 +117,7 @@ AddsActions-too_large running at old new action large e =
 
 -- ---- paths in turn
 
+-- where none of the stored paths is too long, the one at a place is not
 pub long-at : (ss : List StoredPath) (i : ℕ) (d : StoredPath) → list_any is_long_path ss ≡ false → i < length ss → is_long_path (get_or ss i d) ≡ false
 long-at [] i d h within = absurd (omega arith)
 long-at (s ∷ ss) zero d h within = by (is_long_path s) refl
@@ -133,6 +140,7 @@ pub record IsNextPath (running : Running) (next : ℕ) (w : WrittenPath) (remain
   pub rest_is : remaining ≡ map path_written rest
   pub rest_within : WaysWithin running (map (path_alternative next) rest)
 
+-- the first of the paths that remain, and those behind it
 pub next-path : (running : Running) (next : ℕ) (w : WrittenPath) (remaining : List WrittenPath) (ps : List Path) → w ∷ remaining ≡ map path_written ps
     → WaysWithin running (map (path_alternative next) ps) → IsNextPath running next w remaining
 next-path running next w remaining [] e within = absurd cc
@@ -145,6 +153,7 @@ next-path running next w remaining (p ∷ ps) e within = record {
   rest_within = within.1;
 }
 
+-- one more path is done once its way is added
 pub ways-next : (running : Running) (at next : ℕ) (old mid new : Found) (w : WrittenPath) (remaining : List WrittenPath) (whole : List Path)
     → WaysDone running at next old mid (w ∷ remaining) whole → ((p : Path) → w ≡ path_written p → AddsWays running at mid new (path_alternative next p ∷ []))
     → WaysDone running at next old new remaining whole
@@ -164,10 +173,12 @@ ways-next running at next old mid new w remaining whole so adds = by so.rest so.
           all = append_assoc so.done (path_alternative next p ∷ []) (map (path_alternative next) ps) ∙ all;
         }
 
+-- at first all paths remain
 pub ways-none : (running : Running) (at next : ℕ) (f : Found) (remaining : List WrittenPath) (whole : List Path) → remaining ≡ map path_written whole
     → WaysDone running at next f f remaining whole
 ways-none running at next f remaining whole e = record { rest = whole; rest_is = e; done = []; added = Adds-none f; all = refl }
 
+-- where none remains, the ways of all paths are added
 pub ways-all : (running : Running) (at next : ℕ) (old new : Found) (whole : List Path) → WaysDone running at next old new [] whole
     → AddsWays running at old new (map (path_alternative next) whole)
 ways-all running at next old new whole so = by so.rest so.rest_is so.all
@@ -177,10 +188,12 @@ ways-all running at next old new whole so = by so.rest so.rest_is so.all
     by [] e all = subst (AddsWays running at old new) (sym (append-nil so.done) ∙ all) so.added
     by (p ∷ ps) e all = absurd cc
 
+-- the first of the paths from a place on is the one at this place
 pub paths-next : (ss : List StoredPath) (i : ℕ) (d : StoredPath) → i < length ss
     → map path_of (drop i ss) ≡ path_of (get_or ss i d) ∷ map path_of (drop (i + 1) ss)
 paths-next ss i d within = ap (map path_of) (drop_more ss i d within)
 
+-- a function of each element of a reversed list gives the reversed list of what it gives
 pub map-reverse : {X Y : Type 0} (f : X → Y) → (xs : List X) → map f (reverse xs) ≡ reverse (map f xs)
 map-reverse f [] = refl
 map-reverse f (x ∷ xs) =

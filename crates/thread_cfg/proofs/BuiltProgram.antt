@@ -21,6 +21,7 @@ pub record IsBuilt (tree : plain.Tree) (columns : List Column) (graphs : List Th
   pub program_is : stored.program_of columns graphs ≡ program_of tree
   pub is_program : IsProgram (stored.program_of columns graphs)
 
+-- columns and graphs that were found of a known plan without a refusal are those of the program of its text
 pub built : (tree : plain.Tree) (plan : Plan) (columns : List Column) (graphs : List ThreadGraph) (refusal : Option Refusal) → IsKnownPlan tree plan
     → AreFound (length (columns_of tree)) (length (threads_running tree)) (threads_running tree) graphs refusal → refusal ≡ None
     → map stored.column_of columns ≡ map program_column plan.columns → IsBuilt tree columns graphs

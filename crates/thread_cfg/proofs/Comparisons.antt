@@ -27,6 +27,7 @@ apart x y differ = by (int_lt x y) refl
 beside : (x y : ℤ) → x ≡ y → ¬ SomeHolds (related.Less ∷ related.Greater ∷ []) x y
 beside x y same h = elim h [ inl p ↦ omega (arith, ints) | inr h ↦ elim h [ inl p ↦ omega (arith, ints) | inr h ↦ h ] ]
 
+-- two numbers that differ are in no relation of a list that holds equality alone
 only : (x y : ℤ) → ¬ (x ≡ y) → ¬ SomeHolds (related.Equal ∷ []) x y
 only x y differ h = elim h [ inl p ↦ differ p | inr h ↦ h ]
 

@@ -20,6 +20,7 @@ pub record Surrounded (lefts : Lefts) (around : Around) (next : ℕ) (rest : Ite
   pub fails : lefts 0 ≡ Some Standing.Failed
 
 mutual
+  -- the actions of a statement do what its items do
   stmt-match : (lefts : Lefts) (around : Around) (at next : ℕ) (s : Stmt) (rest : Items) → Surrounded lefts around next rest
       → StandsFrom lefts at (stmt_left around.temporary s rest) → AllMatch around.frame lefts (stmt_left around.temporary s rest) (stmt_actions around at next s)
   stmt-match lefts around at next (Stmt.Assign from place v e) rest k h =
@@ -87,6 +88,7 @@ mutual
       test-match around.frame lefts around.temporary at (Some next) None t (Side.Goes Items.End) Side.Nowhere rest k.next_stands tt h
   stmt-match lefts around at next (Stmt.Atomic from inner) rest k h = (block-matches around.frame lefts from inner next rest k.next_stands k.fails, tt)
 
+  -- the actions of statements do what their items do
   pub stmts-match : (lefts : Lefts) (around : Around) (at next : ℕ) (ss : Stmts) (rest : Items) → Surrounded lefts around next rest
       → StandsFrom lefts at (left around.temporary ss rest) → AllMatch around.frame lefts (left around.temporary ss rest) (actions around at next ss)
   stmts-match lefts around at next Stmts.End rest k h = tt

@@ -18,6 +18,7 @@ use Rattle.thread_cfg.proofs.SizeLemmas.{assignment_size-postfix, comparison_siz
 
 -- ---- sizes
 
+-- a part as it is written has the size of the part
 written_size-part : (p : Part) → written_size (written p) ≡ part_size p
 written_size-part (Part.Assign from at v e next) = assignment_size-postfix from at v e
 written_size-part (Part.AssignAny from v next) = refl
@@ -46,6 +47,7 @@ length-part_actions frame t at (Part.Block from inner next) = refl
 
 -- ---- the next part
 
+-- one part more of those that are stored is, last one first, the first of those that are held
 pub parts_held-next : (parts : List StoredPart) (k : ℕ) (d : StoredPart) → k < length parts
     → parts_held (take (k + 1) parts) ≡ written_of (get_or parts k d) ∷ parts_held (take k parts)
 parts_held-next parts k d within =
@@ -61,6 +63,7 @@ pub record IsNext (running : Running) (at : ℕ) (w : Written) (rest : List Writ
   pub within : AreWithin running (actions_of_part running at part)
   pub left : AreLeft running (at + written_size w) rest
 
+-- the first of the parts that are left, and those behind it
 pub left-next : (running : Running) (at : ℕ) (w : Written) (rest : List Written) → AreLeft running at (w ∷ rest) → IsNext running at w rest
 left-next running at w rest all = by all.parts all.written_so all.room all.within
   where
@@ -85,6 +88,7 @@ left-next running at w rest all = by all.parts all.written_so all.room all.withi
           };
         }
 
+-- one more part is done once its actions are added
 pub done-next : (running : Running) (old mid new : Found) (at : ℕ) (w : Written) (remaining : List Written) (whole : List Part)
     → AreDone running old mid at (w ∷ remaining) whole → ((p : Part) → w ≡ written p → AddsActions running at mid new (actions_of_part running at p))
     → AreDone running old new (at + written_size w) remaining whole

@@ -6,6 +6,7 @@ use Rattle.std.proofs.lemmas.List.Elements.{filter_agree}
 use Rattle.std.proofs.lemmas.List.FromFn.{length-map-range_with_len}
 use Rattle.transition_formula.specs.Program.{Form, IsFormOver}
 use Rattle.transition_formula.specs.Forms.{column_form, constant_form}
+use Rattle.transition_formula.proofs.FormProducts.{column-over}
 use Rattle.thread_cfg.specs.declared.event.Event.{Event as StoredEvent}
 use Rattle.thread_cfg.specs.Source.{Frame, column_of}
 use Rattle.thread_cfg.specs.Path.{Event}
@@ -13,7 +14,6 @@ use Rattle.thread_cfg.specs.Edge.{Along, after_event, after_events, alternative_
 use Rattle.thread_cfg.specs.inside.Made.{edge_held, edge_seen, seen_first, sets_seen, some_sets}
 use Rattle.thread_cfg.specs.inside.Meant.{StandFor}
 use Rattle.thread_cfg.specs.inside.Seen.{IsSeenOver, Seen, inputs_in, seen_behind, seen_of, takes_input}
-use Rattle.thread_cfg.proofs.FormLemmas.{column_form-over}
 use Rattle.thread_cfg.proofs.MeantLemmas.{inputs_in-meant, seen_behind-meant, some_sets-meant}
 use Rattle.thread_cfg.proofs.SeenLemmas.{on_ok-given, on_ok-ok, same_Ok}
 
@@ -36,6 +36,7 @@ sets_seen-range p f d c (form ∷ forms) h =
     by_test true here rest = ap₂ (λ (x : Form) (l : List (ℕ × Form)). (c, x) ∷ l) (sym here) rest
     by_test false here rest = rest
 
+-- the sets that the code finds are those of the columns that events set
 sets-meant : (w n : ℕ) (frame : Frame) (along : Along) (ss : List StoredEvent) (es : List Event) → StandFor ss es → length along.forms ≡ n
     → sets_seen (some_sets frame ss) 0 along.forms ≡ map (λ c. (c, form_at w along c)) (set_columns n frame es)
 sets-meant w n frame along ss es h size =
@@ -49,6 +50,7 @@ sets-meant w n frame along ss es h size =
 
 -- ---- the edge
 
+-- the edge that the code makes of what it knows behind events is that of the definition
 edge_seen-meant : (w n from to : ℕ) (frame : Frame) (along : Along) (ss : List StoredEvent) (es : List Event) → StandFor ss es → length along.forms ≡ n
     → edge_seen frame from to ss (seen_of w along) ≡ edge_unless_never w n frame from (record { events = es; to = to }) along
 edge_seen-meant w n from to frame along ss es h size =
@@ -66,6 +68,7 @@ after_event-length w n frame along next (Event.Sets at v a) e =
 after_event-length w n frame along next (Event.SetsAny v) e =
     ap (λ l. length l.forms) (sym (same_Ok _ next e)) ∙ length-set along.forms (column_of frame v) (column_form w (n + along.inputs))
 
+-- behind events there is a form for as many columns as in front of them
 after_events-length : (w n : ℕ) (frame : Frame) (along next : Along) (es : List Event) → after_events w n frame along es ≡ Ok next → length next.forms ≡ length along.forms
 after_events-length w n frame along next [] e = ap (λ l. length l.forms) (sym (same_Ok along next e))
 after_events-length w n frame along next (event ∷ es) e =
@@ -79,6 +82,7 @@ edge-last : (w n from to : ℕ) (frame : Frame) (ss : List StoredEvent) (es : Li
 edge-last w n from to frame ss es (Err place) h size = refl
 edge-last w n from to frame ss es (Ok along) h size = ap Ok (edge_seen-meant w n from to frame along ss es h (size along refl))
 
+-- from the first event to the edge, the code gives what the definition does
 edge_over-meant : (w n from to : ℕ) (frame : Frame) (ss : List StoredEvent) (es : List Event) → StandFor ss es
     → on_ok (λ seen. Ok (edge_seen frame from to ss seen)) (seen_behind w n frame ss (seen_first w n))
     ≡ on_ok (λ along. Ok (edge_unless_never w n frame from (record { events = es; to = to }) along)) (after_events w n frame (at_first w n) es)
@@ -96,6 +100,7 @@ edge_held-meant n from to frame ss es h =
 
 -- ---- in front of all events
 
+-- in front of all events, all that the code knows is over so many columns and inputs
 pub seen_first-over : (w n : ℕ) → IsSeenOver n w (seen_first w n)
 seen_first-over w n = record {
   one_each = length-map-range_with_len (column_form w) 0 n;
@@ -105,7 +110,7 @@ seen_first-over w n = record {
   where
     columns-over : (c k : ℕ) → AllByRecursion (IsFormOver w) (map (column_form w) (range_with_len c k))
     columns-over c zero = tt
-    columns-over c (suc k) = (column_form-over w c, columns-over (c + 1) k)
+    columns-over c (suc k) = (column-over w c, columns-over (c + 1) k)
 
 -- no more inputs than events
 pub inputs_in-few : (ss : List StoredEvent) → inputs_in ss ≤ length ss

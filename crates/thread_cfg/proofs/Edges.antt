@@ -14,13 +14,13 @@ use Rattle.transition_formula.specs.Program.{Edge, Form, IsFormOver}
 use Rattle.transition_formula.specs.Step.{after_sets, value_of}
 use Rattle.transition_formula.specs.Laws.{MeetsAll}
 use Rattle.transition_formula.specs.Forms.{column_form, constant_form}
+use Rattle.transition_formula.proofs.FormValues.{constant-over}
 use Rattle.transition_formula.proofs.NextValues.{AreSet, get_or-assigned, is_set, length-assigned, next_value-from, range-from, range-to}
 use Rattle.thread_cfg.specs.Source.{Frame, column_of}
 use Rattle.thread_cfg.specs.Path.{Event}
 use Rattle.thread_cfg.specs.Action.{Alternative}
 use Rattle.thread_cfg.specs.Edge.{Along, after_events, alternative_edge, at_first, bound_holds, edge_along, edge_unless_never, event_sets, form_at, has_no_column, inputs_of, is_never, set_columns, sets_column}
 use Rattle.thread_cfg.specs.Within.{EventWithin, EventsWithin}
-use Rattle.thread_cfg.proofs.Values.{constant-over}
 use Rattle.thread_cfg.proofs.Relations.{no_column-meets}
 use Rattle.thread_cfg.proofs.AlongEvents.{on_ok-ok, worths}
 use Rattle.thread_cfg.proofs.Events.{AreOver, ChangesAll, after_events-changes, after_events-over, first-over, inputs_of-le}
@@ -31,6 +31,7 @@ unless : {A : Type 0} (b : Bool) (x y : A) → cond b None (Some x) ≡ Some y �
 unless true x y e = absurd cc
 unless false x y e = (refl, cc)
 
+-- what is given unless a test holds is missing only where it holds
 unless-none : {A : Type 0} (b : Bool) (x : A) → cond b None (Some x) ≡ None → b ≡ true
 unless-none true x e = refl
 unless-none false x e = absurd cc
@@ -75,6 +76,7 @@ some_never-meets (row ∷ rows) z e all = elim (or_cases (is_never row) (list_an
   | inr later ↦ some_never-meets rows z later all.1
 ]
 
+-- a point meets the rows where it meets those of them that have a column, unless one is never met
 kept_row-meets : (b : Bool) (row : Row) (tests rows : List Row) (z : List ℤ) → b ≡ has_no_column row → is_never row ≡ false → MeetsAll tests z ↔ MeetsAll rows z
     → MeetsAll (cond (not b) (row ∷ tests) tests) z ↔ MeetsAll (row ∷ rows) z
 kept_row-meets true row tests rows z is never more =
@@ -94,9 +96,11 @@ tests-meet (row ∷ rows) z e =
 abbrev pub with_forms : (ℕ → Form) → List ℕ → List (ℕ × Form)
 with_forms f cs = map (λ c. (c, f c)) cs
 
+-- what holds of each column with its form holds of all that are set
 with_forms-all : (P : ℕ × Form → Type 0) (f : ℕ → Form) (cs : List ℕ) → AllByRecursion (λ c. P (c, f c)) cs → AllByRecursion P (with_forms f cs)
 with_forms-all P f cs all = AllByRecursion-map (λ c. P (c, f c)) P (λ c. (c, f c)) (λ c h. h) cs all
 
+-- where a column is not among those that are set, it is none of them
 is_set-none : (f : ℕ → Form) (cs : List ℕ) (c : ℕ) → is_set (with_forms f cs) c ≡ false → AllByRecursion (λ d. (d == c) ≡ false) cs
 is_set-none f [] c e = tt
 is_set-none f (d ∷ cs) c e = let parts = or_parts (d == c) (is_set (with_forms f cs) c) e in (parts.0, is_set-none f cs c parts.1)
@@ -111,18 +115,22 @@ not_set f p columns c h e =
 module _ (columns : ℕ) (frame : Frame) (events : List Event) (width : ℕ) (last : Along) (z before : List ℤ)
     (changes : ChangesAll frame events (at_first width columns) last) (length_is : length before ≡ columns)
     (first : worths z (at_first width columns).forms ≡ before) where
+  -- there is a form for each column
   forms-length : length last.forms ≡ columns
   forms-length = changes.forms ∙ length-map (range_with_len 0 columns) (λ c. column_form width c) ∙ length-range_with_len 0 columns
 
+  -- what a column is worth behind the events is the value of its form
   worth-at : (c : ℕ) → c < columns → get_or (worths z last.forms) c (pos 0) ≡ value_of (form_at width last c) z
   worth-at c h = get_or-map (λ form. value_of form z) last.forms c (constant_form width (pos 0)) (pos 0) (omega (arith, forms-length))
 
+  -- what is set has the values of the forms
   sets-worth : AreSet (with_forms (form_at width last) (set_columns columns frame events)) z (worths z last.forms)
   sets-worth =
       with_forms-all (λ set. get_or (worths z last.forms) set.0 (pos 0) ≡ value_of set.1 z) (form_at width last) (set_columns columns frame events)
       (range-from (λ c. get_or (worths z last.forms) c (pos 0) ≡ value_of (form_at width last c) z) (sets_column frame events) 0 columns
       (λ c low high pass. worth-at c (omega arith)))
 
+  -- a column that is not set is worth what it was
   kept-worth : (c : ℕ) → c < columns → sets_column frame events c ≡ false → get_or (worths z last.forms) c (pos 0) ≡ get_or before c (pos 0)
   kept-worth c h none =
       let d : Form = constant_form width (pos 0) in
@@ -146,11 +154,13 @@ module _ (columns : ℕ) (frame : Frame) (events : List Event) (width : ℕ) (la
       (λ e. kept-worth c within (not_set (form_at width last) (sets_column frame events) columns c within e))))
 
 -- ---- what is asked of an edge of a program
+-- a column that an event within n sets is within n
 event_sets-within : (n : ℕ) (frame : Frame) (event : Event) (c : ℕ) → EventWithin n frame event → event_sets frame c event ≡ true → c < n
 event_sets-within n frame (Event.Requires from r a b) c within e = absurd cc
 event_sets-within n frame (Event.Sets at v a) c within e = let same = eqb-true (column_of frame v) c e in omega arith
 event_sets-within n frame (Event.SetsAny v) c within e = let same = eqb-true (column_of frame v) c e in omega arith
 
+-- a column that events within n set is within n
 sets_column-within : (n : ℕ) (frame : Frame) (events : List Event) (c : ℕ) → EventsWithin n frame events → sets_column frame events c ≡ true → c < n
 sets_column-within n frame [] c within e = absurd cc
 sets_column-within n frame (event ∷ events) c within e = elim (or_cases (event_sets frame c event) (sets_column frame events c) e) [
@@ -158,11 +168,13 @@ sets_column-within n frame (event ∷ events) c within e = elim (or_cases (event
   | inr later ↦ sets_column-within n frame events c within.1 later
 ]
 
+-- what holds of all holds of those that pass a test
 AllByRecursion-filter : {A : Type 0} (P : A → Type 0) (p : A → Bool) (xs : List A) → AllByRecursion P xs → AllByRecursion P (filter p xs)
 AllByRecursion-filter P p [] all = tt
 AllByRecursion-filter P p (x ∷ xs) all =
     let more = AllByRecursion-filter P p xs all.1 in cond_both (p x) (x ∷ filter p xs) (filter p xs) (AllByRecursion P) (λ e. (all.0, more)) (λ e. more)
 
+-- the columns of sets are those that they were made of
 columns-of_sets : (f : ℕ → Form) (cs : List ℕ) → map (λ (set : ℕ × Form). set.0) (with_forms f cs) ≡ cs
 columns-of_sets f [] = refl
 columns-of_sets f (c ∷ cs) = ap (λ l. c ∷ l) (columns-of_sets f cs)
@@ -177,11 +189,13 @@ range-apart p a (suc n) =
     (λ e. (range-from (λ c. nat_eq a c ≡ false) p (a + 1) n (λ c low high pass. ne_eqb a c (λ same. absurd (omega arith))), more))
     (λ e. more)
 
+-- the form at a place is over the width, where all are and the one given for a missing place is
 get_or-over : (width : ℕ) (forms : List Form) (c : ℕ) (d : Form) → AllByRecursion (IsFormOver width) forms → IsFormOver width d → IsFormOver width (get_or forms c d)
 get_or-over width [] c d all over = over
 get_or-over width (form ∷ forms) zero d all over = all.0
 get_or-over width (form ∷ forms) (suc c) d all over = get_or-over width forms c d all.1 over
 
+-- the forms of columns behind events are over the width
 all-over : (width : ℕ) (last : Along) (cs : List ℕ) → AreOver width last → AllByRecursion (λ c. IsFormOver width (form_at width last c)) cs
 all-over width last [] are = tt
 all-over width last (c ∷ cs) are =

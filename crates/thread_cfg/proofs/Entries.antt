@@ -11,10 +11,12 @@ use Rattle.thread_cfg.proofs.Matching.{StandsFrom}
 
 -- ---- items behind items
 
+-- items joined of three lists, whichever two are joined first
 pub joined-joined : (is more rest : Items) → joined (joined is more) rest ≡ joined is (joined more rest)
 joined-joined Items.End more rest = refl
 joined-joined (Items.Then i is) more rest = ap (λ x. Items.Then i x) (joined-joined is more rest)
 
+-- reads in front of joined items are reads in front of the first of them
 pub joined-reads : (rs : List (Variable × Variable)) (is rest : Items) → joined (read_items rs is) rest ≡ read_items rs (joined is rest)
 joined-reads [] is rest = refl
 joined-reads (r ∷ rs) is rest = ap (λ x. Items.Then (Item.Read r.0 r.1) x) (joined-reads rs is rest)
@@ -26,6 +28,7 @@ pub record Begins (xs : List Items) (is : Items) : Type 0 where
   pub more : List Items
   pub begins : xs ≡ is ∷ more
 
+-- what begins a list begins it joined with another
 begins-++ : (xs ys : List Items) (is : Items) → Begins xs is → Begins (xs ++ ys) is
 begins-++ xs ys is b = record { more = b.more ++ ys; begins = ap (λ l. l ++ ys) b.begins }
 
@@ -51,6 +54,7 @@ begins-test temporary (Test.Or u v) ts fs rest =
     begins-++ (test_left temporary u ts (Side.Goes (branch (test_guard (Grain.Cut temporary) v) ts fs)) rest) (test_left temporary v ts fs rest) _
     (begins-test temporary u ts (Side.Goes (branch (test_guard (Grain.Cut temporary) v) ts fs)) rest)
 
+-- what is left at the locations of a condition begins with its branch and what stands behind
 pub begins-condition : (temporary : ℕ) (c : Condition) (ts fs : Side) (rest : Items)
     → Begins (condition_left temporary c ts fs rest) (read_as (joined (branch (guard (Grain.Cut temporary) c) ts fs) rest))
 begins-condition temporary (Condition.Choice from) ts fs rest = record { more = []; begins = refl }
@@ -65,6 +69,7 @@ read-branch (Guard.Not g) ts fs rest = read-branch g fs ts rest
 read-branch (Guard.And g h) ts fs rest = read-branch g (Side.Goes (branch h ts fs)) fs rest
 read-branch (Guard.Or g h) ts fs rest = read-branch g ts (Side.Goes (branch h ts fs)) rest
 
+-- what is left at the locations of a statement begins with its items and what stands behind
 pub begins-stmt : (temporary : ℕ) (s : Stmt) (rest : Items) → Begins (stmt_left temporary s rest) (read_as (joined (stmt_items (Grain.Cut temporary) s) rest))
 begins-stmt temporary (Stmt.Assign from at v e) rest = by (few (assign_accesses v e)) refl
   where
@@ -119,10 +124,12 @@ entry-stands lefts temporary at next (Stmts.Then s more) rest h lands =
 
 -- ---- sizes
 
+-- there is one read for each variable
 pub reads-length : (next : ℕ) (vs : List Variable) → length (reads next vs) ≡ length vs
 reads-length next [] = refl
 reads-length next (v ∷ vs) = ap suc (reads-length (next + 1) vs)
 
+-- there is a location for each read, and one behind them
 pub left-length : (rs : List (Variable × Variable)) (more : Items) → length (reads_left rs more) ≡ length rs + 1
 left-length [] more = refl
 left-length (r ∷ rs) more = let e = left-length rs more in omega (arith, e)
@@ -135,6 +142,7 @@ reads-before-length temporary accesses vs = by (few accesses) refl
     by true e = rw e refl
     by false e = rw (e, reads-length temporary vs, reads-length 0 vs) refl
 
+-- a test has as many things left as it has locations
 pub test-length : (temporary : ℕ) (t : Test) (ts fs : Side) (rest : Items) → length (test_left temporary t ts fs rest) ≡ test_size t
 test-length temporary (Test.Compare from m a b) ts fs rest =
     let e = left-length (compare_reads temporary a b) (Items.Then (Item.Branch (Some (compared_over temporary m a b)) ts fs) rest) in
@@ -149,11 +157,13 @@ test-length temporary (Test.Or u v) ts fs rest =
     let f = test-length temporary v ts fs rest in
     rw (length-append (test_left temporary u ts (Side.Goes (branch (test_guard (Grain.Cut temporary) v) ts fs)) rest)) (omega (arith, e, f))
 
+-- a condition has as many things left as it has locations
 pub condition-length : (temporary : ℕ) (c : Condition) (ts fs : Side) (rest : Items) → length (condition_left temporary c ts fs rest) ≡ condition_size c
 condition-length temporary (Condition.Choice from) ts fs rest = refl
 condition-length temporary (Condition.Tested from t) ts fs rest = test-length temporary t ts fs rest
 
 mutual
+  -- a statement has as many things left as it has locations
   pub stmt-length : (temporary : ℕ) (s : Stmt) (rest : Items) → length (stmt_left temporary s rest) ≡ stmt_size s
   stmt-length temporary (Stmt.Assign from at v e) rest =
       let l = left-length (assign_reads temporary v e) (Items.Then (Item.Assign v (over_reads temporary (assign_accesses v e) e)) rest) in
@@ -182,6 +192,7 @@ mutual
   stmt-length temporary (Stmt.Assume from t) rest = test-length temporary t (Side.Goes Items.End) Side.Nowhere rest
   stmt-length temporary (Stmt.Atomic from inner) rest = refl
 
+  -- statements have as many things left as they have locations
   pub stmts-length : (temporary : ℕ) (ss : Stmts) (rest : Items) → length (left temporary ss rest) ≡ size ss
   stmts-length temporary Stmts.End rest = refl
   stmts-length temporary (Stmts.Then s more) rest =
@@ -203,6 +214,7 @@ behind-branch (Guard.Not g) ts fs rest = behind-branch g fs ts rest
 behind-branch (Guard.And g h) ts fs rest = behind-branch g (Side.Goes (branch h ts fs)) fs rest
 behind-branch (Guard.Or g h) ts fs rest = behind-branch g ts (Side.Goes (branch h ts fs)) rest
 
+-- behind the loop of an assignment and what follows is what is behind the loop of what follows
 behind-assigned : (temporary : ℕ) (v : Variable) (e : Arithmetic) (from at : ℕ) (rest : Items)
     → behind_loop (joined (stmt_items (Grain.Cut temporary) (Stmt.Assign from at v e)) rest) ≡ behind_loop rest
 behind-assigned temporary v e from at rest = by (few (assign_accesses v e)) refl
@@ -215,6 +227,7 @@ behind-assigned temporary v e from at rest = by (few (assign_accesses v e)) refl
     by true is = rw is refl
     by false is = rw is (reads-behind (reads temporary (shared_in e)) _)
 
+-- behind the loop of a statement and what follows is what is behind the loop of what follows: a statement ends its own loops
 behind-stmt : (temporary : ℕ) (s : Stmt) (rest : Items) → behind_loop (joined (stmt_items (Grain.Cut temporary) s) rest) ≡ behind_loop rest
 behind-stmt temporary (Stmt.Assign from at v e) rest = behind-assigned temporary v e from at rest
 behind-stmt temporary (Stmt.AssignAny from v) rest = refl

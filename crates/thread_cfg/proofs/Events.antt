@@ -11,6 +11,7 @@ use Rattle.lin_rows.proofs.Lists.{AllByRecursion-append}
 use Rattle.transition_formula.specs.Program.{Form, IsFormOver}
 use Rattle.transition_formula.specs.Step.{value_of}
 use Rattle.transition_formula.specs.Forms.{column_form, fitting_composition}
+use Rattle.transition_formula.proofs.FormProducts.{column-over}
 use Rattle.transition_formula.proofs.FormValues.{compositions-exact, forms-made}
 use Rattle.transition_formula.proofs.Numbers.{AllByRecursion-set}
 use Rattle.c_check.specs.Plan.{Arithmetic}
@@ -19,11 +20,12 @@ use Rattle.thread_cfg.specs.Source.{Frame, column_of, value, with_value}
 use Rattle.thread_cfg.specs.Path.{Event}
 use Rattle.thread_cfg.specs.Happen.{Happen}
 use Rattle.thread_cfg.specs.Edge.{Along, after_event, after_events, at_first, event_sets, form_along, form_of, inputs_of, row_along, row_by, sets_column, with_form, with_input, with_row}
-use Rattle.thread_cfg.proofs.Values.{column-over, form_of-over}
+use Rattle.thread_cfg.proofs.Values.{form_of-over}
 use Rattle.thread_cfg.proofs.Relations.{row_by-over}
 use Rattle.thread_cfg.proofs.AlongEvents.{on_ok-fits, on_ok-ok, finally, worths}
 
 -- ---- lengths
+-- events keep the number of values
 pub finally-length : (frame : Frame) (now : List ℤ) (events : List Event) (left : List ℤ) → length (finally frame now events left) ≡ length now
 finally-length frame now [] left = refl
 finally-length frame now (Event.Requires from r a b ∷ events) left = finally-length frame now events left
@@ -80,6 +82,7 @@ after_event-changes width columns frame along more (Event.SetsAny v) e =
     })
 
 -- ---- inputs
+-- the inputs of an event and of those behind it are added
 pub inputs_of-cons : (event : Event) (events : List Event) → inputs_of (event ∷ events) ≡ inputs_of (event ∷ []) + inputs_of events
 inputs_of-cons (Event.Requires from r a b) events = omega arith
 inputs_of-cons (Event.Sets at v e) events = omega arith
@@ -126,12 +129,14 @@ pub record AreOver (width : ℕ) (along : Along) : Type 0 where
   pub forms : AllByRecursion (IsFormOver width) along.forms
   pub rows : AllByRecursion (IsRowOver width) along.rows
 
+-- the form of an expression along events is over the width
 form_along-over : (width columns : ℕ) (frame : Frame) (along : Along) (a : Arithmetic) (form : Form) → form_along width columns frame along a ≡ Some form
     → AreOver width along → IsFormOver width form
 form_along-over width columns frame along a form e are =
     option_and_then_some (λ one. fitting_composition width one along.forms) (form_of columns frame a) form e (λ one given composed.
     compositions-exact.over width one form along.forms (form_of-over columns frame a one given).constant_fits are.forms composed)
 
+-- the row of a relation along events is over the width
 row_along-over : (width columns : ℕ) (frame : Frame) (along : Along) (r : Relation) (a b : Arithmetic) (row : Row) → row_along width columns frame along r a b ≡ Some row
     → AreOver width along → IsRowOver width row
 row_along-over width columns frame along r a b row e are =
@@ -139,6 +144,7 @@ row_along-over width columns frame along r a b row e are =
     option_and_then_some (row_by width r one) (form_along width columns frame along b) row more (λ other too by.
     row_by-over width r one other row by (form_along-over width columns frame along a one given are) (form_along-over width columns frame along b other too are)))
 
+-- behind an event all is over the width, where it was in front of it
 after_event-over : (width columns : ℕ) (frame : Frame) (along more : Along) (event : Event) → after_event width columns frame along event ≡ Ok more
     → AreOver width along → AreOver width more
 after_event-over width columns frame along more (Event.Requires from r a b) e are =
@@ -176,6 +182,7 @@ first-worth width a z front (x ∷ xs) inputs here length_is enough =
     ap₂ ◌∷◌ value
     (first-worth width (a + 1) z (front ++ x ∷ []) xs inputs (here ∙ sym (append_assoc front (x ∷ []) (xs ++ inputs))) (length_push front x ∙ omega (arith, length_is)) (omega (arith, enough)))
 
+-- the forms of columns themselves are over the width
 columns-over : (width : ℕ) (cs : List ℕ) → AllByRecursion (IsFormOver width) (map (column_form width) cs)
 columns-over width [] = tt
 columns-over width (c ∷ cs) = (column-over width c, columns-over width cs)

@@ -14,6 +14,7 @@ pub record RunsThere (variables : ℕ) (functions : List Function) (ts : List Th
   pub running_is : slice_get (running_from variables functions i ts) j
       ≡ Some (record { frame = record { thread = i + j; first = thread.first; variables = variables }; function = function })
 
+-- the j-th of threads that have functions runs, with its function
 pub runs-there : (variables : ℕ) (functions : List Function) (i : ℕ) (ts : List Thread) (j : ℕ) (thread : Thread) → AllByRecursion (HasFunction functions) ts
     → slice_get ts j ≡ Some thread → RunsThere variables functions ts i j thread
 runs-there variables functions i [] j thread all e = absurd (none-some thread e)

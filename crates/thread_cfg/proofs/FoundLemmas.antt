@@ -24,6 +24,7 @@ use Rattle.thread_cfg.proofs.PartLemmas.{parts-size, thread_actions-parts}
 use Rattle.thread_cfg.proofs.PassLemmas.{passed-code}
 use Rattle.thread_cfg.proofs.SizeLemmas.{counted-code}
 
+-- the parts of a function's body, with its last location
 abbrev pub parts_of : Stmts → List Part
 parts_of body = parts (exit_of body) (exit_of body) 1 (exit_of body) body
 

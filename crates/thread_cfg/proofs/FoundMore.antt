@@ -18,10 +18,12 @@ take-next [] j x e = absurd (none-some x e)
 take-next (y ∷ xs) zero x e = ap (λ z. z ∷ []) (some-same y x e)
 take-next (y ∷ xs) (suc j) x e = ap (λ l. y ∷ l) (take-next xs j x e)
 
+-- one element more at the end adds what the function gives of it
 flat-next : {X Y : Type 0} → (f : X → List Y) (xs : List X) (x : X) → flat_map f (xs ++ x ∷ []) ≡ flat_map f xs ++ f x
 flat-next f [] x = append-nil (f x)
 flat-next f (y ∷ xs) x = ap (λ l. f y ++ l) (flat-next f xs x) ∙ sym (append_assoc (f y) (flat_map f xs) (f x))
 
+-- one element more at the end adds the function of it
 map-next : {X Y : Type 0} → (f : X → Y) (xs : List X) (x : X) → map f (xs ++ x ∷ []) ≡ map f xs ++ f x ∷ []
 map-next f [] x = refl
 map-next f (y ∷ xs) x = ap (λ l. f y ∷ l) (map-next f xs x)

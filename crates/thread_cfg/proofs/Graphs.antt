@@ -33,24 +33,28 @@ use Rattle.thread_cfg.proofs.Alike.{fails-alike, runs-tell, threads-fail-alike}
 
 -- ---- lists
 
+-- the function of the element by a number has this number among the functions of all
 numbered-map : {X Y : Type 0} → (f : X → Y) (xs : List X) (i : ℕ) (x : X) → at_number xs i ≡ Some x → at_number (map f xs) i ≡ Some (f x)
 numbered-map f xs zero x e = absurd (none-some x e)
 numbered-map f [] (suc i) x e = absurd (none-some x e)
 numbered-map f (y ∷ xs) (suc zero) x e = ap (λ z. Some (f z)) (some-same y x e)
 numbered-map f (y ∷ xs) (suc (suc i)) x e = numbered-map f xs (suc i) x e
 
+-- a number with an element is from 1 to the length
 numbered-below : {X : Type 0} → (xs : List X) (i : ℕ) (x : X) → at_number xs i ≡ Some x → (1 ≤ i) × (i ≤ length xs)
 numbered-below xs zero x e = absurd (none-some x e)
 numbered-below [] (suc i) x e = absurd (none-some x e)
 numbered-below (y ∷ xs) (suc zero) x e = (omega arith, omega arith)
 numbered-below (y ∷ xs) (suc (suc i)) x e = let m = numbered-below xs (suc i) x e in (omega arith, omega (arith, m.1))
 
+-- where nothing is given of all elements, nothing is of the one by a number
 flat-none : {X Y : Type 0} → (f : X → List Y) (xs : List X) (i : ℕ) (x : X) → flat_map f xs ≡ [] → at_number xs i ≡ Some x → f x ≡ []
 flat-none f xs zero x e at = absurd (none-some x at)
 flat-none f [] (suc i) x e at = absurd (none-some x at)
 flat-none f (y ∷ xs) (suc zero) x e at = subst (λ z. f z ≡ []) (some-same y x at) (empty-front (f y) (flat_map f xs) e)
 flat-none f (y ∷ xs) (suc (suc i)) x e at = flat-none f xs (suc i) x (empty-behind (f y) (flat_map f xs) e) at
 
+-- the front of a joined list, as long as the first, is the first
 take-front : {X : Type 0} → (xs ys : List X) → take (length xs) (xs ++ ys) ≡ xs
 take-front [] ys = refl
 take-front (x ∷ xs) ys = ap (λ l. x ∷ l) (take-front xs ys)
@@ -62,10 +66,12 @@ mapped-numbered f [] (suc i) y e = absurd (none-some y e)
 mapped-numbered f (x ∷ xs) (suc zero) y e = (x, refl, some-same (f x) y e)
 mapped-numbered f (x ∷ xs) (suc (suc i)) y e = mapped-numbered f xs (suc i) y e
 
+-- an element by a number is in the list
 numbered-has : {X : Type 0} → (xs : List X) (x : X) (e : ℕ) → at_number xs e ≡ Some x → Has xs x
 numbered-has xs x zero h = absurd (none-some x h)
 numbered-has xs x (suc e) h = number-has xs x e h
 
+-- what is in a list is contained in it
 has-contains : {X : Type 0} → (xs : List X) (x : X) → Has xs x → Contains xs x
 has-contains [] x h = absurd h
 has-contains (y ∷ xs) x h =
@@ -76,10 +82,12 @@ has-contains (y ∷ xs) x h =
 
 -- ---- columns and threads
 
+-- there is a thread for each creation
 length-threads : (owns : List OwnVariables) (first : ℕ) (created : List ℕ) → length (threads_from owns first created) ≡ length created
 length-threads owns first [] = refl
 length-threads owns first (n ∷ ns) = ap suc (length-threads owns (first + own_count owns n) ns)
 
+-- there is a counter for each creation
 length-counters : (i : ℕ) (created : List ℕ) → length (counters_from i created) ≡ length created
 length-counters i [] = refl
 length-counters i (n ∷ ns) = ap suc (length-counters (i + 1) ns)
@@ -106,9 +114,11 @@ module _ (tree : plain.Tree) (plan : Plan) (is : IsPlanOf tree plan) (well : IsW
   abbrev pub fronts : List Column
   fronts = shared_columns tree ++ own_columns_from (owns_of tree) 1 (created_of tree)
 
+  -- the counters are the last columns
   columns-split : columns_of tree ≡ fronts ++ counters_from 1 (created_of tree)
   columns-split = sym (append_assoc (shared_columns tree) (own_columns_from (owns_of tree) 1 (created_of tree)) (counters_from 1 (created_of tree)))
 
+  -- n columns are in front of the k counters
   pub fronts-length : (length fronts ≡ n) × (n + k ≡ length (columns_of tree))
   fronts-length =
       let a = ap length columns-split in
@@ -125,6 +135,7 @@ module _ (tree : plain.Tree) (plan : Plan) (is : IsPlanOf tree plan) (well : IsW
   counters-within = omega (arith, fronts-length.1)
 
 module _ (tree : plain.Tree) (plan : Plan) (is : IsPlanOf tree plan) (well : IsWellFormedPlan plan) (fits : refusals_of tree ≡ []) where
+  -- the graph of a thread that runs is one of its actions
   graph-is : (i : ℕ) (t : Running) → at_number (threads_running tree) i ≡ Some t
       → IsGraphOf (program_of tree) (n tree plan is well) (k tree plan is well) t.frame (length t.function.locals) t.function.body (thread_graph (length (columns_of tree)) (k tree plan is well) t)
   graph-is i t at =

@@ -44,9 +44,11 @@ slice_get-append_right (x ∷ xs) ys j =
     let next : suc (length xs) + j ≡ suc (length xs + j) = omega arith in
     ap (slice_get (x ∷ (xs ++ ys))) next ∙ slice_get-append_right xs ys j
 
+-- the location at a place, as a number of the state
 slice_get-pos : (locations : List ℕ) (j l : ℕ) → slice_get locations j ≡ Some l → slice_get (map pos locations) j ≡ Some (pos l)
 slice_get-pos locations j l e = slice_get-map pos locations j ∙ ap (option_map pos) e
 
+-- the location of thread i is at the place before its number
 slice_get-numbered : (locations : List ℕ) (i l : ℕ) → 1 ≤ i → at_number locations i ≡ Some l → slice_get locations (i - 1) ≡ Some l
 slice_get-numbered locations zero l h e = absurd (omega arith)
 slice_get-numbered locations (suc j) l h e = let back : suc j - 1 ≡ j = omega arith in ap (slice_get locations) back ∙ e

@@ -32,6 +32,7 @@ pub record IsKnown (tree : plain.Tree) (program : Program) : Type 0 where
 
 -- ---- standings are read once
 
+-- to read items twice is to read them once
 read-read : (is : Items) → read_as (read_as is) ≡ read_as is
 read-read Items.End = refl
 read-read (Items.Then (Item.Loop g body last) rest) = read-branch g _ _ rest
@@ -51,14 +52,17 @@ steps-as : (frame : Frame) (values after : List ℤ) (standing next : Standing) 
 steps-as frame values after Standing.Failed next h = h
 steps-as frame values after (Standing.Doing is) next h = subst (λ x. DoesFirst frame values x after next) (sym (read-read is)) h
 
+-- a thread steps from what is read as it does from what is there
 as-steps : (frame : Frame) (values after : List ℤ) (standing next : Standing) → SourceSteps frame values (standing_as standing) after next → SourceSteps frame values standing after next
 as-steps frame values after Standing.Failed next h = h
 as-steps frame values after (Standing.Doing is) next h = subst (λ x. DoesFirst frame values x after next) (read-read is) h
 
+-- what is read as failed is failed
 pub failed-as : (standing : Standing) → standing_as standing ≡ Standing.Failed → standing ≡ Standing.Failed
 failed-as Standing.Failed e = refl
 failed-as (Standing.Doing is) e = absurd (subst (λ s. elim s as (λ _. Type 0) [ Standing.Doing y ↦ Unit {0} | Standing.Failed ↦ ⊥ ]) e tt)
 
+-- what holds of all holds of an element
 pub all-has : {X : Type 0} → (P : X → Type 0) (xs : List X) (x : X) → AllByRecursion P xs → Has xs x → P x
 all-has P [] x all h = absurd h
 all-has P (y ∷ xs) x all h = elim h [ inl e ↦ subst P (sym e) all.0 | inr g ↦ all-has P xs x all.1 g ]
@@ -72,6 +76,7 @@ module _ (tree : plain.Tree) (program : Program) (known : IsKnown tree program) 
   abbrev n : ℕ
   n = length (columns_of tree) - length (threads_running tree)
 
+  -- what is left at the locations of a thread that runs; nothing where there is none
   lefts_of : (i : ℕ) (o : Option Running) → at_number (threads_running tree) i ≡ o → ℕ → Option Standing
   lefts_of i None e = λ l. None
   lefts_of i (Some t) e = (known.same.steps_are i t e).left
@@ -80,6 +85,7 @@ module _ (tree : plain.Tree) (program : Program) (known : IsKnown tree program) 
   pub left_at : ℕ → ℕ → Option Standing
   left_at i = lefts_of i (at_number (threads_running tree) i) refl
 
+  -- each thread that runs steps by what is left
   pub same-at : (i : ℕ) (t : Running) → at_number (threads_running tree) i ≡ Some t → StepsBy tree program (left_at i) t
   unfolding left_at lefts_of
   same-at i t e = let h = by (at_number (threads_running tree) i) refl e in record { steps = h.0; left_is = h.1 }
@@ -96,6 +102,7 @@ module _ (tree : plain.Tree) (program : Program) (known : IsKnown tree program) 
   abbrev pub Shows : Configuration → List ℤ → Type 0
   Shows = Tells tree left_at
 
+  -- where one thread goes on to values and to a location where that is left, the state after tells the configuration after
   tells-next : (c : Configuration) (before : List ℤ) (t : Shows c before) (i to : ℕ) (next : Standing) (values : List ℤ) → 1 ≤ i → i ≤ k → length values ≡ n
       → left_at i to ≡ Some (standing_as next)
       → Shows (record { values = values; standings = slice_set c.standings (i - 1) next }) (state_of values (slice_set t.locations (i - 1) to))
@@ -141,6 +148,7 @@ module _ (tree : plain.Tree) (program : Program) (known : IsKnown tree program) 
     pub interleaves : Interleaves tree done c next
     pub tells : Shows next after
 
+  -- a step keeps the number of columns
   after-length : (thread : Thread) (edge : Edge) (before inputs : List ℤ) → length (after_step thread edge before inputs) ≡ length before
   after-length thread edge before inputs =
       length-slice_set (after_sets edge.sets (before ++ inputs) before) thread.counter (pos edge.to) ∙ assigned-length edge.sets (before ++ inputs) before
@@ -149,9 +157,11 @@ module _ (tree : plain.Tree) (program : Program) (known : IsKnown tree program) 
       assigned-length [] z state = refl
       assigned-length (s ∷ sets) z state = length-slice_set (after_sets sets z state) s.0 (value_of s.1 z) ∙ assigned-length sets z state
 
+  -- so many values stand in front of the counters
   values-length : (values counters : List ℤ) (m : ℕ) → length (values ++ counters) ≡ m + length counters → length values ≡ m
   values-length values counters m e = let a = length-append values counters in omega (arith, a, e)
 
+  -- a step of the program is one of the text
   pub program-steps : (c : Configuration) (taken : RunStep) (before after : List ℤ) → Shows c before → Leads program taken before after → StepsOn c taken after
   program-steps c taken before after t leads = go (get-all (threads_running tree) i (counter.1) counter.2) (get-all t.locations i counter.1 (omega (arith, counter.2, t.locations_length)))
       (get-all c.standings i counter.1 (omega (arith, counter.2, t.standings_length)))
@@ -215,6 +225,7 @@ module _ (tree : plain.Tree) (program : Program) (known : IsKnown tree program) 
     pub leads : Leads program taken before after
     pub tells : Shows c after
 
+  -- a step of the text is one of the program
   pub text-steps : (c next : Configuration) (done : SourceStep) (before : List ℤ) → Shows c before → Interleaves tree done c next → IsStep before done next
   text-steps c next done before t s =
       go (get-all t.locations done.thread at.0 (omega (arith, below, at.0, t.standings_length, t.locations_length)))
@@ -264,6 +275,7 @@ module _ (tree : plain.Tree) (program : Program) (known : IsKnown tree program) 
 
   -- ---- starts
 
+  -- at the start each thread has its function to do
   mapped-get : (ts : List Running) (i : ℕ) (st : Standing) → at_number (map (λ (t : Running). Standing.Doing (function_items t.function)) ts) i ≡ Some st
       → (t : Running) × (at_number ts i ≡ Some t) × (st ≡ Standing.Doing (function_items t.function))
   mapped-get ts zero st e = absurd (none-some st e)
@@ -275,12 +287,14 @@ module _ (tree : plain.Tree) (program : Program) (known : IsKnown tree program) 
   unfoldable pub start_with : List ℤ → Configuration
   start_with values = record { values = values; standings = map (λ (t : Running). Standing.Doing (function_items t.function)) (threads_running tree) }
 
+  -- so many columns have values in the source
   value-count : length (value_columns tree) ≡ n
   value-count =
       let a = ap length known.counters_are in
       let b = length-append (value_columns tree) (counters_from 1 (created_of tree)) in
       let d = length-counters 1 (created_of tree) in omega (arith, a, b, d, known.created_are)
 
+  -- initial values with all threads at location 1 tell the start
   pub start-tells : (values : List ℤ) → IsInitial (map program_column (value_columns tree)) values → Shows (start_with values) (values ++ map pos (ones (created_of tree)))
   unfolding start_with
   start-tells values h = record {
@@ -301,6 +315,7 @@ module _ (tree : plain.Tree) (program : Program) (known : IsKnown tree program) 
           subst (λ x. left_at i x ≡ Some (standing_as st)) (sym one)
           (subst (λ s. left_at i 1 ≡ Some (standing_as s)) (sym m.2) (subst (λ f. f 1 ≡ Some (Standing.Doing (read_as (function_items m.0.function)))) alike.left_is alike.steps.begins))
 
+  -- initial states are those of the columns in front of the counters and of the counters
   pub initial-columns : (state : List ℤ) → IsInitial program.columns state ↔ IsInitial (map program_column (value_columns tree ++ counters_from 1 (created_of tree))) state
   initial-columns state =
       let e : program.columns ≡ map program_column (value_columns tree ++ counters_from 1 (created_of tree)) = known.columns_are ∙ ap (map program_column) known.counters_are in

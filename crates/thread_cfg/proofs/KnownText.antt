@@ -7,6 +7,7 @@ use Rattle.c_check.proofs.PlanLemmas.{plans-well_formed}
 use Rattle.thread_cfg.specs.Read.{IsPlanOfText}
 use Rattle.thread_cfg.specs.inside.Known.{IsKnownPlan}
 
+-- the plan of a text is one of which all is known that the graph asks for
 pub known-of-text : (text : List ℕ) (tree : Tree) (plan : Plan) → IsPlanOfText text tree plan → IsKnownPlan (plain_tree tree) plan
 known-of-text text tree plan is = record {
   accepted = is.accepted;

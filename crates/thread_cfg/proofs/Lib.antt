@@ -42,8 +42,6 @@ pub mod PicksFollow
 pub mod Picks
 pub mod PicksEdges
 pub mod WorkedPicks
-pub mod SumLemmas
-pub mod FormLemmas
 pub mod StackLemmas
 pub mod RowLemmas
 pub mod SeenLemmas

@@ -24,6 +24,7 @@ pub record IsLocated (tree : Tree) (plan : Plan) (i : ℕ) : Type 0 where
   pub thread_is : slice_get plan.threads (i - 1) ≡ Some thread
   pub step : IsStep (plain_tree tree) plan (i - 1) thread
 
+-- what is known of the thread by a number in the plan of a text
 pub located : (text : List ℕ) (tree : Tree) (plan : Plan) (i : ℕ) → IsPlanOfText text tree plan → 1 ≤ i → i ≤ length plan.threads → IsLocated tree plan i
 located text tree plan i is some among =
     let there = get-exists plan.threads (i - 1) (omega (arith, some, among)) in

@@ -37,6 +37,7 @@ AllMatch frame left [] (a ∷ as') = ⊥
 AllMatch frame left (x ∷ xs) [] = ⊥
 AllMatch frame left (x ∷ xs) (a ∷ as') = Matches frame left x a × AllMatch frame left xs as'
 
+-- joined actions match joined items
 pub match-++ : (frame : Frame) (left : Lefts) (xs ys : List Items) (as' bs : List Action)
     → AllMatch frame left xs as' → AllMatch frame left ys bs → AllMatch frame left (xs ++ ys) (as' ++ bs)
 match-++ frame left [] ys [] bs h k = k
@@ -49,10 +50,12 @@ abbrev pub StandsFrom : Lefts → ℕ → List Items → Type 0
 StandsFrom left at [] = Unit {0}
 StandsFrom left at (x ∷ xs) = (left at ≡ Some (Standing.Doing x)) × StandsFrom left (at + 1) xs
 
+-- where joined items stand at locations, the first ones do
 pub stands-front : (left : Lefts) (at : ℕ) (xs ys : List Items) → StandsFrom left at (xs ++ ys) → StandsFrom left at xs
 stands-front left at [] ys h = tt
 stands-front left at (x ∷ xs) ys h = (h.0, stands-front left (at + 1) xs ys h.1)
 
+-- where joined items stand at locations, the second ones stand behind the first
 pub stands-behind : (left : Lefts) (at : ℕ) (xs ys : List Items) → StandsFrom left at (xs ++ ys) → StandsFrom left (at + length xs) ys
 stands-behind left at [] ys h = subst (λ l. StandsFrom left l ys) (omega arith) h
 stands-behind left at (x ∷ xs) ys h = subst (λ l. StandsFrom left l ys) (omega arith) (stands-behind left (at + 1) xs ys h.1)
@@ -66,6 +69,7 @@ LeadsTo left None (Some next) = ⊥
 LeadsTo left (Some to) None = ⊥
 LeadsTo left (Some to) (Some next) = Lands left to next
 
+-- nothing is not something
 none-some : (X : Type 0) (x : X) → ¬ (None ≡ Some x)
 none-some X x e = subst (λ o. elim o as (λ _. Type 0) [ None ↦ Unit {0} | Some y ↦ ⊥ ]) e tt
 
@@ -177,16 +181,19 @@ simple-matches frame left from event next item rest e lands there back = record 
   ];
 }
 
+-- the action of a read does what a read does
 pub read-matches : (frame : Frame) (left : Lefts) (from at : ℕ) (t v : Variable) (next : ℕ) (rest : Items) → Lands left next (Standing.Doing rest)
     → Matches frame left (Items.Then (Item.Read t v) rest) (simple from (Event.Sets at t (Arithmetic.Value v)) next)
 read-matches frame left from at t v next rest lands = simple-matches frame left from (Event.Sets at t (Arithmetic.Value v)) next (Item.Read t v) rest refl lands
     (λ values after standing h. (record { inputs = []; happen = (refl, h.0); leads = refl }, h.1)) (λ values after g. (g.happen.1, refl))
 
+-- the action of an assignment does what an assignment does
 pub assign-matches : (frame : Frame) (left : Lefts) (from at : ℕ) (v : Variable) (e : Arithmetic) (next : ℕ) (rest : Items) → Lands left next (Standing.Doing rest)
     → Matches frame left (Items.Then (Item.Assign v e) rest) (simple from (Event.Sets at v e) next)
 assign-matches frame left from at v e next rest lands = simple-matches frame left from (Event.Sets at v e) next (Item.Assign v e) rest refl lands
     (λ values after standing h. (record { inputs = []; happen = (refl, h.0); leads = refl }, h.1)) (λ values after g. (g.happen.1, refl))
 
+-- the action of an assignment of any integer does what that does
 pub any-matches : (frame : Frame) (left : Lefts) (from : ℕ) (v : Variable) (next : ℕ) (rest : Items) → Lands left next (Standing.Doing rest)
     → Matches frame left (Items.Then (Item.AssignAny v) rest) (simple from (Event.SetsAny v) next)
 any-matches frame left from v next rest lands = simple-matches frame left from (Event.SetsAny v) next (Item.AssignAny v) rest refl lands
@@ -216,6 +223,7 @@ jump-matches frame left from to item rest behind e lands there back = record {
   ];
 }
 
+-- the action of a lock does what a lock does
 pub lock-matches : (frame : Frame) (left : Lefts) (from lock next : ℕ) (rest : Items) → Lands left next (Standing.Doing rest)
     → Matches frame left (Items.Then (Item.Lock lock) rest) (lock_action frame from lock next)
 lock-matches frame left from lock next rest lands = record {
@@ -228,6 +236,7 @@ lock-matches frame left from lock next rest lands = record {
   ];
 }
 
+-- the action of an unlock does what an unlock does
 pub unlock-matches : (frame : Frame) (left : Lefts) (from lock next : ℕ) (rest : Items) → Lands left next (Standing.Doing rest) → left 0 ≡ Some Standing.Failed
     → Matches frame left (Items.Then (Item.Unlock lock) rest) (unlock_action frame from lock next)
 unlock-matches frame left from lock next rest lands fails = record {
@@ -304,6 +313,7 @@ paths-taken frame values next (p ∷ ps) after to = (
         by true e = e
         by false e = e
 
+-- the action of an atomic block does what an atomic body does
 pub block-matches : (frame : Frame) (left : Lefts) (from : ℕ) (inner : Stmts) (next : ℕ) (rest : Items)
     → Lands left next (Standing.Doing rest) → left 0 ≡ Some Standing.Failed
     → Matches frame left (Items.Then (Item.Atomic (items Grain.Whole inner)) rest) (block_action from inner next)

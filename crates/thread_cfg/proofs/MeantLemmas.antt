@@ -34,29 +34,35 @@ seen_of-row w along row =
     or_false true = refl
     or_false false = refl
 
+-- what the code knows of what is known, or the same place
 abbrev seen_if : ℕ → Result Along ℕ → Result Seen ℕ
 seen_if w r = on_ok (λ along. Ok (seen_of w along)) r
 
+-- one row more, in the code as in the definition
 seen_if-row : (w from : ℕ) (along : Along) (o : Option Row)
     → on_ok (λ row. Ok (seen_with_row (seen_of w along) row)) (fits_or from o) ≡ seen_if w (on_ok (λ row. Ok (with_row along row)) (fits_or from o))
 seen_if-row w from along None = refl
 seen_if-row w from along (Some row) = ap Ok (seen_of-row w along row)
 
+-- one form more, in the code as in the definition
 seen_if-form : (w place c : ℕ) (along : Along) (o : Option Form)
     → on_ok (λ form. Ok (seen_with_form (seen_of w along) c form)) (fits_or place o) ≡ seen_if w (on_ok (λ form. Ok (with_form along c form)) (fits_or place o))
 seen_if-form w place c along None = refl
 seen_if-form w place c along (Some form) = refl
 
+-- the form that the code makes of an expression along events is that of the definition
 form_seen-meant : (w n : ℕ) (frame : Frame) (along : Along) (e : Expression) (a : Arithmetic) → Means e a
     → form_seen w n frame along.forms e ≡ form_along w n frame along a
 form_seen-meant w n frame along e a h = ap (option_and_then (λ form. fitting_composition w form along.forms)) (computed-meant n frame e a h)
 
+-- the row that the code makes of a relation along events is that of the definition
 row_seen-meant : (w n : ℕ) (frame : Frame) (along : Along) (r : Relation) (left right : Expression) (a b : Arithmetic) → Means left a → Means right b
     → row_seen w n frame along.forms r left right ≡ row_along w n frame along r a b
 row_seen-meant w n frame along r left right a b h k =
     ap₂ (λ one other. option_and_then (λ l. option_and_then (row_by w r l) other) one)
     (form_seen-meant w n frame along left a h) (form_seen-meant w n frame along right b k)
 
+-- what the code knows behind an event is what the definition does
 seen_after-meant : (w n : ℕ) (frame : Frame) (along : Along) (s : StoredEvent) (e : Event) → StandsFor s e
     → seen_after w n frame (seen_of w along) s ≡ seen_if w (after_event w n frame along e)
 seen_after-meant w n frame along (stored.Requires from r left right) (Event.Requires place q a b) h =
@@ -74,11 +80,13 @@ seen_after-meant w n frame along _ _ h = absurd h
 
 -- ---- all of them
 
+-- what goes on alike behind what is known goes on alike behind what fits
 behind-first : (w : ℕ) (first : Result Along ℕ) (f : Seen → Result Seen ℕ) (g : Along → Result Along ℕ) → ((more : Along) → f (seen_of w more) ≡ seen_if w (g more))
     → on_ok f (seen_if w first) ≡ seen_if w (on_ok g first)
 behind-first w (Err from) f g h = refl
 behind-first w (Ok more) f g h = h more
 
+-- what the code knows behind events is what the definition does
 pub seen_behind-meant : (w n : ℕ) (frame : Frame) (along : Along) (ss : List StoredEvent) (es : List Event) → StandFor ss es
     → seen_behind w n frame ss (seen_of w along) ≡ seen_if w (after_events w n frame along es)
 seen_behind-meant w n frame along [] [] h = refl
@@ -110,6 +118,7 @@ event_sets-meant frame c (stored.Sets place v value) (Event.Sets at u a) h = rw 
 event_sets-meant frame c (stored.SetsAny v) (Event.SetsAny u) h = rw h refl
 event_sets-meant frame c _ _ h = absurd h
 
+-- stored events set a column exactly where those that they stand for do
 pub some_sets-meant : (frame : Frame) (c : ℕ) (ss : List StoredEvent) (es : List Event) → StandFor ss es → some_sets frame ss c ≡ sets_column frame es c
 some_sets-meant frame c [] [] h = refl
 some_sets-meant frame c (s ∷ ss) (e ∷ es) h = ap₂ (λ a b. a || b) (event_sets-meant frame c s e h.0) (some_sets-meant frame c ss es h.1)
@@ -124,6 +133,7 @@ event-within n frame (stored.Sets place v value) (Event.Sets at u a) h within =
 event-within n frame (stored.SetsAny v) (Event.SetsAny u) h within = subst (λ x. column_of frame x < n) h within
 event-within n frame _ _ h within = absurd h
 
+-- stored events are within n where those that they stand for are
 pub events-within : (n : ℕ) (frame : Frame) (ss : List StoredEvent) (es : List Event) → StandFor ss es → EventsWithin n frame es
     → AllByRecursion (HeldEventWithin n frame) ss
 events-within n frame [] [] h within = tt

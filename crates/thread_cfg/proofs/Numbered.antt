@@ -11,14 +11,17 @@ abbrev pub Has : {X : Type 0} → List X → X → Type 0
 Has [] x = ⊥
 Has (y ∷ ys) x = (x ≡ y) ⊎ Has ys x
 
+-- what is in a joined list is in one of the two
 pub has-++ : {X : Type 0} → (xs ys : List X) (x : X) → Has (xs ++ ys) x → Has xs x ⊎ Has ys x
 has-++ [] ys x h = inr h
 has-++ (y ∷ xs) ys x h = elim h [ inl e ↦ inl (inl e) | inr h ↦ elim (has-++ xs ys x h) [ inl g ↦ inl (inr g) | inr g ↦ inr g ] ]
 
+-- what is in the first list is in the joined one
 pub has-front : {X : Type 0} → (xs ys : List X) (x : X) → Has xs x → Has (xs ++ ys) x
 has-front [] ys x h = absurd h
 has-front (y ∷ xs) ys x h = elim h [ inl e ↦ inl e | inr h ↦ inr (has-front xs ys x h) ]
 
+-- what is in the second list is in the joined one
 pub has-behind : {X : Type 0} → (xs ys : List X) (x : X) → Has ys x → Has (xs ++ ys) x
 has-behind [] ys x h = h
 has-behind (y ∷ xs) ys x h = inr (has-behind xs ys x h)
@@ -28,9 +31,11 @@ pub has-number : {X : Type 0} → (xs : List X) (x : X) → Has xs x → (e : �
 has-number [] x h = absurd h
 has-number (y ∷ xs) x h = elim h [ inl e ↦ (0, ap Some (sym e)) | inr h ↦ let n = has-number xs x h in (suc n.0, n.1) ]
 
+-- what two options hold is the same where they are
 pub some-same : {X : Type 0} → (x y : X) → Some x ≡ Some y → x ≡ y
 some-same x y e = ap (λ o. elim o as (λ _. _) [ None ↦ x | Some z ↦ z ]) e
 
+-- nothing is not something
 pub none-some : {X : Type 0} → (x : X) → ¬ (None ≡ Some x)
 none-some x e = subst (λ o. elim o as (λ _. Type 0) [ None ↦ Unit {0} | Some y ↦ ⊥ ]) e tt
 
@@ -48,11 +53,13 @@ pub record IsOf (columns : ℕ) (frame : Frame) (at : ℕ) (alternatives : List 
   pub is_there : Has alternatives alternative
   pub made : alternative_edge columns frame at alternative ≡ Ok (Some edge)
 
+-- an edge is made only where it is the one that is given
 made-has : (r : Result (Option Edge) ℕ) (edge : Edge) → Has (edge_made r) edge → r ≡ Ok (Some edge)
 made-has (Ok (Some made)) edge h = elim h [ inl e ↦ ap (λ x. Ok (Some x)) (sym e) | inr h ↦ absurd h ]
 made-has (Ok None) edge h = absurd h
 made-has (Err from) edge h = absurd h
 
+-- an edge of an action is that of one of its alternatives
 of-action : (columns : ℕ) (frame : Frame) (at : ℕ) (as' : List Alternative) (edge : Edge)
     → Has (flat_map (λ a. edge_made (alternative_edge columns frame at a)) as') edge → IsOf columns frame at as' edge
 of-action columns frame at [] edge h = absurd h
@@ -62,6 +69,7 @@ of-action columns frame at (a ∷ as') edge h =
       | inr g ↦ let more = of-action columns frame at as' edge g in record { alternative = more.alternative; is_there = inr more.is_there; made = more.made }
     ]
 
+-- the edge of an alternative is among those of its action
 action-has : (columns : ℕ) (frame : Frame) (at : ℕ) (as' : List Alternative) (a : Alternative) (edge : Edge) → Has as' a → alternative_edge columns frame at a ≡ Ok (Some edge)
     → Has (flat_map (λ a. edge_made (alternative_edge columns frame at a)) as') edge
 action-has columns frame at [] a edge h made = absurd h
@@ -82,6 +90,7 @@ pub record IsAt (columns : ℕ) (frame : Frame) (at : ℕ) (actions : List Actio
   pub action_is : slice_get actions l ≡ Some action
   pub is_of : IsOf columns frame (at + l) action.alternatives edge
 
+-- an edge of actions is that of an alternative of the action at its location
 pub edge-at : (columns : ℕ) (frame : Frame) (at : ℕ) (actions : List Action) (edge : Edge) → Has (edges_from columns frame at actions) edge → IsAt columns frame at actions edge
 edge-at columns frame at [] edge h = absurd h
 edge-at columns frame at (action ∷ actions) edge h =
@@ -91,6 +100,7 @@ edge-at columns frame at (action ∷ actions) edge h =
           record { l = suc more.l; action = more.action; action_is = more.action_is; is_of = subst (λ l. IsOf columns frame l more.action.alternatives edge) (omega arith) more.is_of }
     ]
 
+-- the edge of an alternative of the action at a location is among those of all actions
 pub at-edge : (columns : ℕ) (frame : Frame) (at : ℕ) (actions : List Action) (l : ℕ) (action : Action) (a : Alternative) (edge : Edge)
     → slice_get actions l ≡ Some action → Has action.alternatives a → alternative_edge columns frame (at + l) a ≡ Ok (Some edge) → Has (edges_from columns frame at actions) edge
 at-edge columns frame at [] l action a edge is has made = absurd (none-some action is)
@@ -104,13 +114,16 @@ at-edge columns frame at (b ∷ actions) (suc l) action a edge is has made =
 
 -- ---- nothing is refused
 
+-- a list with an element is not empty
 pub cons-empty : {X : Type 0} → (y : X) (ys : List X) → ¬ ((y ∷ ys) ≡ [])
 cons-empty y ys e = subst (λ l. elim l as (λ _. Type 0) [ [] ↦ ⊥ | z ∷ zs ↦ Unit {0} ]) e tt
 
+-- where a joined list is empty, so is the first
 pub empty-front : {X : Type 0} → (xs ys : List X) → xs ++ ys ≡ [] → xs ≡ []
 empty-front [] ys e = refl
 empty-front (x ∷ xs) ys e = absurd (cons-empty x (xs ++ ys) e)
 
+-- where a joined list is empty, so is the second
 pub empty-behind : {X : Type 0} → (xs ys : List X) → xs ++ ys ≡ [] → ys ≡ []
 empty-behind [] ys e = e
 empty-behind (x ∷ xs) ys e = absurd (cons-empty x (xs ++ ys) e)
@@ -120,10 +133,12 @@ pub record IsFit (columns : ℕ) (frame : Frame) (at : ℕ) (a : Alternative) : 
   pub made : Option Edge
   pub is_made : alternative_edge columns frame at a ≡ Ok made
 
+-- where nothing is refused, an edge or none is given
 unfit-none : (r : Result (Option Edge) ℕ) → unfit r ≡ [] → (made : Option Edge) × (r ≡ Ok made)
 unfit-none (Ok made) e = (made, refl)
 unfit-none (Err from) e = absurd (cons-empty _ _ e)
 
+-- where no alternative is refused, each gives an edge or none
 alternatives-fit : (columns : ℕ) (frame : Frame) (at : ℕ) (as' : List Alternative) (a : Alternative)
     → flat_map (λ a. unfit (alternative_edge columns frame at a)) as' ≡ [] → Has as' a → IsFit columns frame at a
 alternatives-fit columns frame at [] a e h = absurd h

@@ -6,6 +6,7 @@ use Rattle.thread_cfg.specs.Source.{Frame}
 use Rattle.thread_cfg.specs.Action.{Action, Around, actions, condition_actions, condition_size, entry, exit_of, size, stmt_actions, stmt_size, test_actions, test_size, thread_actions}
 use Rattle.thread_cfg.specs.inside.Parts.{Part, condition_parts, part_actions, part_size, parts, parts_actions, parts_size, stmt_parts, test_parts}
 
+-- joined parts have the sizes of both
 parts_size-append : (ps qs : List Part) → parts_size (ps ++ qs) ≡ parts_size ps + parts_size qs
 parts_size-append [] qs = omega arith
 parts_size-append (p ∷ ps) qs = omega (arith, parts_size-append ps qs)
@@ -29,6 +30,7 @@ parts_actions-behind frame temporary at n ps qs first then e f t =
 
 -- ---- sizes
 
+-- the parts of a test have its size
 test_parts-size : (t : Test) (at : ℕ) (on_true on_false : Option ℕ) → parts_size (test_parts at on_true on_false t) ≡ test_size t
 test_parts-size (Test.Compare from m a b) at x y = omega arith
 test_parts-size (Test.Not u) at x y = test_parts-size u at y x
@@ -39,11 +41,13 @@ test_parts-size (Test.Or u v) at x y =
     parts_size-append (test_parts at x (Some (at + test_size u)) u) (test_parts (at + test_size u) x y v)
     ∙ omega (arith, test_parts-size u at x (Some (at + test_size u)), test_parts-size v (at + test_size u) x y)
 
+-- the parts of a condition have its size
 condition_parts-size : (c : Condition) (at t f : ℕ) → parts_size (condition_parts at t f c) ≡ condition_size c
 condition_parts-size (Condition.Choice from) at t f = omega arith
 condition_parts-size (Condition.Tested from test) at t f = test_parts-size test at (Some t) (Some f)
 
 mutual
+  -- the parts of a statement have its size
   stmt_parts-size : (s : Stmt) (exit out at next : ℕ) → parts_size (stmt_parts exit out at next s) ≡ stmt_size s
   stmt_parts-size (Stmt.Assign from place v e) exit out at next = omega arith
   stmt_parts-size (Stmt.AssignAny from v) exit out at next = omega arith
@@ -78,6 +82,7 @@ mutual
   stmt_parts-size (Stmt.Assume from t) exit out at next = test_parts-size t at (Some next) None
   stmt_parts-size (Stmt.Atomic from inner) exit out at next = omega arith
 
+  -- the parts of statements have their size
   pub parts-size : (ss : Stmts) (exit out at next : ℕ) → parts_size (parts exit out at next ss) ≡ size ss
   parts-size Stmts.End exit out at next = refl
   parts-size (Stmts.Then s rest) exit out at next =
@@ -91,6 +96,7 @@ mutual
 parts_actions-one : (frame : Frame) (temporary at : ℕ) (p : Part) → part_actions frame temporary at p ≡ parts_actions frame temporary at (p ∷ [])
 parts_actions-one frame temporary at p = sym (append-nil (part_actions frame temporary at p))
 
+-- the actions of a test are those of its parts
 test_actions-parts : (t : Test) (frame : Frame) (temporary at : ℕ) (on_true on_false : Option ℕ)
     → test_actions temporary at on_true on_false t ≡ parts_actions frame temporary at (test_parts at on_true on_false t)
 test_actions-parts (Test.Compare from m a b) frame temporary at x y = parts_actions-one frame temporary at (Part.Compare from m a b x y)
@@ -104,12 +110,14 @@ test_actions-parts (Test.Or u v) frame temporary at x y =
     parts_actions-behind frame temporary at (test_size u) (test_parts at x (Some k) u) (test_parts k x y v) _ _ (test_parts-size u at x (Some k))
     (test_actions-parts u frame temporary at x (Some k)) (test_actions-parts v frame temporary k x y)
 
+-- the actions of a condition are those of its parts
 condition_actions-parts : (c : Condition) (frame : Frame) (temporary at t f : ℕ)
     → condition_actions temporary at t f c ≡ parts_actions frame temporary at (condition_parts at t f c)
 condition_actions-parts (Condition.Choice from) frame temporary at t f = parts_actions-one frame temporary at (Part.Choice from t f)
 condition_actions-parts (Condition.Tested from test) frame temporary at t f = test_actions-parts test frame temporary at (Some t) (Some f)
 
 mutual
+  -- the actions of a statement are those of its parts
   stmt_actions-parts : (s : Stmt) (around : Around) (at next : ℕ)
       → stmt_actions around at next s ≡ parts_actions around.frame around.temporary at (stmt_parts around.exit around.out at next s)
   stmt_actions-parts (Stmt.Assign from place v e) around at next = parts_actions-one around.frame around.temporary at (Part.Assign from place v e next)
@@ -142,6 +150,7 @@ mutual
   stmt_actions-parts (Stmt.Assume from t) around at next = test_actions-parts t around.frame around.temporary at (Some next) None
   stmt_actions-parts (Stmt.Atomic from inner) around at next = refl
 
+  -- the actions of statements are those of their parts
   actions-parts : (ss : Stmts) (around : Around) (at next : ℕ)
       → actions around at next ss ≡ parts_actions around.frame around.temporary at (parts around.exit around.out at next ss)
   actions-parts Stmts.End around at next = refl

@@ -16,6 +16,7 @@ use Rattle.thread_cfg.proofs.SizeLemmas.{assignment_size-postfix, comparison_siz
 
 -- ---- tests
 
+-- joined operations are gone through from the last one on
 tested_all-append : (xs ys : List TestOperation) (s : Testing) → tested_all (xs ++ ys) s ≡ tested_all xs (tested_all ys s)
 tested_all-append [] ys s = refl
 tested_all-append (x ∷ xs) ys s = ap (tested x) (tested_all-append xs ys s)
@@ -25,9 +26,11 @@ settled-target : (at : ℕ) (o : Option ℕ) → settled at (target o) ≡ o
 settled-target at None = refl
 settled-target at (Some l) = refl
 
+-- the two sides of a test
 abbrev sides_of : Target → Target → Sides
 sides_of t f = record { on_true = t; on_false = f }
 
+-- what is known behind an operation
 abbrev testing : ℕ → List Sides → List Written → Testing
 testing at sides ps = record { at = at; sides = sides; parts = ps }
 
@@ -87,6 +90,7 @@ tested-postfix (Test.Or u v) at t f more ps =
 
 -- ---- instructions
 
+-- joined instructions are gone through from the last one on
 passed_all-append : (exit : ℕ) (xs ys : List Instruction) (s : Passed) → passed_all exit (xs ++ ys) s ≡ passed_all exit xs (passed_all exit ys s)
 passed_all-append exit [] ys s = refl
 passed_all-append exit (x ∷ xs) ys s = ap (passed exit x) (passed_all-append exit xs ys s)
@@ -121,6 +125,7 @@ with_condition-stored at next out opened loops ps t f (Condition.Tested from tes
 
 -- Within an atomic block the instructions are put together.
 mutual
+  -- a statement in an atomic block is passed
   stmt-deep : (s : Stmt) (exit at next out : ℕ) (opened : List Opened) (loops : List ℕ) (ps : List Written) (more : ℕ) (block : List Instruction)
       → passed_all exit (stmt_code s) (deep at next out opened loops ps (suc more) block) ≡ deep at next out opened loops ps (suc more) (stmt_code s ++ block)
   stmt-deep (Stmt.Assign from place v e) exit at next out opened loops ps more block = refl
@@ -162,6 +167,7 @@ mutual
       ∙ deep-stmts inner exit at next out opened loops ps (suc more) (instruction.EndAtomic ∷ block))
       ∙ ap (λ l. deep at next out opened loops ps (suc more) (first ∷ l)) (sym (append_assoc (code inner) (instruction.EndAtomic ∷ []) block))
 
+  -- statements in an atomic block are passed
   deep-stmts : (ss : Stmts) (exit at next out : ℕ) (opened : List Opened) (loops : List ℕ) (ps : List Written) (more : ℕ) (block : List Instruction)
       → passed_all exit (code ss) (deep at next out opened loops ps (suc more) block) ≡ deep at next out opened loops ps (suc more) (code ss ++ block)
   deep-stmts Stmts.End exit at next out opened loops ps more block = refl
@@ -177,6 +183,7 @@ one-passed : (at out : ℕ) (opened : List Opened) (loops : List ℕ) (ps : List
 one-passed at out opened loops ps = ap (λ x. pass x x out opened loops ps) (omega arith)
 
 mutual
+  -- the pass over a statement gives its parts
   stmt-passed : (s : Stmt) (exit at next out : ℕ) (opened : List Opened) (loops : List ℕ) (ps : List Written)
       → passed_all exit (stmt_code s) (pass (at + stmt_size s) next out opened (stmt_loops at s ++ loops) ps)
       ≡ pass at at out opened loops (map written (stmt_parts exit out at next s) ++ ps)
@@ -239,6 +246,7 @@ mutual
       ∙ ap (λ l. pass (at + 1 - 1) (at + 1 - 1) out opened loops (Written.Block from l next ∷ ps)) (append-nil (code inner))
       ∙ one-passed at out opened loops _
 
+  -- the pass over statements gives their parts
   stmts-passed : (ss : Stmts) (exit at next out : ℕ) (opened : List Opened) (loops : List ℕ) (ps : List Written)
       → passed_all exit (code ss) (pass (at + size ss) next out opened (loops_of at ss ++ loops) ps)
       ≡ pass at (entry ss at next) out opened loops (map written (parts exit out at next ss) ++ ps)

@@ -55,6 +55,7 @@ passed_inside-other more (instruction.Atomic from) s first last = absurd (first 
 passed_inside-other more instruction.EndAtomic s first last = absurd (last refl)
 passed_inside-other more _ s first last = refl
 
+-- inside a block, an instruction that neither begins nor ends one is passed
 pub inside-other : (old : Pass) (code : List Instruction) (index : ℕ) (d : Instruction) (more : ℕ) → index < old.end → index < length code
     → ((from : ℕ) → get_or code index d ≡ instruction.Atomic from → ⊥) → (get_or code index d ≡ instruction.EndAtomic → ⊥) → old.depth ≡ suc more
     → passed_at old code index ≡ passed_inside more (get_or code index d) (passed_at old code (index + 1))

@@ -9,6 +9,7 @@ use Rattle.thread_cfg.specs.Picks.{Pick, PickedPath, PicksDiffer, begun_picked, 
 
 -- ---- what is in a list
 
+-- The element is in the list.
 abbrev pub IsIn : {X : Type 0} → List X → X → Type 0
 IsIn [] x = ⊥
 IsIn (y ∷ ys) x = (y ≡ x) ⊎ IsIn ys x
@@ -19,9 +20,11 @@ in-at [] x k below e = absurd (omega arith)
 in-at (y ∷ ys) x zero below e = inl e
 in-at (y ∷ ys) x (suc k) below e = inr (in-at ys x k (omega arith) e)
 
+-- what a list contains is in it
 pub in-Contains : {X : Type 0} (xs : List X) (x : X) → Contains xs x → IsIn xs x
 in-Contains xs x h = in-at xs x h.0 h.1 h.2
 
+-- what is in a list it contains
 pub Contains-in : {X : Type 0} (xs : List X) (x : X) → IsIn xs x → Contains xs x
 Contains-in [] x h = absurd h
 Contains-in (y ∷ ys) x h = elim h [
@@ -56,6 +59,7 @@ apart-++ (p ∷ ps) qs a b differ = (
 
 -- what is picked behind one pick
 module _ (pick : Pick) (f : PickedPath → PickedPath) (adds : (p : PickedPath) → (f p).picks ≡ pick ∷ p.picks) where
+  -- what is picked begins with what is put in front
   picked-adds : (ps : List PickedPath) (picks : List Pick) → IsPicked (map f ps) picks → (left : List Pick) × (picks ≡ pick ∷ left) × IsPicked ps left
   picked-adds [] picks h = absurd h
   picked-adds (p ∷ ps) picks h = elim h [
@@ -63,6 +67,7 @@ module _ (pick : Pick) (f : PickedPath → PickedPath) (adds : (p : PickedPath) 
     | inr more ↦ let m = picked-adds ps picks more in (m.0, m.1, inr m.2)
   ]
 
+  -- the same pick in front of paths that pick differently leaves them so
   apart-adds : (ps : List PickedPath) → AreApart ps → AreApart (map f ps)
   apart-adds [] a = tt
   apart-adds (p ∷ ps) a = (
@@ -75,6 +80,7 @@ picked-begun : (event : Event) (ps : List PickedPath) (picks : List Pick) → Is
 picked-begun event [] picks h = h
 picked-begun event (p ∷ ps) picks h = elim h [ inl e ↦ inl e | inr more ↦ inr (picked-begun event ps picks more) ]
 
+-- an event in front of paths that pick differently leaves them so
 apart-begun : (event : Event) (ps : List PickedPath) → AreApart ps → AreApart (map (begun_picked event) ps)
 apart-begun event [] a = tt
 apart-begun event (p ∷ ps) a = (λ h. a.0 (picked-begun event ps p.picks h), apart-begun event ps a.1)
@@ -113,6 +119,7 @@ module _ (from : ℕ) (a b : Arithmetic) where
     | inr g ↦ let m = picked-relations rs ps picks g in (m.0, m.1, m.2, inr m.3)
   ]
 
+  -- relations that differ in front of paths that pick differently leave them so
   apart-relations : (rs : List Relation) (ps : List PickedPath) → AreSeparate rs → AreApart ps → AreApart (relations_picked from a b rs ps)
   apart-relations [] ps s apart = tt
   apart-relations (r ∷ rs) ps s apart =
@@ -123,6 +130,7 @@ module _ (from : ℕ) (a b : Arithmetic) where
       let there = picked-relations rs ps picks g in
       let same : there.0 ≡ r = cc in s.0 (rw same at there.3))
 
+  -- the paths of a comparison pick differently, where those of each side do
   apart-compare : (m : Mark) (ts fs : List PickedPath) → AreApart ts → AreApart fs
       → AreApart (relations_picked from a b (when_true m) ts ++ relations_picked from a b (when_false m) fs)
   apart-compare m ts fs at af =
@@ -136,12 +144,14 @@ module _ (from : ℕ) (a b : Arithmetic) where
 
 -- ---- statements
 
+-- the paths of a test pick differently, where those of each side do
 apart-test : (test : Test) (ts fs : List PickedPath) → AreApart ts → AreApart fs → AreApart (test_picked test ts fs)
 apart-test (Test.Compare from m a b) ts fs at af = apart-compare from a b m ts fs at af
 apart-test (Test.Not t) ts fs at af = apart-test t fs ts af at
 apart-test (Test.And t u) ts fs at af = apart-test t (test_picked u ts fs) fs (apart-test u ts fs at af) af
 apart-test (Test.Or t u) ts fs at af = apart-test t ts (test_picked u ts fs) at (apart-test u ts fs at af)
 
+-- the paths of a condition pick differently, where those of each side do
 apart-condition : (c : Condition) (ts fs : List PickedPath) → AreApart ts → AreApart fs → AreApart (condition_picked c ts fs)
 apart-condition (Condition.Tested from t) ts fs at af = apart-test t ts fs at af
 apart-condition (Condition.Choice from) ts fs at af =
@@ -152,6 +162,7 @@ apart-condition (Condition.Choice from) ts fs at af =
     let there = picked-adds (Pick.Went false) (went false) (λ p. refl) fs picks g in cc)
 
 mutual
+  -- the paths of a statement pick differently, where those behind it do
   apart-stmt : (s : Stmt) (more : List PickedPath) → AreApart more → AreApart (stmt_picked s more)
   apart-stmt (Stmt.Assign from place v e) more h = apart-begun (Event.Sets place v e) more h
   apart-stmt (Stmt.AssignAny from v) more h = apart-begun (Event.SetsAny v) more h
@@ -165,6 +176,7 @@ mutual
   apart-stmt (Stmt.Assume from t) more h = apart-test t more [] h tt
   apart-stmt (Stmt.Atomic from inner) more h = tt
 
+  -- the paths of statements pick differently, where those behind them do
   apart-stmts : (ss : Stmts) (more : List PickedPath) → AreApart more → AreApart (stmts_picked ss more)
   apart-stmts Stmts.End more h = h
   apart-stmts (Stmts.Then s rest) more h = apart-stmt s (stmts_picked rest more) (apart-stmts rest more h)
@@ -181,6 +193,7 @@ picked-at [] k d below = absurd (omega arith)
 picked-at (p ∷ ps) zero d below = inl refl
 picked-at (p ∷ ps) (suc k) d below = inr (picked-at ps k d (omega arith))
 
+-- where paths pick differently, no two at different places pick the same
 apart-pairs : (ps : List PickedPath) → AreApart ps → AllPairs (λ p q. ¬ (p.picks ≡ q.picks)) ps
 apart-pairs [] apart i j d below within = absurd (omega arith)
 apart-pairs (p ∷ ps) apart i zero d below within = absurd (omega arith)

@@ -77,6 +77,7 @@ abbrev AreOfSide : Frame → List PickedPath → Side → List PickedPath → Ty
 AreOfSide frame ps side more = (values : List ℤ) (picks : List Pick) (inputs after : List ℤ) (end : WayEnd)
     → SomeGone frame values ps picks inputs after end ↔ SideFollows frame values side more picks inputs after end
 
+-- The paths are those of the items, with more behind them.
 abbrev pub AreOf : Frame → List PickedPath → Items → List PickedPath → Type 0
 AreOf frame ps is more = (values : List ℤ) (picks : List Pick) (inputs after : List ℤ) (end : WayEnd)
     → SomeGone frame values ps picks inputs after end ↔ Follows frame values is more picks inputs after end
@@ -128,12 +129,14 @@ some-holds : (rs : List Relation) (r : Relation) (x y : ℤ) → IsIn rs r → H
 some-holds [] r x y h holds = h
 some-holds (q ∷ rs) r x y h holds = elim h [ inl e ↦ inl (rw e holds) | inr more ↦ inr (some-holds rs r x y more holds) ]
 
+-- the item that asks a comparison
 abbrev compared_item : Mark → Arithmetic → Arithmetic → Side → Side → Item
 compared_item m a b t f = Item.Branch (Some (record { mark = m; left = a; right = b })) t f
 
 -- a comparison of which a relation is taken
 module _ (frame : Frame) (from : ℕ) (m : Mark) (a b : Arithmetic) (ts fs more : List PickedPath) (t f : Side)
     (ht : AreOfSide frame ts t more) (hf : AreOfSide frame fs f more) where
+  -- a way takes a relation and goes on exactly where one of the paths that pick it is gone
   relation-follow : (values : List ℤ) (r : Relation) (left : List Pick) (inputs after : List ℤ) (end : WayEnd)
       (c : Bool) → compared m (value frame values a) (value frame values b) ≡ c
       → SomeGone frame values (relations_picked from a b (when_true m) ts ++ relations_picked from a b (when_false m) fs) (Pick.Took r ∷ left) inputs after end
@@ -167,6 +170,7 @@ module _ (frame : Frame) (from : ℕ) (m : Mark) (a b : Arithmetic) (ts fs more 
         λ w. let s = follow.0 w in parts.1 (inr (falses.1 (in-Contains (when_false m) r s.0.1, s.0.0, (hf values left inputs after end).1 s.1))),
       )
 
+  -- the paths of a comparison are those through its branch
   compare-follow : AreOf frame (test_picked (Test.Compare from m a b) ts fs) (branch (test_guard Grain.Whole (Test.Compare from m a b)) t f) more
   compare-follow values [] inputs after end = (
     λ h. absurd (elim ((gone-++ frame values (relations_picked from a b (when_true m) ts) (relations_picked from a b (when_false m) fs) [] inputs after end).0 h) [
@@ -235,6 +239,7 @@ choice-follow frame ts fs more t f ht hf values (Pick.Went false ∷ left) input
       λ w. parts.1 (inr ((gone-went frame values false fs (Pick.Went false ∷ left) inputs after end).1 (left, refl, (hf values left inputs after end).1 (follow.0 w).1))),
     )
 
+-- the paths of a condition are those through its branch
 condition-follow : (frame : Frame) (condition : Condition) (ts fs more : List PickedPath) (t f : Side)
     → AreOfSide frame ts t more → AreOfSide frame fs f more → AreOf frame (condition_picked condition ts fs) (branch (guard Grain.Whole condition) t f) more
 condition-follow frame (Condition.Tested from test) ts fs more t f ht hf = test-follow frame test ts fs more t f ht hf
@@ -301,6 +306,7 @@ any-follow frame v more values picks (k ∷ inputs) after end =
     (λ h. follow.0 (sets.0 h), λ w. sets.1 (follow.1 w))
 
 mutual
+  -- the paths of a statement are those through its items
   stmt-follow : (frame : Frame) (s : Stmt) (more : List PickedPath) → AreOf frame (stmt_picked s more) (stmt_items Grain.Whole s) more
   stmt-follow frame (Stmt.Assign from place v e) more = assign-follow frame place v e more
   stmt-follow frame (Stmt.AssignAny from v) more = any-follow frame v more
@@ -319,6 +325,7 @@ mutual
       test-follow frame t more [] more (Side.Goes Items.End) Side.Nowhere (empty-side frame more) (nowhere-side frame more)
   stmt-follow frame (Stmt.Atomic from inner) more = none-follow frame (Item.Atomic (items Grain.Whole inner)) more (λ values picks inputs l e h. h)
 
+  -- the paths of statements are those through their items
   pub stmts-follow : (frame : Frame) (ss : Stmts) (more : List PickedPath) → AreOf frame (stmts_picked ss more) (items Grain.Whole ss) more
   stmts-follow frame Stmts.End more values picks inputs after end = empty-side frame more values picks inputs after end
   stmts-follow frame (Stmts.Then s rest) more values picks inputs after end =

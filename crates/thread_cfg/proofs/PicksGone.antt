@@ -15,6 +15,7 @@ pub record IsGone (frame : Frame) (values : List ℤ) (p : PickedPath) (picks : 
   pub happen : Happen frame values p.path.events inputs after
   pub ends : end ≡ end_of p.path
 
+-- One of the paths picks this, and is gone with just these inputs.
 abbrev pub SomeGone : Frame → List ℤ → List PickedPath → List Pick → List ℤ → List ℤ → WayEnd → Type 0
 SomeGone frame values [] picks inputs after end = ⊥
 SomeGone frame values (p ∷ ps) picks inputs after end = IsGone frame values p picks inputs after end ⊎ SomeGone frame values ps picks inputs after end
@@ -99,6 +100,7 @@ module _ (frame : Frame) (values : List ℤ) (from : ℕ) (a b : Arithmetic) whe
       (r : Relation) × (left : List Pick) × (picks ≡ Pick.Took r ∷ left) × IsIn rs r × Holds r (value frame values a) (value frame values b)
       × SomeGone frame values ps left inputs after end
 
+  -- of paths behind relations one is gone where it is one behind a relation that holds
   gone-relations : (rs : List Relation) (ps : List PickedPath) (picks : List Pick) (inputs after : List ℤ) (end : WayEnd)
       → SomeGone frame values (relations_picked from a b rs ps) picks inputs after end ↔ OneTook rs ps picks inputs after end
   gone-relations [] ps picks inputs after end = (λ h. absurd h, λ h. h.3)
@@ -121,10 +123,12 @@ module _ (frame : Frame) (values : List ℤ) (from : ℕ) (a b : Arithmetic) whe
       → ¬ SomeGone frame values (relations_picked from a b rs ps) [] inputs after end
   gone-nothing rs ps inputs after end h = let m = (gone-relations rs ps [] inputs after end).0 h in let e = m.2 in cc
 
+  -- behind relations no path is gone that picks a side first
   pub gone-side : (rs : List Relation) (ps : List PickedPath) (side : Bool) (left : List Pick) (inputs after : List ℤ) (end : WayEnd)
       → ¬ SomeGone frame values (relations_picked from a b rs ps) (Pick.Went side ∷ left) inputs after end
   gone-side rs ps side left inputs after end h = let m = (gone-relations rs ps (Pick.Went side ∷ left) inputs after end).0 h in let e = m.2 in cc
 
+  -- behind relations a path is gone that picks one of them first, where that holds and one of the paths goes on
   pub gone-relation : (rs : List Relation) (ps : List PickedPath) (r : Relation) (left : List Pick) (inputs after : List ℤ) (end : WayEnd)
       → SomeGone frame values (relations_picked from a b rs ps) (Pick.Took r ∷ left) inputs after end
       ↔ (IsIn rs r × Holds r (value frame values a) (value frame values b) × SomeGone frame values ps left inputs after end)

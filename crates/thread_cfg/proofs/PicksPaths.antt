@@ -6,6 +6,7 @@ use Rattle.thread_cfg.specs.declared.relation.Relation.{Relation}
 use Rattle.thread_cfg.specs.Path.{Event, Path, begun, picked, test_paths, condition_paths, stmt_paths, paths, when_true, when_false}
 use Rattle.thread_cfg.specs.Picks.{PickedPath, PickedPathsAreThePaths, begun_picked, condition_picked, ended_picked, relations_picked, stmt_picked, stmts_picked, test_picked, took, went}
 
+-- the paths, without what they pick
 abbrev paths_of : List PickedPath → List Path
 paths_of ps = map (λ p. p.path) ps
 
@@ -20,6 +21,7 @@ map-went : (side : Bool) (ps : List PickedPath) → paths_of (map (went side) ps
 map-went side [] = refl
 map-went side (p ∷ ps) = rw (map-went side ps)
 
+-- the paths that pick relations, without what they pick
 map-relations : (from : ℕ) (a b : Arithmetic) (rs : List Relation) (ps : List PickedPath)
     → paths_of (relations_picked from a b rs ps) ≡ picked from a b rs (paths_of ps)
 map-relations from a b [] ps = refl
@@ -30,6 +32,7 @@ map-relations from a b (r ∷ rs) ps =
       map-relations from a b rs ps,
     )
 
+-- the paths of a test, without what they pick
 map-test : (test : Test) (ts fs : List PickedPath) → paths_of (test_picked test ts fs) ≡ test_paths test (paths_of ts) (paths_of fs)
 map-test (Test.Compare from m a b) ts fs =
     rw (
@@ -41,12 +44,14 @@ map-test (Test.Not t) ts fs = map-test t fs ts
 map-test (Test.And t u) ts fs = map-test t (test_picked u ts fs) fs ∙ ap (λ ps. test_paths t ps (paths_of fs)) (map-test u ts fs)
 map-test (Test.Or t u) ts fs = map-test t ts (test_picked u ts fs) ∙ ap (λ ps. test_paths t (paths_of ts) ps) (map-test u ts fs)
 
+-- the paths of a condition, without what they pick
 map-condition : (c : Condition) (ts fs : List PickedPath) → paths_of (condition_picked c ts fs) ≡ condition_paths c (paths_of ts) (paths_of fs)
 map-condition (Condition.Tested from t) ts fs = map-test t ts fs
 map-condition (Condition.Choice from) ts fs =
     rw (map-append (λ (p : PickedPath). p.path) (map (went true) ts) (map (went false) fs), map-went true ts, map-went false fs)
 
 mutual
+  -- the paths of a statement, without what they pick
   map-stmt : (s : Stmt) (more : List PickedPath) → paths_of (stmt_picked s more) ≡ stmt_paths s (paths_of more)
   map-stmt (Stmt.Assign from at v e) more = map-begun (begun_picked (Event.Sets at v e)) (Event.Sets at v e) (λ p. refl) more
   map-stmt (Stmt.AssignAny from v) more = map-begun (begun_picked (Event.SetsAny v)) (Event.SetsAny v) (λ p. refl) more
@@ -61,6 +66,7 @@ mutual
   map-stmt (Stmt.Assume from t) more = map-test t more []
   map-stmt (Stmt.Atomic from inner) more = refl
 
+  -- the paths of statements, without what they pick
   map-stmts : (ss : Stmts) (more : List PickedPath) → paths_of (stmts_picked ss more) ≡ paths ss (paths_of more)
   map-stmts Stmts.End more = refl
   map-stmts (Stmts.Then s rest) more = map-stmt s (stmts_picked rest more) ∙ ap (λ ps. stmt_paths s ps) (map-stmts rest more)

@@ -14,12 +14,14 @@ pub match-maps : (b : Bool) (P Q R S : Type 0) → (P → R) → (Q → S) → M
 match-maps true P Q R S f g h = f h
 match-maps false P Q R S f g h = g h
 
+-- where a way stands
 abbrev pub at : List ℤ → List Pick → List ℤ → Course
 at values picks inputs = record { values = values; picks = picks; inputs = inputs }
 
 -- ---- what takes something is a way
 
 mutual
+  -- what takes something through items is a way through them
   way-taken : (frame : Frame) (values : List ℤ) (is : Items) (picks : List Pick) (inputs : List ℤ) (after : Course) (end : WayEnd)
       → Takes frame values is picks inputs after end → IsWay frame values is after.values end
   way-taken frame values Items.End picks inputs after end h = (ap (λ (c : Course). c.values) h.0, h.1)
@@ -28,6 +30,7 @@ mutual
     | inr w ↦ inr (item-taken frame values item picks inputs after WayEnd.Fails w.0, w.1)
   ]
 
+  -- what takes something through an item is a way through it
   item-taken : (frame : Frame) (values : List ℤ) (item : Item) (picks : List Pick) (inputs : List ℤ) (after : Course) (end : WayEnd)
       → TakesItem frame values item picks inputs after end → IsItemWay frame values item after.values end
   item-taken frame values (Item.Read t v) picks inputs after end h = (ap (λ (c : Course). c.values) h.0, h.1)
@@ -53,6 +56,7 @@ mutual
   item-taken frame values Item.Exit picks inputs after end h = absurd h
   item-taken frame values (Item.Atomic inner) picks inputs after end h = absurd h
 
+  -- what takes something through a side is a way through it
   side-taken : (frame : Frame) (values : List ℤ) (side : Side) (picks : List Pick) (inputs : List ℤ) (after : Course) (end : WayEnd)
       → TakesSide frame values side picks inputs after end → IsSideWay frame values side after.values end
   side-taken frame values (Side.Goes is) picks inputs after end h = way-taken frame values is picks inputs after end h
@@ -87,6 +91,7 @@ branch-takable frame values c t f after end false is h =
     (Pick.Took one.0 ∷ h.0, h.1, λ more others. (one.2, rw is (one.1, h.2 more others)))
 
 mutual
+  -- a way through items takes something
   way-takable : (frame : Frame) (values : List ℤ) (is : Items) (after : List ℤ) (end : WayEnd)
       → IsWay frame values is after end → IsTakable (λ picks inputs l. Takes frame values is picks inputs l end) after
   way-takable frame values Items.End after end h = ([], [], λ more others. (ap (λ l. at l more others) h.0, h.1))
@@ -106,6 +111,7 @@ mutual
     | inr w ↦ let first = item-takable frame values item after WayEnd.Fails w.0 in (first.0, first.1, λ more others. inr (first.2 more others, w.1))
   ]
 
+  -- a way through an item takes something
   item-takable : (frame : Frame) (values : List ℤ) (item : Item) (after : List ℤ) (end : WayEnd)
       → IsItemWay frame values item after end → IsTakable (λ picks inputs l. TakesItem frame values item picks inputs l end) after
   item-takable frame values (Item.Read t v) after end h = ([], [], λ more others. (ap (λ l. at l more others) h.0, h.1))
@@ -128,6 +134,7 @@ mutual
   item-takable frame values Item.Exit after end h = absurd h
   item-takable frame values (Item.Atomic inner) after end h = absurd h
 
+  -- a way through a side takes something
   side-takable : (frame : Frame) (values : List ℤ) (side : Side) (after : List ℤ) (end : WayEnd)
       → IsSideWay frame values side after end → IsTakable (λ picks inputs l. TakesSide frame values side picks inputs l end) after
   side-takable frame values (Side.Goes is) after end h = way-takable frame values is after end h

@@ -20,6 +20,7 @@ use Rattle.thread_cfg.proofs.SizeLemmas.{assignment_size-postfix, comparison_siz
 
 -- ---- of parts
 
+-- the place of a part
 abbrev part_place : Part → ℕ
 part_place (Part.Assign from at v e next) = from
 part_place (Part.AssignAny from v next) = from
@@ -30,15 +31,19 @@ part_place (Part.Lock from lock next) = from
 part_place (Part.Unlock from lock next) = from
 part_place (Part.Block from inner next) = from
 
+-- the place of a part for each of its locations
 abbrev part_places : Part → List ℕ
 part_places p = replicate (part_size p) (part_place p)
 
+-- the places of parts for their locations
 abbrev parts_places : List Part → List ℕ
 parts_places ps = flat_map part_places ps
 
+-- the place of an action
 abbrev place : Action → ℕ
 place a = a.from
 
+-- joined parts have the places of both
 parts_places-append : (ps qs : List Part) → parts_places (ps ++ qs) ≡ parts_places ps ++ parts_places qs
 parts_places-append [] qs = refl
 parts_places-append (p ∷ ps) qs = ap (λ l. part_places p ++ l) (parts_places-append ps qs) ∙ sym (append_assoc (part_places p) (parts_places ps) (parts_places qs))
@@ -48,6 +53,7 @@ places-reads : (from at : ℕ) (rs : List (Variable × Variable)) → map place 
 places-reads from at [] = refl
 places-reads from at (r ∷ rs) = ap (λ l. from ∷ l) (places-reads from (at + 1) rs)
 
+-- reads and the action behind them stand at one place
 places-behind_reads : (from at n : ℕ) (rs : List (Variable × Variable)) (a : Action) → a.from ≡ from → length rs + 1 ≡ n
     → map place (read_actions from rs at ++ a ∷ []) ≡ replicate n from
 places-behind_reads from at n rs a e h =
@@ -56,6 +62,7 @@ places-behind_reads from at n rs a e h =
     ∙ replicate_more (length rs) from
     ∙ ap (λ k. replicate k from) h
 
+-- the actions of a part stand at its places
 places-part : (frame : Frame) (t at : ℕ) (p : Part) → map place (part_actions frame t at p) ≡ part_places p
 places-part frame t at (Part.Assign from spot v e next) =
     places-behind_reads from at _ (assign_reads t v e) _ refl
@@ -71,6 +78,7 @@ places-part frame t at (Part.Lock from lock next) = refl
 places-part frame t at (Part.Unlock from lock next) = refl
 places-part frame t at (Part.Block from inner next) = refl
 
+-- the actions of parts stand at their places
 places-parts : (frame : Frame) (t at : ℕ) (ps : List Part) → map place (parts_actions frame t at ps) ≡ parts_places ps
 places-parts frame t at [] = refl
 places-parts frame t at (p ∷ ps) =
@@ -79,6 +87,7 @@ places-parts frame t at (p ∷ ps) =
 
 -- ---- of tests
 
+-- joined operations have the places of both
 test_places-append : (xs ys : List TestOperation) → test_places (xs ++ ys) ≡ test_places xs ++ test_places ys
 test_places-append [] ys = refl
 test_places-append (x ∷ xs) ys = ap (λ l. places_of x ++ l) (test_places-append xs ys) ∙ sym (append_assoc (places_of x) (test_places xs) (test_places ys))
@@ -94,6 +103,7 @@ places-two xs ys o ps qs none e f =
     ∙ ap₂ (λ x y. x ++ y) e f
     ∙ sym (parts_places-append ps qs)
 
+-- the operations of a test have the places of its parts
 places-test : (test : Test) (at : ℕ) (t f : Option ℕ) → test_places (test_postfix test) ≡ parts_places (test_parts at t f test)
 places-test (Test.Compare from m a b) at t f = ap (λ n. replicate n from ++ []) (comparison_size-postfix from m a b)
 places-test (Test.Not u) at t f =
@@ -105,6 +115,7 @@ places-test (Test.Or u v) at t f =
     let k = at + test_size u in
     places-two (test_postfix u) (test_postfix v) test_operation.Or (test_parts at t (Some k) u) (test_parts k t f v) refl (places-test u at t (Some k)) (places-test v k t f)
 
+-- a condition of a plan has the places of its parts
 places-condition : (c : Condition) (at t f : ℕ) → condition_places (stored_condition_of c) ≡ parts_places (condition_parts at t f c)
 places-condition (Condition.Choice from) at t f = refl
 places-condition (Condition.Tested from test) at t f = places-test test at (Some t) (Some f)
@@ -113,6 +124,7 @@ places-condition (Condition.Tested from test) at t f = places-test test at (Some
 
 -- in an atomic block there are none
 mutual
+  -- a statement in an atomic block has no places of its own
   stmt-none : (s : Stmt) (more : ℕ) (rest : List Instruction) → places_from (suc more) (stmt_code s ++ rest) ≡ places_from (suc more) rest
   stmt-none (Stmt.Assign from at v e) more rest = refl
   stmt-none (Stmt.AssignAny from v) more rest = refl
@@ -133,6 +145,7 @@ mutual
   stmt-none (Stmt.Atomic from inner) more rest =
       ap (places_from (suc (suc more))) (append_assoc (code inner) (instruction.EndAtomic ∷ []) rest) ∙ stmts-none inner (suc more) (instruction.EndAtomic ∷ rest)
 
+  -- statements in an atomic block have no places of their own
   stmts-none : (ss : Stmts) (more : ℕ) (rest : List Instruction) → places_from (suc more) (code ss ++ rest) ≡ places_from (suc more) rest
   stmts-none Stmts.End more rest = refl
   stmts-none (Stmts.Then s ss) more rest =
@@ -147,6 +160,7 @@ in_front front ps qs rest e =
     ∙ ap (λ l. l ++ places_from 0 rest) (sym (parts_places-append ps qs))
 
 mutual
+  -- the code of a statement has the places of its parts
   stmt-places : (s : Stmt) (exit out at next : ℕ) (rest : List Instruction)
       → places_from 0 (stmt_code s ++ rest) ≡ parts_places (stmt_parts exit out at next s) ++ places_from 0 rest
   stmt-places (Stmt.Assign from spot v e) exit out at next rest =
@@ -189,6 +203,7 @@ mutual
   stmt-places (Stmt.Atomic from inner) exit out at next rest =
       ap (λ l. from ∷ l) (ap (places_from 1) (append_assoc (code inner) (instruction.EndAtomic ∷ []) rest) ∙ stmts-none inner 0 (instruction.EndAtomic ∷ rest))
 
+  -- the code of statements has the places of their parts
   stmts-places : (ss : Stmts) (exit out at next : ℕ) (rest : List Instruction)
       → places_from 0 (code ss ++ rest) ≡ parts_places (parts exit out at next ss) ++ places_from 0 rest
   stmts-places Stmts.End exit out at next rest = refl

@@ -11,11 +11,11 @@ use Rattle.c_check.specs.declared.operation.Operation.TheVariants as operation
 use Rattle.c_check.specs.Plan.{Arithmetic, postfix}
 use Rattle.c_check.specs.Items.{over_temporaries, shared_in}
 use Rattle.transition_formula.specs.Program.{Form}
-use Rattle.transition_formula.specs.Forms.{constant_form, fitting_form, fitting_multiple, fitting_sum}
+use Rattle.transition_formula.specs.Forms.{constant_form, fitting_difference, fitting_form, fitting_multiple, fitting_product, fitting_sum}
 use Rattle.thread_cfg.specs.declared.event.Expression.{Expression}
 use Rattle.thread_cfg.specs.declared.event.Expression.TheVariants as expression
 use Rattle.thread_cfg.specs.Source.{Frame}
-use Rattle.thread_cfg.specs.Edge.{fitting_difference, fitting_product, form_of}
+use Rattle.thread_cfg.specs.Edge.{form_of}
 use Rattle.thread_cfg.specs.inside.Machine.{ExpressionWithin, OperationWithin, computed, last_of, on_top, operations_of, relabelled, stack_behind}
 use Rattle.thread_cfg.specs.inside.Meant.{Means}
 use Rattle.thread_cfg.specs.Within.{IsWithin}
@@ -82,6 +82,7 @@ stack_behind-postfix n frame (Arithmetic.Product a b) rest stack =
     computes-two n frame (postfix a) (postfix b) operation.Multiply fitting_product (form_of n frame a) (form_of n frame b)
     (stack_behind-postfix n frame a) (stack_behind-postfix n frame b) (λ more below one other. refl) rest stack
 
+-- what is computed of an expression's postfix form is its form
 computed-postfix : (n : ℕ) (frame : Frame) (a : Arithmetic) → computed n frame (postfix a) ≡ form_of n frame a
 computed-postfix n frame a =
     ap (λ os. option_and_then last_of (stack_behind n frame os [])) (sym (append-nil (postfix a)))
@@ -93,6 +94,7 @@ computed-postfix n frame a =
 
 -- ---- temporaries
 
+-- operations without a temporary to begin with stay
 relabelled-none : (os : List Operation) → relabelled None os ≡ os
 relabelled-none [] = refl
 relabelled-none (o ∷ os) = ap (λ l. o ∷ l) (relabelled-none os)
@@ -161,6 +163,7 @@ within-postfix n frame (Arithmetic.Product a b) h =
     AllByRecursion-append (OperationWithin n frame) (postfix a ++ postfix b) (operation.Multiply ∷ [])
     (AllByRecursion-append (OperationWithin n frame) (postfix a) (postfix b) (within-postfix n frame a h.0) (within-postfix n frame b h.1)) (tt, tt)
 
+-- a stored expression is within n where the one that it means is
 pub expression-within : (n : ℕ) (frame : Frame) (e : Expression) (a : Arithmetic) → Means e a → IsWithin n frame a → ExpressionWithin n frame e
 expression-within n frame e a h within =
     subst (λ os. AllByRecursion (OperationWithin n frame) os) (sym (operations-meant e a h)) (within-postfix n frame a within)

@@ -29,9 +29,11 @@ use Rattle.thread_cfg.proofs.Lists.{nil-front, nil-rest}
 abbrev AlternativesTo : ℕ → List Alternative → Type 0
 AlternativesTo exit alternatives = AllByRecursion (λ a. a.to ≤ exit) alternatives
 
+-- The actions lead no further than to this location.
 abbrev pub ActionsTo : ℕ → List Action → Type 0
 ActionsTo exit steps = AllByRecursion (λ action. AlternativesTo exit action.alternatives) steps
 
+-- The target, if there is one, is no further than this location.
 abbrev TargetTo : ℕ → Option ℕ → Type 0
 TargetTo exit None = Unit {0}
 TargetTo exit (Some to) = to ≤ exit
@@ -166,6 +168,7 @@ thread_actions-laid frame temporary body =
     stmts-laid (exit_of body) around 1 (exit_of body) body (record { ends = omega arith; leaves = omega arith }) (omega arith) (omega arith)
 
 -- ---- what is not refused
+-- a number that is not above another is at most that
 not_above : (a b : ℕ) → nat_lt a b ≡ false → b ≤ a
 not_above a b e = grind (arith, nat_tests)
 
@@ -237,6 +240,7 @@ edges_from-few columns frame at (action ∷ steps) all =
     omega (arith, length-append (action_edges columns frame at action) (edges_from columns frame (at + 1) steps), all.0.few, here, more)
 
 module _ (program : Program) (thread : Thread) (n columns : ℕ) (frame : Frame) (columns_are : columns ≡ length program.columns) (counters_are : n ≡ first_counter program) where
+  -- the edge of an alternative within the limits is one that a program may have
   made-edge : (at : ℕ) (a : Alternative) (edge : Edge) → 0 < at → at < thread.locations → a.to < thread.locations → length a.events ≤ most_tests
       → EventsWithin n frame a.events → alternative_edge columns frame at a ≡ Ok (Some edge) → IsEdge program thread edge
   made-edge at a edge some here there short within e =

@@ -24,18 +24,22 @@ use Rattle.thread_cfg.proofs.SizeLemmas.{shared_operations-postfix}
 
 -- ---- lists of reads
 
+-- the reads of joined variables, the second ones into the temporaries behind the first
 reads-append : (t : ℕ) (vs ws : List Variable) → reads t (vs ++ ws) ≡ reads t vs ++ reads (t + length vs) ws
 reads-append t [] ws = ap (λ n. reads n ws) (omega arith)
 reads-append t (v ∷ vs) ws = ap (λ l. (variable.Own t, v) ∷ l) (reads-append (t + 1) vs ws ∙ ap (λ n. reads (t + 1) vs ++ reads n ws) (omega arith))
 
+-- there is one read for each variable
 length-reads : (t : ℕ) (vs : List Variable) → length (reads t vs) ≡ length vs
 length-reads t [] = refl
 length-reads t (v ∷ vs) = omega (arith, length-reads (t + 1) vs)
 
+-- there is one action for each read
 pub length-read_actions : (from : ℕ) (rs : List (Variable × Variable)) (at : ℕ) → length (read_actions from rs at) ≡ length rs
 length-read_actions from [] at = refl
 length-read_actions from (r ∷ rs) at = omega (arith, length-read_actions from rs (at + 1))
 
+-- the actions of joined reads, the second ones at the locations behind the first
 read_actions-append : (from : ℕ) (rs ss : List (Variable × Variable)) (at : ℕ)
     → read_actions from (rs ++ ss) at ≡ read_actions from rs at ++ read_actions from ss (at + length rs)
 read_actions-append from [] ss at = ap (λ n. read_actions from ss n) (omega arith)
@@ -51,22 +55,27 @@ variables-append from t at vs ws =
     ∙ read_actions-append from (reads t vs) (reads (t + length vs) ws) at
     ∙ ap (λ n. read_actions from (reads t vs) at ++ read_actions from (reads (t + length vs) ws) (at + n)) (length-reads t vs)
 
+-- there is one action for each variable that is read
 pub length-variables : (from t at : ℕ) (vs : List Variable) → length (read_actions from (reads t vs) at) ≡ length vs
 length-variables from t at vs = length-read_actions from (reads t vs) at ∙ length-reads t vs
 
 -- ---- what is within
 
+-- where joined actions are within the columns, the first ones are
 pub within-front : (running : Running) (xs ys : List Action) → AreWithin running (xs ++ ys) → AreWithin running xs
 within-front running xs ys all = AllByRecursion-front (ActionWithin running.columns (frame_of running.frame)) xs ys all
 
+-- where joined actions are within the columns, the second ones are
 pub within-rest : (running : Running) (xs ys : List Action) → AreWithin running (xs ++ ys) → AreWithin running ys
 within-rest running xs ys all = AllByRecursion-rest (ActionWithin running.columns (frame_of running.frame)) xs ys all
 
 -- ---- reads in turn
 
+-- no reads leave the place where the next one is
 pub AddsReads-none : (running : Running) (from : ℕ) (f : Found) (reading : Reading) → AddsActions running reading.at.0 f f [] → AddsReads running from f f reading reading []
 AddsReads-none running from f reading none = record { added = none; at = omega arith; temporary = omega arith }
 
+-- reads and then others are the reads of joined variables
 pub AddsReads-then : (running : Running) (from : ℕ) (a b c : Found) (first middle last : Reading) (vs ws : List Variable)
     → AddsReads running from a b first middle vs → AddsReads running from b c middle last ws → AddsReads running from a c first last (vs ++ ws)
 AddsReads-then running from a b c first middle last vs ws one other =
@@ -86,6 +95,7 @@ pub shared_variables-next : (os : List Operation) (i : ℕ) (d : Operation) → 
     → shared_variables (drop i os) ≡ shared_of (get_or os i d) ++ shared_variables (drop (i + 1) os)
 shared_variables-next os i d within = ap shared_variables (drop_more os i d within)
 
+-- the shared variables of joined operations are those of both
 flat_map-append : (os ps : List Operation) → shared_variables (os ++ ps) ≡ shared_variables os ++ shared_variables ps
 flat_map-append [] ps = refl
 flat_map-append (o ∷ os) ps = ap (λ l. shared_of o ++ l) (flat_map-append os ps) ∙ sym (append_assoc (shared_of o) (shared_variables os) (shared_variables ps))
@@ -108,25 +118,31 @@ shared_variables-postfix (Arithmetic.Product a b) =
 
 -- ---- assignments and comparisons, where the accesses are few and where they are more
 
+-- less than two accesses are few
 pub few-true : (n : ℕ) → n < 2 → few n ≡ true
 few-true n h = grind arith
 
+-- two accesses and more are not few
 pub few-false : (n : ℕ) → 2 ≤ n → few n ≡ false
 few-false n h = grind arith
 
+-- an assignment with few accesses is one action
 pub assign-few : (temporary at next from place : ℕ) (v : Variable) (e : Arithmetic) → few (assign_accesses v e) ≡ true
     → assign_actions temporary at next from place v e ≡ simple from (Event.Sets place v e) next ∷ []
 assign-few temporary at next from place v e h = rw h refl
 
+-- an assignment with more accesses is its reads, and then one over temporaries
 pub assign-many : (temporary at next from place : ℕ) (v : Variable) (e : Arithmetic) → few (assign_accesses v e) ≡ false
     → assign_actions temporary at next from place v e
     ≡ read_actions from (reads temporary (shared_in e)) at ++ simple from (Event.Sets place v (over_temporaries temporary e)) next ∷ []
 assign-many temporary at next from place v e h = rw h refl
 
+-- a comparison with few accesses is one test
 pub compare-few : (temporary at from : ℕ) (m : Mark) (a b : Arithmetic) (t f : Option ℕ) → few (compare_accesses a b) ≡ true
     → read_actions from (compare_reads temporary a b) at ++ compare_action temporary from m a b t f ∷ [] ≡ test_action from m a b t f ∷ []
 compare-few temporary at from m a b t f h = rw h refl
 
+-- a comparison with more accesses is its reads, and then a test over temporaries
 pub compare-many : (temporary at from : ℕ) (m : Mark) (a b : Arithmetic) (t f : Option ℕ) → few (compare_accesses a b) ≡ false
     → read_actions from (compare_reads temporary a b) at ++ compare_action temporary from m a b t f ∷ []
     ≡ read_actions from (reads temporary (shared_in a ++ shared_in b)) at
@@ -135,6 +151,7 @@ compare-many temporary at from m a b t f h = rw h refl
 
 -- ---- what is left to read
 
+-- the reads that are left are within the columns, where all are
 pub left-within : (running : Running) (from : ℕ) (before after : Reading) (vs rest : List Variable)
     → after.at.0 ≡ before.at.0 + length vs → after.temporary ≡ before.temporary + length vs
     → AreWithin running (read_actions from (reads before.temporary (vs ++ rest)) before.at.0) → AreWithin running (read_actions from (reads after.temporary rest) after.at.0)
@@ -146,6 +163,7 @@ left-within running from before after vs rest e f all =
 
 -- ---- accesses
 
+-- so many shared variables are read as operations name one
 pub length-shared : (os : List Operation) → length (shared_variables os) ≡ shared_operations os
 length-shared [] = refl
 length-shared (operation.Number k ∷ os) = length-shared os
@@ -156,10 +174,12 @@ length-shared (operation.Add ∷ os) = length-shared os
 length-shared (operation.Subtract ∷ os) = length-shared os
 length-shared (operation.Multiply ∷ os) = length-shared os
 
+-- the accesses that the code counts of an assignment are those of the definition
 pub assign_accesses-is : (v : Variable) (n accesses : ℕ) (os : List Operation) (e : Arithmetic) → os ≡ postfix e → n ≡ shared_operations os → accesses ≡ written v n
     → accesses ≡ assign_accesses v e
 assign_accesses-is v n accesses os e is count h = h ∙ ap (written v) (count ∙ ap shared_operations is ∙ shared_operations-postfix e)
 
+-- the accesses that the code counts of a comparison are those of the definition
 pub compare_accesses-is : (n k : ℕ) (os ps : List Operation) (a b : Arithmetic) → os ≡ postfix a → ps ≡ postfix b → n ≡ shared_operations os → k ≡ shared_operations ps
     → n + k ≡ compare_accesses a b
 compare_accesses-is n k os ps a b is also count other =
@@ -170,11 +190,13 @@ compare_accesses-is n k os ps a b is also count other =
 pub locations-many : (accesses n : ℕ) → 2 ≤ accesses → locations accesses n ≡ n + 1
 locations-many accesses n h = rw (few-false accesses h) refl
 
+-- the shared variables of operations are those of the expression
 pub variables-is : (os : List Operation) (a : Arithmetic) → os ≡ postfix a → shared_variables os ≡ shared_in a
 variables-is os a is = ap shared_variables is ∙ shared_variables-postfix a
 
 -- ---- comparisons that are read into temporaries
 
+-- a comparison that is cut has a location for each read, and one behind them
 pub comparison-room : (c : Comparison) (n k : ℕ) (ls rs : List Operation) → ls ≡ c.left → rs ≡ c.right → n ≡ shared_operations ls → k ≡ shared_operations rs
     → 2 ≤ n + k → length (shared_variables ls) + length (shared_variables rs) + 1 ≡ comparison_size c
 comparison-room c n k ls rs is also count other more =
@@ -186,6 +208,7 @@ comparison-room c n k ls rs is also count other more =
 variables-both : (ls rs : List Operation) (a b : Arithmetic) → ls ≡ postfix a → rs ≡ postfix b → shared_variables ls ++ shared_variables rs ≡ shared_in a ++ shared_in b
 variables-both ls rs a b is also = ap₂ (λ x y. x ++ y) (variables-is ls a is) (variables-is rs b also)
 
+-- the reads of a comparison are within the columns, where all its actions are
 pub compare-reads_within : (running : Running) (at from : ℕ) (m : Mark) (a b : Arithmetic) (t f : Option ℕ) (ls rs : List Operation)
     → ls ≡ postfix a → rs ≡ postfix b → few (compare_accesses a b) ≡ false
     → AreWithin running (read_actions from (compare_reads running.temporary a b) at ++ compare_action running.temporary from m a b t f ∷ [])
@@ -197,6 +220,7 @@ compare-reads_within running at from m a b t f ls rs is also more all =
     (test_action from m (over_temporaries n a) (over_temporaries (n + length (shared_in a)) b) t f ∷ [])
     (subst (AreWithin running) (compare-many n at from m a b t f more) all))
 
+-- the test of a comparison is within the columns, where all its actions are
 pub compare-test_within : (running : Running) (at from : ℕ) (m : Mark) (a b : Arithmetic) (t f : Option ℕ) → few (compare_accesses a b) ≡ false
     → AreWithin running (read_actions from (compare_reads running.temporary a b) at ++ compare_action running.temporary from m a b t f ∷ [])
     → AreWithin running (test_action from m (over_temporaries running.temporary a) (over_temporaries (running.temporary + length (shared_in a)) b) t f ∷ [])

@@ -9,46 +9,17 @@ use Rattle.lin_rows.specs.System.{IsRowOver}
 use Rattle.lin_rows.proofs.Booleans.{given_where_true}
 use Rattle.lin_rows.proofs.Numbers.{fits-true}
 use Rattle.transition_formula.specs.Program.{Form, IsFormOver}
-use Rattle.transition_formula.specs.Forms.{fitting_composition}
+use Rattle.transition_formula.specs.Forms.{fitting_composition, fitting_difference}
 use Rattle.transition_formula.proofs.FormValues.{compositions-exact}
 use Rattle.thread_cfg.specs.declared.event.Expression.{Expression}
 use Rattle.thread_cfg.specs.declared.relation.Relation.{Relation}
 use Rattle.thread_cfg.specs.declared.relation.Relation.TheVariants as related
 use Rattle.thread_cfg.specs.Source.{Frame}
-use Rattle.thread_cfg.specs.Edge.{at_most, fitting_difference, moved, raised, row_by}
+use Rattle.thread_cfg.specs.Edge.{at_most, moved, raised, row_by}
 use Rattle.thread_cfg.specs.inside.Machine.{computed, operations_of}
 use Rattle.thread_cfg.specs.inside.Seen.{form_seen, row_seen}
-use Rattle.thread_cfg.proofs.FormLemmas.{fitting_difference-over, raised-over}
+use Rattle.thread_cfg.proofs.Relations.{row_by-over}
 use Rattle.thread_cfg.proofs.StackLemmas.{computed-over}
-
--- a form whose constant is on the right
-moved-over : (width : ℕ) (equal : Bool) (form : Form) (row : Row) → moved equal form ≡ Some row → IsFormOver width form → IsRowOver width row
-moved-over width equal form row e is =
-    let given = given_where_true (fits (neg_ℤ form.constant)) (record { equal = equal; coefficients = form.coefficients; bound = neg_ℤ form.constant }) row e in
-    subst (IsRowOver width) given.1 (record {
-      width = is.one_each;
-      fits = record { coefficients = is.coefficients_fit; bound = fits-true (neg_ℤ form.constant) given.0 };
-    })
-
--- a difference, moved
-between-over : (width : ℕ) (equal : Bool) (one other : Form) (row : Row) → option_and_then (moved equal) (fitting_difference one other) ≡ Some row
-    → IsFormOver width one → IsFormOver width other → IsRowOver width row
-between-over width equal one other row e is are =
-    option_and_then_some (moved equal) (fitting_difference one other) row e (λ form made rest.
-    moved-over width equal form row rest (fitting_difference-over width one other form made is are))
-
--- the row of a relation
-pub row_by-over : (width : ℕ) (r : Relation) (one other : Form) (row : Row) → row_by width r one other ≡ Some row
-    → IsFormOver width one → IsFormOver width other → IsRowOver width row
-row_by-over width related.Equal one other row e is are = between-over width true one other row e is are
-row_by-over width related.Less one other row e is are =
-    option_and_then_some (at_most one) (raised (negsuc 0) width other) row e (λ less made rest.
-    between-over width false one less row rest is (raised-over (negsuc 0) width other less made are))
-row_by-over width related.Greater one other row e is are =
-    option_and_then_some (λ more. at_most more one) (raised (pos 1) width other) row e (λ more made rest.
-    between-over width false more one row rest (raised-over (pos 1) width other more made are) is)
-row_by-over width related.AtMost one other row e is are = between-over width false one other row e is are
-row_by-over width related.AtLeast one other row e is are = between-over width false other one row e are is
 
 -- an expression, worth what it is behind events
 pub form_seen-over : (width columns : ℕ) (frame : Frame) (forms : List Form) (e : Expression) (form : Form) → form_seen width columns frame forms e ≡ Some form

@@ -69,9 +69,11 @@ running_from-at variables functions i (thread ∷ ts) (suc j) t all e =
     record { thread = at.thread; thread_is = at.thread_is; function_is = at.function_is; number = omega (arith, at.number); first = at.first; variables_are = at.variables_are }
 
 -- ---- how many variables there are
+-- so many of joined columns pass a test as of both
 count-append : (p : Column → Bool) (xs ys : List Column) → length (filter p (xs ++ ys)) ≡ length (filter p xs) + length (filter p ys)
 count-append p xs ys = ap length (filter-append p xs ys) ∙ length-append (filter p xs) (filter p ys)
 
+-- whether a column is one of a variable that all threads share
 abbrev pub tells_variable : Column → Bool
 tells_variable c = is_variable c.kind
 
@@ -133,6 +135,7 @@ variables-counted tree =
 
 -- ---- the threads of a plan
 module _ (tree : plain.Tree) (plan : Plan) (is : IsPlanOf tree plan) (well : IsWellFormedPlan plan) where
+  -- a function of the plan is one of the text
   function-of : (k : ℕ) (g : stored.Function) → slice_get plan.functions k ≡ Some g → (f : Function) × (slice_get (functions_of tree) k ≡ Some f) × (stored_function f ≡ g)
   function-of k g e =
       mapped-some stored_function (slice_get (functions_of tree) k) g
@@ -155,6 +158,7 @@ pub record IsRunning (tree : plain.Tree) (plan : Plan) (i : ℕ) (t : Running) :
   pub room : HasRoom (counts_in plan (stored_function t.function)) (need t.function.body) (length (columns_of tree) - length (threads_running tree)) t.frame
 
 module _ (tree : plain.Tree) (plan : Plan) (is : IsPlanOf tree plan) (well : IsWellFormedPlan plan) where
+  -- a thread at a place of the list runs
   running-at : (j : ℕ) (t : Running) → RunsAt (variables_of tree) (functions_of tree) (threads_of tree) 1 j t → IsRunning tree plan (suc j) t
   running-at j t at =
       let given : slice_get plan.threads j ≡ Some at.thread = ap (λ ts. slice_get ts j) is.threads_are ∙ at.thread_is in

@@ -51,6 +51,7 @@ stands-all pre (x ∷ xs) = (
         at [] = refl
         at (p ∷ pre) = at pre
 
+-- with nothing behind them items stay
 joined-end : (is : Items) → joined is Items.End ≡ is
 joined-end Items.End = refl
 joined-end (Items.Then i is) = ap (λ x. Items.Then i x) (joined-end is)
@@ -68,6 +69,7 @@ record IsPair (frame : Frame) (lefts : ℕ → Option Standing) (actions : List 
   action_is : slice_get actions l ≡ Some action
   matches : Matches frame lefts is action
 
+-- the items at a place have an action there, which matches them
 pair-of : (frame : Frame) (lefts : ℕ → Option Standing) (xs : List Items) (as' : List Action) (l : ℕ) (is : Items)
     → AllMatch frame lefts xs as' → slice_get xs l ≡ Some is → IsPair frame lefts as' l is
 pair-of frame lefts [] as' l is all e = absurd (none-some is e)
@@ -82,6 +84,7 @@ record IsPairOf (frame : Frame) (lefts : ℕ → Option Standing) (xs : List Ite
   is_left : slice_get xs l ≡ Some is
   matches : Matches frame lefts is action
 
+-- the action at a place has items there, which it matches
 pair-at : (frame : Frame) (lefts : ℕ → Option Standing) (xs : List Items) (as' : List Action) (l : ℕ) (action : Action)
     → AllMatch frame lefts xs as' → slice_get as' l ≡ Some action → IsPairOf frame lefts xs l action
 pair-at frame lefts [] [] l action all e = absurd (none-some action e)
@@ -98,29 +101,35 @@ front-or-last [] (suc l) is e = absurd (none-some is e)
 front-or-last (x ∷ xs) zero is e = inl e
 front-or-last (x ∷ xs) (suc l) is e = front-or-last xs l is e
 
+-- the items at a place stay there where the end is put behind all
 front-get : (xs : List Items) (l : ℕ) (is : Items) → slice_get xs l ≡ Some is → slice_get (xs ++ Items.End ∷ []) l ≡ Some is
 front-get [] l is e = absurd (none-some is e)
 front-get (x ∷ xs) zero is e = e
 front-get (x ∷ xs) (suc l) is e = front-get xs l is e
 
+-- behind all items is the end
 last-get : (xs : List Items) → slice_get (xs ++ Items.End ∷ []) (length xs) ≡ Some Items.End
 last-get [] = refl
 last-get (x ∷ xs) = last-get xs
 
+-- a standing that is made of items is that of having them to do
 doing-of : (o : Option Items) (standing : Standing) → option_map Standing.Doing o ≡ Some standing → (is : Items) × (o ≡ Some is) × (standing ≡ Standing.Doing is)
 doing-of None standing e = absurd (none-some standing e)
 doing-of (Some is) standing e = (is, refl, sym (some-same (Standing.Doing is) standing e))
 
+-- who has failed has nothing to do
 doing-failed : (is : Items) → ¬ (Standing.Failed ≡ Standing.Doing is)
 doing-failed is e = subst (λ s. elim s as (λ _. Type 0) [ Standing.Doing y ↦ ⊥ | Standing.Failed ↦ Unit {0} ]) e tt
 
 -- ---- alternatives
 
+-- An alternative of the list is taken.
 record IsTakenOf (frame : Frame) (values : List ℤ) (as' : List Alternative) (after : List ℤ) (to : ℕ) : Type 0 where
   alternative : Alternative
   is_there : Has as' alternative
   taken : IsTaken frame values alternative after to
 
+-- where some alternative is taken, it is one of the list
 taken-of : (frame : Frame) (values : List ℤ) (as' : List Alternative) (after : List ℤ) (to : ℕ) → SomeTaken frame values as' after to → IsTakenOf frame values as' after to
 taken-of frame values [] after to h = absurd h
 taken-of frame values (a ∷ as') after to h =
@@ -129,11 +138,13 @@ taken-of frame values (a ∷ as') after to h =
       | inr g ↦ let more = taken-of frame values as' after to g in record { alternative = more.alternative; is_there = inr more.is_there; taken = more.taken }
     ]
 
+-- where an alternative of the list is taken, some is
 of-taken : (frame : Frame) (values : List ℤ) (as' : List Alternative) (a : Alternative) (after : List ℤ) (to : ℕ) → Has as' a → IsTaken frame values a after to → SomeTaken frame values as' after to
 of-taken frame values [] a after to h t = absurd h
 of-taken frame values (b ∷ as') a after to h t =
     elim h [ inl e ↦ inl (subst (λ x. IsTaken frame values x after to) e t) | inr g ↦ inr (of-taken frame values as' a after to g t) ]
 
+-- what holds of all holds of an element
 all-at : {X : Type 0} → (P : X → Type 0) (xs : List X) (x : X) → AllByRecursion P xs → Has xs x → P x
 all-at P [] x all h = absurd h
 all-at P (y ∷ xs) x all h = elim h [ inl e ↦ subst P (sym e) all.0 | inr g ↦ all-at P xs x all.1 g ]
@@ -158,29 +169,35 @@ module _ (program : Program) (n k : ℕ) (frame : Frame) (temporary : ℕ) (body
   abbrev acts : List Action
   acts = thread_actions frame temporary body
 
+  -- there is something left at each location but the last one
   size-lefts : length lefts ≡ size body
   size-lefts = stmts-length temporary body Items.End
 
+  -- at the last location nothing is left
   exit-stands : standing_at temporary body (exit_of body) ≡ Some (Standing.Doing Items.End)
   exit-stands = rw (exit-suc body) (ap (option_map Standing.Doing) (subst (λ l. slice_get (lefts ++ Items.End ∷ []) l ≡ Some Items.End) size-lefts (last-get lefts)))
     where
       exit-suc : (body : Stmts) → exit_of body ≡ suc (size body)
       exit-suc body = omega arith
 
+  -- what is left stands at the locations from 1 on
   all-stand : StandsFrom (standing_at temporary body) 1 lefts
   all-stand = stands-front (standing_at temporary body) 1 lefts (Items.End ∷ []) (stands-all [] (lefts ++ Items.End ∷ []))
 
+  -- at location 1 all of the body is left
   begins : standing_at temporary body 1 ≡ Some (Standing.Doing (read_as (items (Grain.Cut temporary) body)))
   begins = subst (λ is. standing_at temporary body 1 ≡ Some (Standing.Doing (read_as is))) (joined-end (items (Grain.Cut temporary) body))
       (subst (λ l. standing_at temporary body l ≡ Some (Standing.Doing (read_as (joined (items (Grain.Cut temporary) body) Items.End)))) (entry-first body)
       (entry-stands (standing_at temporary body) temporary 1 (exit_of body) body Items.End all-stand exit-stands))
 
+  -- what is left at each location is matched by its action
   all-match : AllMatch frame (standing_at temporary body) lefts acts
   all-match = stmts-match (standing_at temporary body) (record { frame = frame; temporary = temporary; exit = exit_of body; out = exit_of body }) 1 (exit_of body) body Items.End
       (record { next_stands = exit-stands; out_stands = exit-stands; exit_stands = exit-stands; fails = refl }) all-stand
 
   -- ---- a step of the source is a step by an edge
 
+  -- where an alternative is taken there is a step by an edge
   by-alternative : (values : List ℤ) (locations : List ℕ) (l : ℕ) (action : Action) (after : List ℤ) (to : ℕ)
       → length values ≡ n → length locations ≡ k → at_number locations frame.thread ≡ Some (suc l) → slice_get acts l ≡ Some action
       → IsTakenOf frame values action.alternatives after to → EdgeSteps program frame.thread values locations after to
@@ -210,6 +227,7 @@ module _ (program : Program) (n k : ℕ) (frame : Frame) (temporary : ℕ) (body
             steps = rw t.taken.leads ((edges-happen n k frame.thread (1 + l) frame t.alternative edge thread values after locations t.taken.inputs within made is.counter_is is.some is.among vs ls here).1 t.taken.happen);
           }
 
+  -- each step of the source is one by an edge
   by-edges : (values : List ℤ) (locations : List ℕ) (from : ℕ) (standing : Standing) (after : List ℤ) (next : Standing)
       → length values ≡ n → length locations ≡ k → at_number locations frame.thread ≡ Some from → standing_at temporary body from ≡ Some standing
       → SourceSteps frame values standing after next

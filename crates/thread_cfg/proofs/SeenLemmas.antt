@@ -5,12 +5,12 @@ use Rattle.lin_rows.specs.Row.{Row}
 use Rattle.transition_formula.specs.Program.{Form, IsFormOver}
 use Rattle.transition_formula.specs.Forms.{column_form}
 use Rattle.transition_formula.proofs.Numbers.{AllByRecursion-set}
+use Rattle.transition_formula.proofs.FormProducts.{column-over}
 use Rattle.thread_cfg.specs.declared.event.Event.{Event as StoredEvent}
 use Rattle.thread_cfg.specs.declared.event.Event.TheVariants as stored
 use Rattle.thread_cfg.specs.Source.{Frame, column_of}
 use Rattle.thread_cfg.specs.Edge.{fits_or, has_no_column, on_ok}
 use Rattle.thread_cfg.specs.inside.Seen.{IsSeenOver, Seen, form_seen, inputs_in, row_seen, seen_after, seen_behind, seen_with_form, seen_with_input, seen_with_row}
-use Rattle.thread_cfg.proofs.FormLemmas.{column_form-over}
 use Rattle.thread_cfg.proofs.RowLemmas.{form_seen-over}
 
 -- what is given by what fits
@@ -19,10 +19,12 @@ pub on_ok-given : {X Y P : Type 0} (f : X → Result Y ℕ) (from : ℕ) (o : Op
 on_ok-given f from None y e h = absurd cc
 on_ok-given f from (Some x) y e h = h x refl e
 
+-- where a chain gives something, its first part did
 pub on_ok-ok : {X Y P : Type 0} (f : X → Result Y ℕ) (r : Result X ℕ) (y : Y) → on_ok f r ≡ Ok y → ((x : X) → r ≡ Ok x → f x ≡ Ok y → P) → P
 on_ok-ok f (Err from) y e h = absurd cc
 on_ok-ok f (Ok x) y e h = h x refl e
 
+-- what two results hold is the same where they are
 pub same_Ok : {X : Type 0} (x y : X) → ◌≡◌ {A = Result X ℕ} (Ok x) (Ok y) → x ≡ y
 same_Ok x y e = cc
 
@@ -40,6 +42,7 @@ length-one_row p rows row = by_test (p row)
     by_test true = omega (arith, length-append rows (row ∷ []))
     by_test false = omega (arith, length-append {A = Row} rows [])
 
+-- an event that asks a row leaves all over the width
 with_row-next : (columns width from : ℕ) (seen : Seen) (e : StoredEvent) (row : Row) → inputs_in (e ∷ []) ≡ 0 → IsSeenOver columns width seen
     → IsNext columns width seen (seen_with_row seen row) e
 with_row-next columns width from seen e row none over = record {
@@ -48,6 +51,7 @@ with_row-next columns width from seen e row none over = record {
   rows = length-one_row (λ r. not (has_no_column r)) seen.tests.rows row;
 }
 
+-- an event that sets a form over the width leaves all over it
 with_form-over : (columns width c : ℕ) (seen : Seen) (form : Form) → IsSeenOver columns width seen → IsFormOver width form
     → IsSeenOver columns width (seen_with_form seen c form)
 with_form-over columns width c seen form over is = record {
@@ -73,7 +77,7 @@ seen_after-next columns width frame seen next (stored.Sets place v value) e over
     }))
 seen_after-next columns width frame seen next (stored.SetsAny v) e over =
     let form = column_form width (columns + seen.inputs) in
-    let with_form = with_form-over columns width (column_of frame v) seen form over (column_form-over width (columns + seen.inputs)) in
+    let with_form = with_form-over columns width (column_of frame v) seen form over (column-over width (columns + seen.inputs)) in
     subst (λ s. IsNext columns width seen s (stored.SetsAny v)) (same_Ok (seen_with_input width columns seen (column_of frame v)) next e)
     (record {
       over = record { one_each = with_form.one_each; forms_over = with_form.forms_over; tests_over = with_form.tests_over };
@@ -91,17 +95,20 @@ seen_behind-over columns width frame (event ∷ es) seen next e over =
 
 -- ---- one event more
 
+-- the inputs of an event and of those behind it are added
 pub inputs_in-first : (e : StoredEvent) (es : List StoredEvent) → inputs_in (e ∷ es) ≡ inputs_in (e ∷ []) + inputs_in es
 inputs_in-first (stored.Requires from r left right) es = omega arith
 inputs_in-first (stored.Sets place v value) es = omega arith
 inputs_in-first (stored.SetsAny v) es = omega arith
 
+-- behind the first event the rest gives what all give
 pub seen_behind-next : (columns width : ℕ) (frame : Frame) (events rest : List StoredEvent) (e : StoredEvent) (seen next : Seen) (whole : Result Seen ℕ)
     → events ≡ e ∷ rest → Ok next ≡ seen_after width columns frame seen e → seen_behind width columns frame events seen ≡ whole
     → seen_behind width columns frame rest next ≡ whole
 seen_behind-next columns width frame events rest e seen next whole front made all =
     ap (on_ok (seen_behind width columns frame rest)) made ∙ sym (ap (λ l. seen_behind width columns frame l seen) front) ∙ all
 
+-- where the first event does not fit, that is what all give
 pub seen_behind-stop : (columns width : ℕ) (frame : Frame) (events rest : List StoredEvent) (e : StoredEvent) (seen : Seen) (from : ℕ) (whole : Result Seen ℕ)
     → events ≡ e ∷ rest → Err from ≡ seen_after width columns frame seen e → seen_behind width columns frame events seen ≡ whole
     → Err from ≡ whole

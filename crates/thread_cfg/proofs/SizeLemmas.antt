@@ -19,6 +19,7 @@ use Rattle.thread_cfg.specs.inside.Sizes.{Counted, assignment_size, comparison_s
 
 -- ---- shared accesses
 
+-- joined operations name so many shared variables as both
 shared_operations-append : (xs ys : List Operation) → shared_operations (xs ++ ys) ≡ shared_operations xs + shared_operations ys
 shared_operations-append xs ys = ap length (filter-append is_shared xs ys) ∙ length-append (filter is_shared xs) (filter is_shared ys)
 
@@ -31,6 +32,7 @@ shared_operations-next xs i d within =
     by_test true = refl
     by_test false = refl
 
+-- an operation on two expressions names the shared variables of both
 of_two : (a b : Arithmetic) (o : Operation) → is_shared o ≡ false → shared_operations (postfix a) ≡ length (shared_in a) → shared_operations (postfix b) ≡ length (shared_in b) →
     shared_operations ((postfix a ++ postfix b) ++ o ∷ []) ≡ length (shared_in a ++ shared_in b)
 of_two a b o none a-is b-is =
@@ -62,11 +64,13 @@ locations-reads t accesses vs = by (few accesses) refl
     by true e = rw e refl
     by false e = rw e (ap (λ n. n + 1) (length-reads t vs))
 
+-- the size that the code counts of an assignment is one more than its reads
 pub assignment_size-postfix : (from at : ℕ) (v : Variable) (e : Arithmetic)
     → assignment_size (record { from = from; at = at; variable = v; value = postfix e }) ≡ length (assign_reads 0 v e) + 1
 assignment_size-postfix from at v e =
     ap (λ n. locations (written v n) n) (shared_operations-postfix e) ∙ sym (locations-reads 0 (written v (length (shared_in e))) (shared_in e))
 
+-- the size that the code counts of a comparison is one more than its reads
 pub comparison_size-postfix : (from : ℕ) (m : Mark) (a b : Arithmetic)
     → comparison_size (record { from = from; mark = m; left = postfix a; right = postfix b }) ≡ length (compare_reads 0 a b) + 1
 comparison_size-postfix from m a b =
@@ -76,10 +80,12 @@ comparison_size-postfix from m a b =
 
 -- ---- tests
 
+-- joined operations have the sizes of both
 tests_size-append : (xs ys : List TestOperation) → tests_size (xs ++ ys) ≡ tests_size xs + tests_size ys
 tests_size-append [] ys = omega arith
 tests_size-append (x ∷ xs) ys = ap (λ n. operation_size x + n) (tests_size-append xs ys) ∙ omega arith
 
+-- the operations of a test have its size
 pub tests_size-postfix : (t : Test) → tests_size (test_postfix t) ≡ test_size t
 tests_size-postfix (Test.Compare from m a b) = omega (arith, comparison_size-postfix from m a b)
 tests_size-postfix (Test.Not t) = tests_size-append (test_postfix t) (test_operation.Not ∷ []) ∙ omega (arith, tests_size-postfix t)
@@ -90,12 +96,14 @@ tests_size-postfix (Test.Or t u) =
     tests_size-append (test_postfix t ++ test_postfix u) (test_operation.Or ∷ [])
     ∙ omega (arith, tests_size-append (test_postfix t) (test_postfix u), tests_size-postfix t, tests_size-postfix u)
 
+-- a condition of a plan has the size of the condition
 pub condition_size-stored : (c : Condition) → stored_condition_size (stored_condition_of c) ≡ condition_size c
 condition_size-stored (Condition.Choice from) = refl
 condition_size-stored (Condition.Tested from t) = tests_size-postfix t
 
 -- ---- counting
 
+-- joined instructions are counted one after another
 pub counted_all-append : (xs ys : List Instruction) (s : Counted) → counted_all (xs ++ ys) s ≡ counted_all ys (counted_all xs s)
 counted_all-append [] ys s = refl
 counted_all-append (x ∷ xs) ys s = counted_all-append xs ys (counted s x)
@@ -110,6 +118,7 @@ deep at around loops depth = record { at = at; around = around; loops = loops; d
 
 -- within an atomic block nothing is counted
 mutual
+  -- a statement in an atomic block adds no location
   stmt-deep : (s : Stmt) (at : ℕ) (around loops : List ℕ) (more : ℕ) → counted_all (stmt_code s) (deep at around loops (suc more)) ≡ deep at around loops (suc more)
   stmt-deep (Stmt.Assign from place v e) at around loops more = refl
   stmt-deep (Stmt.AssignAny from v) at around loops more = refl
@@ -133,6 +142,7 @@ mutual
       counted_all-append (code inner) (instruction.EndAtomic ∷ []) (deep at around loops (suc (suc more)))
       ∙ ap (counted_all (instruction.EndAtomic ∷ [])) (deep-stmts inner at around loops (suc more))
 
+  -- statements in an atomic block add no location
   deep-stmts : (ss : Stmts) (at : ℕ) (around loops : List ℕ) (more : ℕ) → counted_all (code ss) (deep at around loops (suc more)) ≡ deep at around loops (suc more)
   deep-stmts Stmts.End at around loops more = refl
   deep-stmts (Stmts.Then s rest) at around loops more =
@@ -160,6 +170,7 @@ plus_zero : (at : ℕ) (around loops : List ℕ) → count (at + 0) around loops
 plus_zero at around loops = ap (λ x. count x around loops) (omega arith)
 
 mutual
+  -- a statement adds its locations
   stmt-counted : (s : Stmt) (at : ℕ) (around loops : List ℕ)
       → counted_all (stmt_code s) (count at around loops) ≡ count (at + stmt_size s) around (stmt_loops at s ++ loops)
   stmt-counted (Stmt.Assign from place v e) at around loops = counted-at at _ _ around loops (assignment_size-postfix from place v e)
@@ -195,6 +206,7 @@ mutual
       counted_all-append (code inner) (instruction.EndAtomic ∷ []) (deep (at + 1) around loops 1)
       ∙ ap (counted_all (instruction.EndAtomic ∷ [])) (deep-stmts inner (at + 1) around loops 0)
 
+  -- statements add their locations
   counted-stmts : (ss : Stmts) (at : ℕ) (around loops : List ℕ)
       → counted_all (code ss) (count at around loops) ≡ count (at + size ss) around (loops_of at ss ++ loops)
   counted-stmts Stmts.End at around loops = ap (λ x. count x around loops) (omega arith)
@@ -213,21 +225,25 @@ loop_ended-grows : (around : List ℕ) (s : Counted) → s.at ≤ (loop_ended ar
 loop_ended-grows [] s = omega arith
 loop_ended-grows (l ∷ ls) s = omega arith
 
+-- an instruction outside of blocks takes no location away
 counted_outside-grows : (i : Instruction) (s : Counted) → s.at ≤ (counted_outside i s).at
 counted_outside-grows (instruction.Loop from c) s = omega arith
 counted_outside-grows instruction.EndLoop s = loop_ended-grows s.around s
 counted_outside-grows (instruction.Atomic from) s = omega arith
 counted_outside-grows _ s = omega arith
 
+-- an instruction inside of blocks takes no location away
 counted_inside-grows : (more : ℕ) (i : Instruction) (s : Counted) → s.at ≤ (counted_inside more i s).at
 counted_inside-grows more (instruction.Atomic from) s = omega arith
 counted_inside-grows more instruction.EndAtomic s = omega arith
 counted_inside-grows more _ s = omega arith
 
+-- an instruction takes no location away
 counted_by-grows : (depth : ℕ) (i : Instruction) (s : Counted) → s.at ≤ (counted_by depth i s).at
 counted_by-grows zero i s = counted_outside-grows i s
 counted_by-grows (suc more) i s = counted_inside-grows more i s
 
+-- instructions take no location away
 pub counted-grows : (is : List Instruction) (s : Counted) → s.at ≤ (counted_all is s).at
 counted-grows [] s = omega arith
 counted-grows (i ∷ is) s = omega (arith, counted_by-grows s.depth i s, counted-grows is (counted s i))

@@ -8,13 +8,12 @@ use Rattle.c_check.specs.declared.operation.Operation.{Operation}
 use Rattle.c_check.specs.declared.operation.Operation.TheVariants as operation
 use Rattle.transition_formula.specs.declared.graph.Line.{Line}
 use Rattle.transition_formula.specs.Program.{Form, IsFormOver}
-use Rattle.transition_formula.specs.Forms.{column_form, constant_form, fitting_form, fitting_multiple, fitting_sum}
+use Rattle.transition_formula.specs.Forms.{column_form, constant_form, fitting_difference, fitting_form, fitting_multiple, fitting_product, fitting_sum}
 use Rattle.transition_formula.specs.Stored.{form_of}
+use Rattle.transition_formula.proofs.FormProducts.{column-over, differences-exact, fitting_constant-over, products-exact}
 use Rattle.transition_formula.proofs.FormValues.{multiples-exact, sums-exact}
 use Rattle.thread_cfg.specs.Source.{Frame, column_of}
-use Rattle.thread_cfg.specs.Edge.{fitting_difference, fitting_product}
 use Rattle.thread_cfg.specs.inside.Machine.{computed, last_of, next_temporary, on_top, relabelled, replaced, stack_after, stack_behind, stack_of, with_last, with_last_two}
-use Rattle.thread_cfg.proofs.FormLemmas.{column_form-over, constant_form-over, fitting_difference-over, fitting_product-over}
 
 -- one more line
 pub stack_of-append : (lines : List Line) (line : Line) → stack_of (lines ++ line ∷ []) ≡ form_of line ∷ stack_of lines
@@ -48,25 +47,27 @@ with_last_two-over n f (b ∷ (a ∷ stack)) next h e all = on_top-over n stack 
 pub stack_after-over : (n : ℕ) (frame : Frame) (stack next : List Form) (o : Operation) → stack_after n frame stack o ≡ Some next
     → AllByRecursion (IsFormOver n) stack → AllByRecursion (IsFormOver n) next
 stack_after-over n frame stack next (operation.Number k) e all =
-    on_top-over n stack next (fitting_form (constant_form n k)) e (λ form made. constant_form-over n k form made) all
+    on_top-over n stack next (fitting_form (constant_form n k)) e (λ form made. fitting_constant-over n k form made) all
 stack_after-over n frame stack next (operation.Value v) e all =
     let column = column_form n (column_of frame v) in
-    on_top-over n stack next (Some column) e (λ form made. subst (IsFormOver n) (same_Some column form made) (column_form-over n (column_of frame v))) all
+    on_top-over n stack next (Some column) e (λ form made. subst (IsFormOver n) (same_Some column form made) (column-over n (column_of frame v))) all
 stack_after-over n frame stack next operation.Negate e all =
     with_last-over n (fitting_multiple (negsuc 0)) stack next (λ a form made is. multiples-exact.over n (negsuc 0) a form made is) e all
 stack_after-over n frame stack next operation.Add e all =
     with_last_two-over n fitting_sum stack next (λ a b form made is are. sums-exact.over n a b form made is are) e all
 stack_after-over n frame stack next operation.Subtract e all =
-    with_last_two-over n fitting_difference stack next (λ a b form made is are. fitting_difference-over n a b form made is are) e all
+    with_last_two-over n fitting_difference stack next (λ a b form made is are. differences-exact.over n a b form made is are) e all
 stack_after-over n frame stack next operation.Multiply e all =
-    with_last_two-over n fitting_product stack next (λ a b form made is are. fitting_product-over n a b form made is are) e all
+    with_last_two-over n fitting_product stack next (λ a b form made is are. products-exact.over n a b form made is are) e all
 
 -- ---- one operation more
 
+-- what holds of relabelled operations holds of the first one and of the rest
 pub relabelled-next : (P : Operation → Type 0) (next : Option ℕ) (os rest : List Operation) (o : Operation) → os ≡ o ∷ rest
     → AllByRecursion P (relabelled next os) → P (replaced next o) × AllByRecursion P (relabelled (next_temporary next o) rest)
 relabelled-next P next os rest o e all = rw e at all
 
+-- behind the first operation the rest gives what all give
 pub stack_behind-next : (n : ℕ) (frame : Frame) (next : Option ℕ) (os rest : List Operation) (o : Operation) (stack more : List Form) (whole : Option (List Form))
     → os ≡ o ∷ rest → Some more ≡ stack_after n frame stack (replaced next o) → stack_behind n frame (relabelled next os) stack ≡ whole
     → stack_behind n frame (relabelled (next_temporary next o) rest) more ≡ whole
@@ -76,6 +77,7 @@ stack_behind-next n frame next os rest o stack more whole e made all =
 
 -- ---- behind all of them
 
+-- operations leave forms over the width, where those in front were
 pub stack_behind-over : (n : ℕ) (frame : Frame) (os : List Operation) (stack next : List Form) → stack_behind n frame os stack ≡ Some next
     → AllByRecursion (IsFormOver n) stack → AllByRecursion (IsFormOver n) next
 stack_behind-over n frame [] stack next e all = subst (λ l. AllByRecursion (IsFormOver n) l) (same_Some stack next e) all

@@ -2,6 +2,7 @@
 use Rattle.std.proofs.Common.{◌≡◌, ℕ, zero, suc, ◌+◌, ◌<◌, ◌≤◌, List, [], ◌∷◌, length, filter, Some, refl, sym, ap, arith, slice_get, slice_index_or, ◌∙◌}
 use Rattle.std.proofs.lemmas.Option.{slice_get-map}
 use Rattle.std.specs.Option.{option_map}
+use Rattle.thr_base.specs.Limits.{most_columns, most_threads}
 use Rattle.c_tree.specs.Plain as plain
 use Rattle.c_check.specs.declared.plan.Plan.{Plan}
 use Rattle.c_check.specs.declared.plan.Thread.{Thread}
@@ -21,19 +22,21 @@ use Rattle.thread_cfg.proofs.Numbered.{none-some, some-same}
 use Rattle.thread_cfg.proofs.RunningThreads.{functions-there, running-is, threads-running, variables-counted}
 use Rattle.thread_cfg.proofs.Withins.{thread_actions-within}
 
+-- What is known of a thread of a plan: which one of the text runs so, with its function, and that all its actions are within the columns.
 pub record IsStep (tree : plain.Tree) (plan : Plan) (i : ℕ) (thread : Thread) : Type 0 where
   pub running : Running
   pub running_is : slice_get (threads_running tree) i ≡ Some running
   pub frame_is : running.frame ≡ record { thread = i + 1; first = thread.first; variables = length (filter (λ c. is_variable c.kind) plan.columns) }
   pub function_is : slice_get plan.functions thread.function ≡ Some (stored_function running.function)
   pub function_in : thread.function < length plan.functions
-  pub few_threads : i < 8
-  pub few_columns : length plan.columns ≤ 64
+  pub few_threads : i < most_threads
+  pub few_columns : length plan.columns ≤ most_columns
   pub columns_are : length plan.columns ≡ length (columns_of tree)
   pub threads_are : length plan.threads ≡ length (threads_running tree)
   pub has_counters : length plan.threads ≤ length plan.columns
   pub within : ActionsWithin (length plan.columns) running.frame (actions_of running)
 
+-- of a thread of a known plan all this is known
 pub step-is : (tree : plain.Tree) (plan : Plan) (known : IsKnownPlan tree plan) (i : ℕ) (thread : Thread) → slice_get plan.threads i ≡ Some thread → IsStep tree plan i thread
 step-is tree plan known i thread at =
     let there : slice_get (threads_of tree) i ≡ Some thread = ap (λ ts. slice_get ts i) (sym known.plan_is.threads_are) ∙ at in
@@ -48,8 +51,8 @@ step-is tree plan known i thread at =
     let is = running-is tree plan known.plan_is known.well_formed (suc i) running running_is in
     let columns : length plan.columns ≡ length (columns_of tree) = ap length known.plan_is.columns_are in
     let threads : length plan.threads ≡ length (threads_running tree) = sym (threads-running tree plan known.plan_is known.well_formed) in
-    let few : length plan.columns ≤ 64 = known.well_formed.few_columns in
-    let some : length plan.threads ≤ 8 = known.well_formed.few_threads in
+    let few : length plan.columns ≤ most_columns = known.well_formed.few_columns in
+    let some : length plan.threads ≤ most_threads = known.well_formed.few_threads in
     let below = get-below plan.threads i thread at in
     let counters = counters-within tree plan known.plan_is known.well_formed in
     record {

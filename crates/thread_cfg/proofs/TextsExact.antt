@@ -21,12 +21,14 @@ use Rattle.thread_cfg.specs.Read.{IsProgramText, Refuses, not_text_at, not_in_pr
 
 -- ---- texts
 
+-- a text has one tree and one program
 same-program : (bytes : List ℕ) (tree other : Tree) (program more : Program) → IsProgramText bytes tree program → IsProgramText bytes other more
     → (tree ≡ other) × (program ≡ more)
 same-program bytes tree other program more one two =
     let same : tree ≡ other = one_tree bytes tree other one.is_tree two.is_tree in
     (same, one.program_is ∙ ap (λ (t : Tree). program_of (plain_tree t)) same ∙ sym two.program_is)
 
+-- a text with a program is not refused
 not-refused : (bytes : List ℕ) (tree : Tree) (program : Program) (d : Refusal) → IsProgramText bytes tree program → ¬ Refuses bytes d
 not-refused bytes tree program d is (Refuses.not_text_at none) = none is.utf8
 not-refused bytes tree program d is (Refuses.not_in_profile refusal utf8 refused) = tree_not_refused bytes tree refusal is.is_tree refused
@@ -35,6 +37,7 @@ not-refused bytes tree program d is (Refuses.not_in_form other refusal utf8 is_t
 not-refused bytes tree program d is (Refuses.not_fit other refusal utf8 is_tree accepted first) =
     none-first (refusals_of (plain_tree other)) refusal (subst (λ (t : Tree). refusals_of (plain_tree t) ≡ []) (one_tree bytes tree other is.is_tree is_tree) is.fits) first
 
+-- a text has one refusal
 same-refusal : (bytes : List ℕ) (d e : Refusal) → Refuses bytes d → Refuses bytes e → d ≡ e
 same-refusal bytes d e (Refuses.not_text_at none) (Refuses.not_text_at also) = refl
 same-refusal bytes d e (Refuses.not_text_at none) (Refuses.not_in_profile f utf8 refused) = absurd (none utf8)
@@ -58,6 +61,7 @@ same-refusal bytes d e (Refuses.not_fit t f utf8 is_tree accepted first) (Refuse
     one-first (Contains (refusals_of (plain_tree u))) f g
     (subst (λ (x : Tree). IsFirst (Contains (refusals_of (plain_tree x))) f) (one_tree bytes t u is_tree is_other) first) next
 
+-- bytes have a program or a refusal
 program-or-refusal : (bytes : List ℕ) → ((tree : Tree) × (program : Program) × IsProgramText bytes tree program) ⊎ ((d : Refusal) × Refuses bytes d)
 program-or-refusal bytes = by_text (is_utf8 bytes) refl
   where
@@ -82,5 +86,6 @@ program-or-refusal bytes = by_text (is_utf8 bytes) refl
     by_text true e = by_tree (IsUtf8-from_is_utf8 bytes e) (tree_or_refusal bytes)
     by_text false e = inr (_, not_text_at (λ utf8. true≢false (sym (is_utf8-from_IsUtf8 bytes utf8) ∙ e)))
 
+-- bytes have a program or a refusal, one of these, and never both
 pub texts-are-read-exactly : TextsAreReadExactly
 texts-are-read-exactly = record { one = same-program; one_refusal = same-refusal; not_both = not-refused; either = program-or-refusal }

@@ -183,9 +183,11 @@ abbrev AreOfSide : Frame → List Path → Side → List Path → Type 0
 AreOfSide frame ps side more =
     (values after : List ℤ) (end : WayEnd) → SomeGone frame values ps after end ↔ SideFollows frame values side more after end
 
+-- The paths are those of the items, with more behind them.
 abbrev AreOf : Frame → List Path → Items → List Path → Type 0
 AreOf frame ps is more = (values after : List ℤ) (end : WayEnd) → SomeGone frame values ps after end ↔ Follows frame values is more after end
 
+-- the item that asks a comparison
 abbrev compared_item : Mark → Arithmetic → Arithmetic → Side → Side → Item
 compared_item m a b t f = Item.Branch (Some (record { mark = m; left = a; right = b })) t f
 
@@ -224,6 +226,7 @@ test-follow frame (Test.And u v) ts fs more t f ht hf =
 test-follow frame (Test.Or u v) ts fs more t f ht hf =
     test-follow frame u ts (test_paths v ts fs) more t (Side.Goes (branch (test_guard Grain.Whole v) t f)) ht (test-follow frame v ts fs more t f ht hf)
 
+-- the paths of a condition are those through its branch
 condition-follow : (frame : Frame) (condition : Condition) (ts fs more : List Path) (t f : Side)
     → AreOfSide frame ts t more → AreOfSide frame fs f more → AreOf frame (condition_paths condition ts fs) (branch (guard Grain.Whole condition) t f) more
 condition-follow frame (Condition.Tested from test) ts fs more t f ht hf values after end = test-follow frame test ts fs more t f ht hf values after end
@@ -307,6 +310,7 @@ any-follow frame v more values after end =
     )
 
 mutual
+  -- the paths of a statement are those through its items
   stmt-follow : (frame : Frame) (s : Stmt) (more : List Path) → AreOf frame (stmt_paths s more) (stmt_items Grain.Whole s) more
   stmt-follow frame (Stmt.Assign from at v e) more = assign-follow frame at v e more
   stmt-follow frame (Stmt.AssignAny from v) more = any-follow frame v more
@@ -325,6 +329,7 @@ mutual
       test-follow frame t more [] more (Side.Goes Items.End) Side.Nowhere (empty-side frame more) (nowhere-side frame more)
   stmt-follow frame (Stmt.Atomic from inner) more = none-follow frame (Item.Atomic (items Grain.Whole inner)) more (λ values l e h. h)
 
+  -- the paths of statements are those through their items
   stmts-follow : (frame : Frame) (ss : Stmts) (more : List Path) → AreOf frame (paths ss more) (items Grain.Whole ss) more
   stmts-follow frame Stmts.End more values after end = empty-side frame more values after end
   stmts-follow frame (Stmts.Then s rest) more values after end =

@@ -6,7 +6,7 @@ use Rattle.thr_base.specs.Number.{fits}
 use Rattle.lin_rows.specs.Row.{Row}
 use Rattle.c_check.specs.Plan.{Arithmetic}
 use Rattle.transition_formula.specs.Program.{Form, Edge}
-use Rattle.transition_formula.specs.Forms.{column_form, constant_form, fitting_composition, fitting_form, fitting_multiple, fitting_sum, form_multiple, form_sum}
+use Rattle.transition_formula.specs.Forms.{column_form, constant_form, fitting_composition, fitting_difference, fitting_form, fitting_multiple, fitting_product, fitting_sum}
 use Rattle.thread_cfg.specs.declared.relation.Relation.{Relation}
 use Rattle.thread_cfg.specs.declared.relation.Relation.TheVariants as related
 use Rattle.thread_cfg.specs.Source.{Frame, column_of}
@@ -14,19 +14,6 @@ use Rattle.thread_cfg.specs.Path.{Event}
 use Rattle.thread_cfg.specs.Action.{Alternative}
 
 -- ---- expressions as forms, where each product and sum fits
-
--- the difference, where each of its numbers fits
-abbrev pub fitting_difference : Form → Form → Option Form
-fitting_difference one other = fitting_form (form_sum one (form_multiple (negsuc 0) other))
-
--- the form has one value everywhere
-abbrev pub is_constant : Form → Bool
-is_constant form = list_all (int_eq (pos 0)) form.coefficients
-
--- the product of two forms of which one is constant, where each of its numbers fits
-abbrev pub fitting_product : Form → Form → Option Form
-fitting_product one other =
-    if is_constant one then fitting_multiple one.constant other else (if is_constant other then fitting_multiple other.constant one else None)
 
 -- an expression as a form over so many columns
 abbrev pub form_of : ℕ → Frame → Arithmetic → Option Form

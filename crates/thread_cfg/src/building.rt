@@ -1,6 +1,7 @@
 //! The program of a plan, or the first reason why there is none.
 
 ghost use Rattle.std.specs.Prelude.{◌≡◌, ◌+◌, ◌<◌, ℕ, List, filter, length, IfOk, slice_get, Some, take};
+ghost use Rattle.thr_base.specs.Limits.{most_threads};
 ghost use Rattle.c_tree.specs.Plain as plain;
 ghost use Rattle.c_tree.specs.declared.item.Tree.{Tree};
 ghost use Rattle.c_tree.specs.Seen.{plain_tree};
@@ -31,7 +32,7 @@ struct Graphs {
 
 /// What the i-th thread is among the columns, from 0.
 fn frame_of(plan: &Plan, i: usize, thread: Thread) -> Frame
-    requires { i < 8 }
+    requires { i < most_threads }
     ensures { frame_of result ≡ record { thread = i + 1; first = thread.first; variables = length (filter (λ c. is_variable c.kind) plan.now.columns) } }
 {
     Frame {

@@ -12,7 +12,6 @@ ghost use Rattle.thread_cfg.specs.inside.Seen.{form_seen};
 use crate::event::Expression;
 use crate::frame::Frame;
 use crate::stack::line_of_operations;
-use crate::sums::number_line;
 use std::alloc::{AllocError, Global};
 use transition_formula::Line;
 
@@ -36,7 +35,7 @@ fn line_of(
     let columns = setting.columns;
     let frame = &setting.frame;
     match expression {
-        Expression::Number(number) => number_line(alloc, columns, *number),
+        Expression::Number(number) => Line::constant_if_fits(alloc, columns, *number),
         Expression::Value(variable) => {
             let line = Line::column(alloc, columns, frame.column(*variable))?;
             Ok(Some(line))

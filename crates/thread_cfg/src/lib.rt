@@ -33,7 +33,6 @@ mod running;
 mod sides;
 mod sizes;
 mod stack;
-mod sums;
 mod temporaries;
 mod thread;
 #[cfg(test)]

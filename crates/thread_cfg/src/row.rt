@@ -4,6 +4,7 @@ ghost use Rattle.std.specs.Prelude.{◌≡◌, pos, negsuc, neg_ℤ, length, map
 ghost use Rattle.std.specs.List.{AllByRecursion};
 ghost use Rattle.lin_rows.specs.Exact.{fitting};
 ghost use Rattle.transition_formula.specs.Program.{IsFormOver};
+ghost use Rattle.transition_formula.specs.Forms.{fitting_difference};
 ghost use Rattle.transition_formula.specs.Stored.{form_of};
 ghost use Rattle.thread_cfg.specs.Edge as specs;
 ghost use Rattle.thread_cfg.specs.inside.Machine.{ExpressionWithin};
@@ -13,7 +14,7 @@ ghost use Rattle.thread_cfg.specs.inside.Seen.{made_row_of, row_seen};
 use crate::event::Expression;
 use crate::form::{Setting, line_along};
 use crate::relation::Relation;
-use crate::sums::{difference, difference_if_fits};
+use lin_rows::difference_if_fits;
 use std::alloc::{AllocError, Global};
 use transition_formula::Line;
 
@@ -54,9 +55,9 @@ fn row_between(
     right: &Line,
 ) -> Result<Option<MadeRow>, AllocError>
     requires { length (form_of left.now).coefficients ≡ length (form_of right.now).coefficients }
-    ensures { IfOk result (λ made. option_map made_row_of made ≡ option_and_then (specs.moved equal) (specs.fitting_difference (form_of left.now) (form_of right.now))) }
+    ensures { IfOk result (λ made. option_map made_row_of made ≡ option_and_then (specs.moved equal) (fitting_difference (form_of left.now) (form_of right.now))) }
 {
-    let line = difference(alloc, left, right)?;
+    let line = left.minus(alloc, right)?;
     match line {
         Some(line) => Ok(row_of_line(equal, line)),
         None => Ok(None),

@@ -1,6 +1,7 @@
 //! A thread whose edges are found.
 
 ghost use Rattle.std.specs.Prelude.{◌≤◌};
+ghost use Rattle.thr_base.specs.Limits.{most_columns};
 
 use crate::frame::Frame;
 
@@ -10,5 +11,5 @@ pub(crate) struct Running {
     pub(crate) columns: u32,
     pub(crate) frame: Frame,
     pub(crate) temporary: usize,
-    ghost few_columns: { columns ≤ 64 },
+    ghost few_columns: { columns ≤ most_columns },
 }

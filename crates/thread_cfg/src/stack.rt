@@ -8,7 +8,6 @@ ghost use Rattle.thread_cfg.specs.inside.Machine.{OperationWithin, computed, on_
 ghost use Rattle.thread_cfg.specs.inside.Meant.{frame_of};
 
 use crate::frame::Frame;
-use crate::sums::{difference, number_line, product};
 use crate::temporaries::{next_temporary, over_temporary};
 use c_check::Operation;
 use std::alloc::{AllocError, Global};
@@ -36,7 +35,7 @@ fn line_after(
     ensures { IfOk result (λ made. on_top (stack_of stack.new.items) (option_map form_of made) ≡ stack_after columns (frame_of frame.now) (stack_of stack.old.items) operation) }
 {
     match operation {
-        Operation::Number(number) => number_line(alloc, columns, number),
+        Operation::Number(number) => Line::constant_if_fits(alloc, columns, number),
         Operation::Value(variable) => {
             let line = Line::column(alloc, columns, frame.column(variable))?;
             Ok(Some(line))
@@ -50,11 +49,11 @@ fn line_after(
             None => Ok(None),
         },
         Operation::Subtract => match last_two(stack) {
-            Some((one, other)) => difference(alloc, &one, &other),
+            Some((one, other)) => one.minus(alloc, &other),
             None => Ok(None),
         },
         Operation::Multiply => match last_two(stack) {
-            Some((one, other)) => product(alloc, &one, &other),
+            Some((one, other)) => one.product(alloc, &other),
             None => Ok(None),
         },
     }

@@ -1,6 +1,7 @@
 //! What is found of a thread: its edges, or the first reason why it is refused.
 
 ghost use Rattle.std.specs.Prelude.{◌≡◌, ◌≤◌, map, IfOk};
+ghost use Rattle.thr_base.specs.Limits.{most_columns};
 ghost use Rattle.c_check.specs.Check.{stored_function};
 ghost use Rattle.c_check.specs.Program as program;
 ghost use Rattle.thread_cfg.specs.Graph as graph;
@@ -33,7 +34,7 @@ pub(crate) fn find_edges(
     frame: &Frame,
     function: &Function,
 ) -> Result<Found, AllocError>
-    requires few_columns { columns ≤ 64 }
+    requires few_columns { columns ≤ most_columns }
     requires of_text { (f : program.Function) × (function.now ≡ stored_function f)
         × ActionsWithin columns (frame_of frame.now) (graph.actions_of (record { frame = frame_of frame.now; function = f })) }
     ensures { (f : program.Function) → function.now ≡ stored_function f

@@ -4,6 +4,7 @@ use Rattle.transition_formula.specs.AtomText.{column_texts, term_text, terms_tex
 use Rattle.transition_formula.specs.Program.{Column}
 use Rattle.std.proofs.lemmas.List.{length-map}
 
+-- There are two texts for each column, one before and one after a step.
 pub length-column_texts : (columns : List Column) → length (column_texts columns) ≡ length columns + length columns
 length-column_texts columns = simp (length-append, length-map)
 

@@ -7,6 +7,7 @@ use Rattle.thr_base.specs.Number.{Fits, number_text, digits_number}
 use Rattle.thr_base.proofs.Numbers.{IsTextOf-number_text}
 use Rattle.lin_rows.proofs.Lists.{AllByRecursion-rest}
 use Rattle.lin_rows.specs.Row.{Row}
+use Rattle.lin_rows.proofs.Numbers.{Fits-unsigned_abs}
 use Rattle.transition_formula.specs.Program.{Column}
 use Rattle.transition_formula.specs.AtomText.{factor, joint, term_text, terms_text, column_texts, atom_width}
 use Rattle.transition_formula.specs.TextLaws.{AtomTextsTellAtoms}
@@ -14,10 +15,11 @@ use Rattle.transition_formula.proofs.AtomTexts.{length-column_texts}
 use Rattle.transition_formula.proofs.ColumnTexts.{column_texts-words, column_texts-apart}
 use Rattle.transition_formula.specs.inside.AtomReading.{IsPlain, IsWord, HasNoMinus}
 use Rattle.transition_formula.proofs.Words.{number_text-plain, factor-one, factor-more, no_stars}
-use Rattle.transition_formula.proofs.Terms.{size-some, size-fits, term_text-some, term_text-none, factored-no_blanks, factored-no_minus}
+use Rattle.transition_formula.proofs.Terms.{size-some, term_text-some, term_text-none, factored-no_blanks, factored-no_minus}
 
 -- ---- texts that are cut at a mark
 
+-- Texts that agree up to a mark, which is in neither front, have the same front and the same rest.
 cut : (mark : ℕ) (xs a ys b : List ℕ) → AllByRecursion (λ c. c ≢ mark) xs → AllByRecursion (λ c. c ≢ mark) ys → xs ++ (mark ∷ a) ≡ ys ++ (mark ∷ b) → (xs ≡ ys) × (a ≡ b)
 cut mark [] a [] b p q e = let same : a ≡ b = cc in (refl, same)
 cut mark [] a (y ∷ ys) b p q e = let same : mark ≡ y = cc in absurd (q.0 (sym same))
@@ -28,12 +30,14 @@ cut mark (x ∷ xs) a (y ∷ ys) b p q e =
     let rest = cut mark xs a ys b p.1 q.1 tail in
     (ap₂ (λ h t. h ∷ t) head rest.0, rest.1)
 
+-- A text without a mark has no part with the mark in it.
 no_mark : (mark : ℕ) (xs front rest : List ℕ) → AllByRecursion (λ c. c ≢ mark) xs → xs ≡ front ++ (mark ∷ rest) → ⊥
 no_mark mark xs front rest none e =
     (AllByRecursion-rest (λ c. c ≢ mark) front (mark ∷ rest) (subst (AllByRecursion (λ c. c ≢ mark)) e none)).0 refl
 
 -- ---- numbers
 
+-- Natural numbers with the same text are the same.
 number-same : (n m : ℕ) → Fits (pos n) → Fits (pos m) → number_text (pos n) ≡ number_text (pos m) → n ≡ m
 number-same n m f g e = sym (IsTextOf-number_text (pos n) f).number ∙ ap digits_number e ∙ (IsTextOf-number_text (pos m) g).number
 
@@ -46,6 +50,7 @@ no-sign n m f g e =
     let sign : get_or (number_text (pos n)) 0 0 ≡ 45 = ap (λ (t : List ℕ). get_or t 0 0) (e ∙ minus.1) in
     omega (arith, first, sign)
 
+-- Numbers with the same text are the same.
 bound-same : (b c : ℤ) → Fits b → Fits c → number_text b ≡ number_text c → b ≡ c
 bound-same (pos n) (pos m) f g e = ap pos (number-same n m f g e)
 bound-same (pos n) (negsuc m) f g e = absurd (no-sign n m f g e)
@@ -61,11 +66,13 @@ bound-same (negsuc n) (negsuc m) f g e =
 
 -- ---- words
 
+-- A text with the factor 1 does not begin as one with another factor does.
 star-first : (n m : ℕ) (x y : List ℕ) → n ≡ 1 → m ≢ 1 → IsWord x → factor n ++ x ≡ factor m ++ y → ⊥
 star-first n m x y one more is e =
     no_mark 42 x (number_text (pos m)) y (no_stars x is.bytes)
     (sym (ap (λ (f : List ℕ). f ++ x) (factor-one n one)) ∙ e ∙ ap (λ (f : List ℕ). f ++ y) (factor-more m more) ∙ append_assoc (number_text (pos m)) (42 ∷ []) y)
 
+-- Factors other than 1 that begin the same text are the same, and so is what follows.
 stars-both : (n m : ℕ) (x y : List ℕ) → n ≢ 1 → m ≢ 1 → Fits (pos n) → Fits (pos m) → factor n ++ x ≡ factor m ++ y → (n ≡ m) × (x ≡ y)
 stars-both n m x y more many f g e =
     let parts = cut 42 (number_text (pos n)) x (number_text (pos m)) y (no_stars (number_text (pos n)) (number_text-plain n f)) (no_stars (number_text (pos m)) (number_text-plain m g))
@@ -87,10 +94,12 @@ words-same n m x y f g is are e = elim (eqb_tells n 1) [
 
 -- ---- signs
 
+-- whether the number is 0 or more
 size-sign : ℤ → Bool
 size-sign (pos n) = true
 size-sign (negsuc n) = false
 
+-- Joints in front of the same text have the same sign, and the same follows.
 joints-same : (first : Bool) (k l : ℤ) (x y : List ℕ) → HasNoMinus x → HasNoMinus y → joint first k ++ x ≡ joint first l ++ y → (size-sign k ≡ size-sign l) × (x ≡ y)
 unfolding size-sign
 joints-same true (pos n) (pos m) x y p q e = (refl, e)
@@ -104,6 +113,7 @@ joints-same false (pos n) (negsuc m) x y p q e = absurd (omega (arith, ap (λ (t
 joints-same false (negsuc n) (pos m) x y p q e = absurd (omega (arith, ap (λ (t : List ℕ). get_or t 1 0) e))
 joints-same false (negsuc n) (negsuc m) x y p q e = let same : x ≡ y = cc in (refl, same)
 
+-- Numbers of one sign and one absolute value are the same.
 sizes-same : (k l : ℤ) → size-sign k ≡ size-sign l → unsigned_abs k ≡ unsigned_abs l → k ≡ l
 unfolding size-sign
 sizes-same (pos n) (pos m) s e = ap pos e
@@ -117,6 +127,7 @@ sizes-same (negsuc n) (negsuc m) s e = let same : n ≡ m = omega (arith, e) in 
 abbrev ended : Bool → List ℤ → List (List ℕ) → List ℕ → List ℕ
 ended first ks texts bound = terms_text first ks texts ++ (codes " <= " ++ bound)
 
+-- A coefficient 0 adds nothing to the terms.
 ended-none : (first : Bool) (k : ℤ) (ks : List ℤ) (text : List ℕ) (texts : List (List ℕ)) (bound : List ℕ) → k ≡ pos 0 → ended first (k ∷ ks) (text ∷ texts) bound ≡ ended first ks texts bound
 ended-none first k ks text texts bound e = rw e (same first)
   where
@@ -124,6 +135,7 @@ ended-none first k ks text texts bound e = rw e (same first)
     same true = refl
     same false = refl
 
+-- Another coefficient adds its term.
 ended-some : (first : Bool) (k : ℤ) (ks : List ℤ) (text : List ℕ) (texts : List (List ℕ)) (bound : List ℕ) → k ≢ pos 0
     → ended first (k ∷ ks) (text ∷ texts) bound ≡ joint first k ++ ((factor (unsigned_abs k) ++ text) ++ ended false ks texts bound)
 ended-some first k ks text texts bound other =
@@ -138,6 +150,7 @@ ended-some first k ks text texts bound other =
         falses true = refl
         falses false = refl
 
+-- A number is 0 or it is not.
 zero-or-not : (k : ℤ) → (k ≡ pos 0) ⊎ (k ≢ pos 0)
 zero-or-not (pos zero) = inl refl
 zero-or-not (pos (suc n)) = inr (λ e. cc)
@@ -164,9 +177,9 @@ heads-same : (first : Bool) (k l : ℤ) (x y r s : List ℕ) → Fits k → Fits
 heads-same first k l x y r s f g is are e =
     let n = unsigned_abs k in
     let m = unsigned_abs l in
-    let signs = joints-same first k l ((factor n ++ x) ++ (32 ∷ r)) ((factor m ++ y) ++ (32 ∷ s)) (factored-no_minus n x r (size-fits k f) is) (factored-no_minus m y s (size-fits l g) are) e in
-    let parts = cut 32 (factor n ++ x) r (factor m ++ y) s (factored-no_blanks n x (size-fits k f) is) (factored-no_blanks m y (size-fits l g) are) signs.1 in
-    let words = words-same n m x y (size-fits k f) (size-fits l g) is are parts.0 in
+    let signs = joints-same first k l ((factor n ++ x) ++ (32 ∷ r)) ((factor m ++ y) ++ (32 ∷ s)) (factored-no_minus n x r (Fits-unsigned_abs k f) is) (factored-no_minus m y s (Fits-unsigned_abs l g) are) e in
+    let parts = cut 32 (factor n ++ x) r (factor m ++ y) s (factored-no_blanks n x (Fits-unsigned_abs k f) is) (factored-no_blanks m y (Fits-unsigned_abs l g) are) signs.1 in
+    let words = words-same n m x y (Fits-unsigned_abs k f) (Fits-unsigned_abs l g) is are parts.0 in
     (sizes-same k l signs.0 words.0, words.1, parts.1)
 
 -- the end is no term
@@ -207,6 +220,7 @@ abbrev pub Apart : List (List ℕ) → Type 0
 Apart [] = Unit {0}
 Apart (x ∷ xs) = AllByRecursion (λ y. y ≢ x) xs × Apart xs
 
+-- Terms with the same text over texts that differ have the same coefficients and the same bound.
 pub terms-same : (first : Bool) (ks ls : List ℤ) (texts : List (List ℕ)) (b c : List ℕ) → length ks ≡ length ls → length ks ≤ length texts → AllByRecursion Fits ks → AllByRecursion Fits ls
     → AllByRecursion IsWord texts → Apart texts → ended first ks texts b ≡ ended first ls texts c → (ks ≡ ls) × (b ≡ c)
 terms-same first [] [] texts b c same within fs gs ws apart e = let bounds : b ≡ c = cc in (refl, bounds)
@@ -245,10 +259,12 @@ terms-same first (k ∷ ks) (l ∷ ls) (x ∷ texts) b c same within fs gs ws ap
 
 -- ---- atoms
 
+-- What holds at each place holds of each text.
 each-at : (P : List ℕ → Type 0) (xs : List (List ℕ)) → ((j : ℕ) → j < length xs → P (get_or xs j [])) → AllByRecursion P xs
 each-at P [] each = tt
 each-at P (x ∷ xs) each = (each 0 (omega arith), each-at P xs (λ j h. each (suc j) (omega arith)))
 
+-- Texts that differ at any two places differ in pairs.
 apart-from : (xs : List (List ℕ)) → ((i j : ℕ) → i < j → j < length xs → get_or xs j [] ≢ get_or xs i []) → Apart xs
 apart-from [] each = tt
 apart-from (x ∷ xs) each = (
@@ -256,13 +272,16 @@ apart-from (x ∷ xs) each = (
   apart-from xs (λ i j below within. each (suc i) (suc j) (omega arith) (omega arith)),
 )
 
+-- An atom has no more columns than there are texts.
 width-within : (columns : List Column) (env : Bool) → atom_width columns env ≤ length (column_texts columns)
 width-within columns true = omega (arith, length-column_texts columns)
 width-within columns false = omega (arith, length-column_texts columns)
 
+-- Inequalities with the same parts are the same.
 row-same : (a b : Row) → a.equal ≡ false → b.equal ≡ false → a.coefficients ≡ b.coefficients → a.bound ≡ b.bound → a ≡ b
 row-same a b p q e f = λ i. record { equal = (p ∙ sym q) i; coefficients = e i; bound = f i }
 
+-- Atoms with the same text are the same.
 pub atoms-told : AtomTextsTellAtoms
 atoms-told program env one other text is first second =
     let texts = column_texts program.columns in

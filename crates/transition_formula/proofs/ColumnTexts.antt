@@ -16,23 +16,29 @@ use Rattle.transition_formula.proofs.Words.{each-from_digits}
 
 -- ---- the bytes of texts
 
+-- The first byte of a name is one of a text.
 name_start-byte : (b : ℕ) → is_name_start b ≡ true → is_text_byte b ≡ true
 name_start-byte b e = grind (arith, nat_tests)
 
+-- A byte of a name is one of a text.
 name-byte : (b : ℕ) → (is_name_start b || is_ascii_digit b) ≡ true → is_text_byte b ≡ true
 name-byte b e = grind (arith, nat_tests)
 
+-- A digit is a byte of a text.
 digit-byte : (b : ℕ) → IsAsciiDigit b → is_text_byte b ≡ true
 digit-byte b e = grind (arith, nat_tests)
 
+-- The first part of a test that holds holds.
 both_true-left : (a b : Bool) → (a && b) ≡ true → a ≡ true
 both_true-left true b e = refl
 both_true-left false b e = e
 
+-- The second part of a test that holds holds.
 both_true-right : (a b : Bool) → (a && b) ≡ true → b ≡ true
 both_true-right true b e = e
 both_true-right false b e = cc
 
+-- What a test says of a byte holds of each byte of a list that passes it.
 each-from_list_all : (p : ℕ → Bool) (P : ℕ → Type 0) → ((b : ℕ) → p b ≡ true → P b) → (xs : List ℕ) → list_all p xs ≡ true → AllByRecursion P xs
 each-from_list_all p P gives [] all = tt
 each-from_list_all p P gives (x ∷ xs) all = (gives x (both_true-left (p x) (list_all p xs) all), each-from_list_all p P gives xs (both_true-right (p x) (list_all p xs) all))
@@ -41,6 +47,7 @@ each-from_list_all p P gives (x ∷ xs) all = (gives x (both_true-left (p x) (li
 abbrev pub IsTextByte : ℕ → Type 0
 IsTextByte b = is_text_byte b ≡ true
 
+-- A name has bytes of texts alone.
 name-bytes : (name : List ℕ) → is_c_name name ≡ true → AllByRecursion IsTextByte name
 name-bytes [] e = cc
 name-bytes (b ∷ bytes) e = (
@@ -48,13 +55,16 @@ name-bytes (b ∷ bytes) e = (
   each-from_list_all (λ c. is_name_start c || is_ascii_digit c) IsTextByte name-byte bytes (both_true-right (is_name_start b) _ e),
 )
 
+-- A name is not empty.
 name-some : (name : List ℕ) → is_c_name name ≡ true → 0 < length name
 name-some [] e = cc
 name-some (b ∷ bytes) e = omega arith
 
+-- The text of a number has bytes of texts alone.
 number-bytes : (n : ℕ) → Fits (pos n) → AllByRecursion IsTextByte (number_text (pos n))
 number-bytes n fits = each-from_digits IsTextByte digit-byte (number_text (pos n)) (IsTextOf-number_text (pos n) fits).digits
 
+-- The text of a shared column has bytes of texts alone.
 shared-bytes : (threads : ℕ) (text : List ℕ) → Fits (pos threads) → IsSharedText threads text → AllByRecursion IsTextByte text
 shared-bytes threads text few (variable _ is) = name-bytes text is
 shared-bytes threads _ few (started i at) =
@@ -62,6 +72,7 @@ shared-bytes threads _ few (started i at) =
 shared-bytes threads _ few (done i at) =
     AllByRecursion-append IsTextByte (codes "$done") (number_text (pos i)) (refl, (refl, (refl, (refl, (refl, tt))))) (number-bytes i (omega (arith, few, at.1)))
 
+-- The name of an own column has bytes of texts alone.
 own-bytes : (name : List ℕ) → IsOwnName name → AllByRecursion IsTextByte name
 own-bytes name (local _ is) = name-bytes name is
 own-bytes _ (declared_again name n is many fits) =
@@ -69,6 +80,7 @@ own-bytes _ (declared_again name n is many fits) =
 own-bytes _ (temporary k some fits) = (refl, number-bytes k fits)
 own-bytes _ counter = (refl, (refl, (refl, tt)))
 
+-- The text of an own column has bytes of texts alone.
 own_text-bytes : (i : ℕ) (name : List ℕ) → Fits (pos i) → AllByRecursion IsTextByte name → AllByRecursion IsTextByte (own_text i name)
 own_text-bytes i name fits all = (refl, AllByRecursion-append IsTextByte (number_text (pos i)) (codes "." ++ name) (number-bytes i fits) (refl, all))
 
@@ -78,6 +90,7 @@ text-bytes threads None text few is = shared-bytes threads text few is
 text-bytes threads (Some i) text few is =
     rw is.text_is (own_text-bytes i is.name (omega (arith, few, is.thread_is.1)) (own-bytes is.name is.name_is))
 
+-- The text of a shared column is not empty.
 shared-some : (threads : ℕ) (text : List ℕ) → IsSharedText threads text → 0 < length text
 shared-some threads text (variable _ is) = name-some text is
 shared-some threads _ (started i at) = omega arith
@@ -90,12 +103,15 @@ text-some threads (Some i) text is = rw is.text_is (omega arith)
 
 -- ---- words
 
+-- A byte of texts differs from a byte that is none.
 text_byte-is_not : (b c : ℕ) → is_text_byte b ≡ true → is_text_byte c ≡ false → b ≢ c
 text_byte-is_not b c passes fails e = let wrong : is_text_byte c ≡ true = rw (← e) passes in cc
 
+-- A byte of texts is none of the marks between the parts of an atom.
 text_byte-plain : (b : ℕ) → IsTextByte b → IsPlain b
 text_byte-plain b passes = record { no_blank = text_byte-is_not b 32 passes refl; no_star = text_byte-is_not b 42 passes refl; no_minus = text_byte-is_not b 45 passes refl }
 
+-- The text of a column is a word.
 IsWord-column : (threads : ℕ) (column : Column) → Fits (pos threads) → IsColumn threads column → IsWord column.text
 IsWord-column threads column few is = record {
   some = text-some threads column.owner column.text is.text_is;
@@ -107,28 +123,35 @@ no_quotes : (threads : ℕ) (column : Column) → Fits (pos threads) → IsColum
 no_quotes threads column few is =
     AllByRecursion-weaken IsTextByte (λ b. b ≢ 39) (λ b passes. text_byte-is_not b 39 passes refl) column.text (text-bytes threads column.owner column.text few is.text_is)
 
+-- The number of a program's threads fits.
 pub few-threads : (program : Program) → IsProgram program → Fits (pos (length program.threads))
 few-threads program is = omega (arith, is.few_threads)
 
+-- A word with the mark of what comes after a step is a word.
 IsWord-after : (text : List ℕ) → IsWord text → IsWord (text ++ (39 ∷ []))
 IsWord-after text is = record {
   some = omega (arith, is.some, length-append text (39 ∷ []));
   bytes = AllByRecursion-append IsPlain text (39 ∷ []) is.bytes (record { no_blank = λ e. omega arith; no_star = λ e. omega arith; no_minus = λ e. omega arith }, tt);
 }
 
+-- the texts of columns before a step
 abbrev texts_of : List Column → List (List ℕ)
 texts_of columns = map (λ column. column.text) columns
 
+-- the texts of columns after a step
 abbrev afters_of : List (List ℕ) → List (List ℕ)
 afters_of texts = map (λ text. text ++ (39 ∷ [])) texts
 
+-- The texts after a step are those before it with a mark.
 afters-are : (columns : List Column) → map (λ column. column.text ++ (39 ∷ [])) columns ≡ afters_of (texts_of columns)
 afters-are [] = refl
 afters-are (column ∷ columns) = ap (λ rest. (column.text ++ (39 ∷ [])) ∷ rest) (afters-are columns)
 
+-- The texts of columns are those before a step and then those after it.
 column_texts-are : (columns : List Column) → column_texts columns ≡ texts_of columns ++ afters_of (texts_of columns)
 column_texts-are columns = ap (λ rest. texts_of columns ++ rest) (afters-are columns)
 
+-- All texts of a program's columns are words.
 pub column_texts-words : (program : Program) → IsProgram program → AllByRecursion IsWord (column_texts program.columns)
 column_texts-words program is =
     let texts = texts_of program.columns in
@@ -143,15 +166,19 @@ quote-at_end [] (y ∷ ys) none e = cc
 quote-at_end (x ∷ xs) [] none e = let same : x ≡ 39 = cc in none.0 same
 quote-at_end (x ∷ xs) (y ∷ ys) none e = let same : xs ≡ ys ++ (39 ∷ []) = cc in quote-at_end xs ys none.1 same
 
+-- The text after a step, at a place, is the one before it with a mark.
 after-at : (texts : List (List ℕ)) (k : ℕ) → k < length texts → get_or (afters_of texts) k [] ≡ get_or texts k [] ++ (39 ∷ [])
 after-at texts k within = get_or-map (λ (text : List ℕ). text ++ (39 ∷ [])) texts k [] [] within
 
+-- The first texts are those before a step.
 text-at : (texts : List (List ℕ)) (k : ℕ) → k < length texts → get_or (texts ++ afters_of texts) k [] ≡ get_or texts k []
 text-at texts k within = get_or-append texts (afters_of texts) [] k within
 
+-- The others are those after a step.
 text-at_after : (texts : List (List ℕ)) (k : ℕ) → length texts ≤ k → k < length texts + length texts → get_or (texts ++ afters_of texts) k [] ≡ get_or texts (k - length texts) [] ++ (39 ∷ [])
 text-at_after texts k behind within = get_or-append_right texts (afters_of texts) (length texts) k [] refl behind ∙ after-at texts (k - length texts) (omega arith)
 
+-- Texts before and after a step differ where those before it do and none has the mark.
 texts-apart : (texts : List (List ℕ)) → AllPairs (λ a b. a ≢ b) texts → AllByRecursion (λ text. AllByRecursion (λ b. b ≢ 39) text) texts
     → (i j : ℕ) → i < j → j < length texts + length texts
     → get_or (texts ++ afters_of texts) j [] ≢ get_or (texts ++ afters_of texts) i []

@@ -17,6 +17,7 @@ pub mod NormalAtoms
 pub mod Runs
 pub mod FittingLists
 pub mod FormValues
+pub mod FormProducts
 pub mod FormSteps
 pub mod AtomsTold
 pub mod PrintableTexts

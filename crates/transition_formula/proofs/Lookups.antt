@@ -15,6 +15,7 @@ slice_get-mapped f [] (suc k) x h e = cc
 slice_get-mapped f (y ∷ ys) zero x h e = ap (λ v. Some (f v)) (sym e)
 slice_get-mapped f (y ∷ ys) (suc k) x h e = slice_get-mapped f ys k x h e
 
+-- The image with a number is that of the element at its place.
 pub numbered-mapped : {A B : Type 0} (f : A → B) (xs : List A) (i : ℕ) (x : A) → IsSome (at_number (map f xs) i) → x ≡ get_or xs (i - 1) x → at_number (map f xs) i ≡ Some (f x)
 numbered-mapped f xs zero x h e = cc
 numbered-mapped f xs (suc k) x h e = slice_get-mapped f xs k x h (simp unary_clauses at e)
@@ -35,6 +36,7 @@ drop-slice_get (y ∷ ys) (suc k) x e = drop-slice_get ys k x e
 pub take-slice_get : {A : Type 0} (xs : List A) (k : ℕ) (x : A) → slice_get xs k ≡ Some x → take (k + 1) xs ≡ take k xs ++ x ∷ []
 take-slice_get xs k x e = take_more xs k x (slice_get_within xs k x e) ∙ ap (λ r. take k xs ++ r ∷ []) (get_or_from_slice_get xs k x x e)
 
+-- An element has a number from 1 to the length.
 pub numbered-within : {A : Type 0} (xs : List A) (i : ℕ) (x : A) → at_number xs i ≡ Some x → (0 < i) × (i ≤ length xs)
 numbered-within xs zero x e = cc
 numbered-within xs (suc k) x e = let h = slice_get_within xs k x e in (omega arith, omega arith)

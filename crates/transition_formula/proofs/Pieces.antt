@@ -15,15 +15,18 @@ use Rattle.transition_formula.specs.declared.graph.Edge.{Edge as StoredEdge}
 use Rattle.transition_formula.proofs.Lookups.{drop-slice_get, take-slice_get}
 
 -- ---- kept columns
+-- A column is set by what is stored exactly where it is set by what that stands for.
 list_any-set_of : (c : ℕ) (sets : List (ℕ × Line)) → list_any (λ set. set.0 == c) (map set_of sets) ≡ list_any (λ set. set.0 == c) sets
 list_any-set_of c [] = refl
 list_any-set_of c (set ∷ sets) = ap (λ b. (set.0 == c) || b) (list_any-set_of c sets)
 
+-- A column other than the counter is kept where no set is found.
 pub is_kept-other : (counter : ℕ) (edge : StoredEdge) (c : ℕ) (found : Bool) → c ≢ counter → found ≡ list_any (λ set. set.0 == c) edge.sets.items → not found ≡ is_kept counter (edge_of edge) c
 is_kept-other counter edge c found other is =
     let apart : (c == counter) ≡ false = ne_eqb c counter other in
     rw apart (ap not (is ∙ sym (list_any-set_of c edge.sets.items)))
 
+-- With one more column looked at, those that are left make the same whole.
 pub kept-next : (f : ℕ → Row) (p : ℕ → Bool) (done more total : List Row) (c n : ℕ) → c < n → more ≡ done ++ map f (filter p (c ∷ []))
     → done ++ map f (filter p (range_with_len c (n - c))) ≡ total → more ++ map f (filter p (range_with_len (c + 1) (n - (c + 1)))) ≡ total
 kept-next f p done more total c n below is made =
@@ -36,18 +39,22 @@ kept-next f p done more total c n below is made =
     ∙ ap (λ k. done ++ map f (filter p (range_with_len c k))) (sym left)
     ∙ made
 
+-- A column adds one row at most.
 at_most_one : (f : ℕ → Row) (b : Bool) (c : ℕ) → length (map f (cond b (c ∷ []) [])) ≤ 1
 at_most_one f true c = omega arith
 at_most_one f false c = omega arith
 
+-- The rows of kept columns are no more than the columns looked at.
 pub kept-room : (f : ℕ → Row) (p : ℕ → Bool) (done more : List Row) (c n : ℕ) → more ≡ done ++ map f (filter p (c ∷ [])) → length done ≤ n + c → length more ≤ n + (c + 1)
 kept-room f p done more c n is room = omega (arith, ap length is, length-append done (map f (filter p (c ∷ []))), at_most_one f (p c) c)
 
 -- ---- starts
+-- The row of a start stands in front of the others.
 pub start_row-before : (w c : ℕ) (start : Option ℤ) (rows : List Row) → start_row w c start rows ≡ start_row w c start [] ++ rows
 start_row-before w c None rows = refl
 start_row-before w c (Some v) rows = refl
 
+-- With one more start, those that are left make the same whole.
 pub start-next : (w : ℕ) (columns : List Column) (c : ℕ) (column : Column) (done more total : List Row) → slice_get columns c ≡ Some column → more ≡ done ++ start_row w c column.start []
     → done ++ start_rows w c (drop c columns) ≡ total → more ++ start_rows w (c + 1) (drop (c + 1) columns) ≡ total
 start-next w columns c column done more total at is made =
@@ -60,14 +67,17 @@ start-next w columns c column done more total at is made =
     ∙ made
     )
 
+-- A start adds one row at most.
 one_start : (w c : ℕ) (start : Option ℤ) → length (start_row w c start []) ≤ 1
 one_start w c None = omega arith
 one_start w c (Some v) = omega arith
 
+-- The rows of starts are no more than the columns looked at.
 pub start-room : (w c : ℕ) (start : Option ℤ) (done more : List Row) → more ≡ done ++ start_row w c start [] → length done ≤ c → length more ≤ c + 1
 start-room w c start done more is room = omega (arith, ap length is, length-append done (start_row w c start []), one_start w c start)
 
 -- ---- tests
+-- With one more row, the first k + 1 rows are appended.
 pub test-next : {A : Type 0} (f : A → Row) (initial now more : System) (xs : List A) (k : ℕ) (x : A) → slice_get xs k ≡ Some x → now ≡ with_rows initial (map f (take k xs))
     → more ≡ with_row now (f x) → more ≡ with_rows initial (map f (take (k + 1) xs))
 test-next f initial now more xs k x at made is =
@@ -78,5 +88,6 @@ test-next f initial now more xs k x at made is =
     is ∙ ap (λ system. with_row system (f x)) made ∙ ap (λ l. record { columns = initial.columns; rows = l }) rows
 
 -- ---- how many
+-- Appended rows are counted.
 pub length-with_rows : {A : Type 0} (f : A → Row) (now more : System) (xs : List A) → more ≡ with_rows now (map f xs) → length more.rows ≡ length now.rows + length xs
 length-with_rows f now more xs is = omega (arith, ap (λ system. length system.rows) is, length-append now.rows (map f xs), length-map xs f)

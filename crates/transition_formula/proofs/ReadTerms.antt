@@ -18,10 +18,12 @@ zero_or_not : (k : ℤ) → (k ≡ pos 0) ⊎ (k ≢ pos 0)
 zero_or_not (pos n) = elim (eqb_tells n 0) [ inl p ↦ inl (ap pos p.1) | inr p ↦ inr (λ e. p.1 (ap unsigned_abs e)) ]
 zero_or_not (negsuc n) = inr (λ e. cc)
 
+-- After a column with no term the first one is still to come.
 after_none : (first : Bool) (k : ℤ) → k ≡ pos 0 → (first && (unsigned_abs k == 0)) ≡ first
 after_none true k e = rw e refl
 after_none false k e = refl
 
+-- After a column with a term the first one is past.
 after_some : (first : Bool) (k : ℤ) → k ≢ pos 0 → (first && (unsigned_abs k == 0)) ≡ false
 after_some true k other = elim (eqb_tells (unsigned_abs k) 0) [ inl p ↦ absurd (size k other p.1) | inr p ↦ p.0 ]
   where
@@ -35,6 +37,7 @@ later_joint-blank : (k : ℤ) (xs : List ℕ) → (rest : List ℕ) × (joint fa
 later_joint-blank (pos n) xs = (_, refl)
 later_joint-blank (negsuc n) xs = (_, refl)
 
+-- Behind a first term comes a blank.
 pub later-blank : (ks : List ℤ) (texts : List (List ℕ)) (bound : List ℕ) → (rest : List ℕ) × (terms_text false ks texts ++ (codes " <= " ++ bound) ≡ 32 ∷ rest)
 later-blank [] texts bound = (_, refl)
 later-blank (k ∷ ks) [] bound = (_, refl)
@@ -52,16 +55,19 @@ pub data Next (first : Bool) (P : List ℕ → Type 0) (bound text : List ℕ) :
   AtBound : text ≡ codes " <= " ++ bound → Next first P bound text
   AtTerm : (k : ℤ) (name rest : List ℕ) → k ≢ pos 0 → Fits k → P name → text ≡ term_text first k name ++ (32 ∷ rest) → Next first P bound text
 
+-- Where the next term is this column's, it comes next.
 next-term : (first : Bool) (P : List ℕ → Type 0) (k : ℤ) (ks : List ℤ) (name : List ℕ) (texts : List (List ℕ)) (bound : List ℕ) → k ≢ pos 0 → Fits k → P name
     → Next first P bound (terms_text first (k ∷ ks) (name ∷ texts) ++ (codes " <= " ++ bound))
 next-term first P k ks name texts bound other fits p =
     let rest = later-blank ks texts bound in
     AtTerm k name rest.0 other fits p (rw (after_some first k other, append_assoc, rest.1) refl)
 
+-- Where this column has no term, what comes next is that of the columns behind.
 next-none : (first : Bool) (P : List ℕ → Type 0) (k : ℤ) (ks : List ℤ) (name : List ℕ) (texts : List (List ℕ)) (bound : List ℕ) → k ≡ pos 0
     → Next first P bound (terms_text first ks texts ++ (codes " <= " ++ bound)) → Next first P bound (terms_text first (k ∷ ks) (name ∷ texts) ++ (codes " <= " ++ bound))
 next-none first P k ks name texts bound e next = rw (term_text-none first k name e, after_none first k e) next
 
+-- Some term of the columns comes next, or the bound.
 pub next-of : (first : Bool) (P : List ℕ → Type 0) (ks : List ℤ) (texts : List (List ℕ)) (bound : List ℕ) → AllByRecursion Fits ks → AllByRecursion P texts
     → Next first P bound (terms_text first ks texts ++ (codes " <= " ++ bound))
 next-of first P [] texts bound fit all = AtBound refl
@@ -82,6 +88,7 @@ pub record IsOther (name other : List ℕ) : Type 0 where
   pub word : IsWord other
   pub differs : other ≢ name
 
+-- Where the next term is of another column, this one has none.
 reads-next : (first : Bool) (name bound text : List ℕ) (k : ℤ) (len : ℕ) → ReadsTerm first name text k len → Next first (IsOther name) bound text → (k ≡ pos 0) × (len ≡ 0)
 reads-next first name bound text k len reads (AtBound is) = reads.end bound is
 reads-next first name bound text k len reads (AtTerm z other rest some fits p is) = reads.other z other rest some fits p.word p.differs is
@@ -111,6 +118,7 @@ pub record ReadSoFar (texts : List (List ℕ)) (width : ℕ) (text : List ℕ) (
   pub follows : (ks : List ℤ) (bound : List ℕ) → AllByRecursion Fits ks → length ks ≡ width → HasTerms true ks texts bound text
       → (read ≡ take column ks) × HasTerms first (drop column ks) (drop column texts) bound (drop place text)
 
+-- One column read goes on with the coefficients of the atom, where it is one.
 follows-next : (texts : List (List ℕ)) (width : ℕ) (text : List ℕ) (column place : ℕ) (first : Bool) (read : List ℤ) (name : List ℕ) (k : ℤ) (len : ℕ)
     → ReadSoFar texts width text column place first read → column < width → width ≤ length texts
     → get_or texts column [] ≡ name → AllByRecursion (IsOther name) (drop (column + 1) texts)
@@ -130,6 +138,7 @@ follows-next texts width text column place first read name k len so_far below fe
     let rest : drop (place + len) text ≡ tail = sym (drop-drop len place text) ∙ rw (here, found.1) (drop-append_seam (term_text first z name) tail) in
     (grown, record { text_is = rw found.0 rest })
 
+-- With one more column read, the coefficients so far are those of any atom of this text.
 pub so_far-next : (texts : List (List ℕ)) (width : ℕ) (text : List ℕ) (column place : ℕ) (first : Bool) (read : List ℤ) (name : List ℕ) (k : ℤ) (len : ℕ)
     → ReadSoFar texts width text column place first read → column < width → width ≤ length texts
     → get_or texts column [] ≡ name → AllByRecursion (IsOther name) (drop (column + 1) texts)

@@ -17,6 +17,7 @@ LeadTo-append program state [] before after taken lead leads = (after, subst (λ
 LeadTo-append program state (first ∷ steps) before after taken (next, one, lead) leads =
     (next, one, LeadTo-append program next steps before after taken lead leads)
 
+-- A state that is reached ends a run.
 run-to : (program : Program) (state : List ℤ) → Reaches program state → (run : Run) × IsRun program run state
 run-to program state (start _ initial) = (record { start = state; steps = [] }, record { initial = initial; lead = refl })
 run-to program state (step taken before _ reached leads) =
@@ -25,19 +26,23 @@ run-to program state (step taken before _ reached leads) =
       record { initial = is.initial; lead = LeadTo-append program run.start run.steps before state taken is.lead leads },
     )
 
+-- A state is reached exactly where a run ends in it.
 pub runs-end : RunsEndInReachedStates
 runs-end program state = (
   run-to program state,
   λ found. LeadTo-reaches program found.0.start found.0.steps state (start found.0.start found.1.initial) found.1.lead,
 )
 
+-- A run whose last state fails fails.
 FailsFrom-end : (program : Program) (state : List ℤ) (steps : List RunStep) (last : List ℤ) → LeadTo program state steps last → IsFailing program last → FailsFrom program state steps
 FailsFrom-end program state [] last lead failing = subst (λ s. IsFailing program s) (sym lead) failing
 FailsFrom-end program state (taken ∷ steps) last (next, leads, lead) failing = inr (next, leads, FailsFrom-end program next steps last lead failing)
 
+-- A run fails where its last state does.
 pub failing-states : FailingStatesEndRuns
 failing-states program run state is failing = FailsFrom-end program run.start run.steps state is.lead failing
 
+-- A run that fails comes to a state that is reached and fails.
 failing-reached : (program : Program) (state : List ℤ) (steps : List RunStep) → Reaches program state → FailsFrom program state steps
     → (found : List ℤ) × Reaches program found × IsFailing program found
 failing-reached program state [] reached fails = (state, reached, fails)
@@ -45,5 +50,6 @@ failing-reached program state (taken ∷ steps) reached (inl here) = (state, rea
 failing-reached program state (taken ∷ steps) reached (inr (next, leads, later)) =
     failing-reached program next steps (step taken state next reached leads) later
 
+-- A run fails exactly where it comes to a state that fails.
 pub failing-runs : FailingRunsReach
 failing-runs program run last is fails = failing-reached program run.start run.steps (start run.start is.initial) fails

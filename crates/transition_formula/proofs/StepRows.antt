@@ -18,11 +18,13 @@ use Rattle.transition_formula.proofs.NextValues.{next_value, is_set, AreSet, get
 use Rattle.transition_formula.proofs.Programs.{counter-within, edge-is, sets-within}
 
 -- ---- the counter
+-- The product of a column before is its value before.
 before_is : (n m c : ℕ) (before after inputs : List ℤ) → c < n → length before ≡ n
     → product_of (unit (edge_width n m) c (pos 1)) (before ++ (after ++ inputs)) ≡ get_or before c (pos 0)
 before_is n m c before after inputs h one =
     product_of-one (edge_width n m) c (before ++ (after ++ inputs)) (omega arith) ∙ get_or_append_left before (after ++ inputs) (pos 0) c (omega arith)
 
+-- The product of a column after is its value after.
 after_is : (n m c : ℕ) (before after inputs : List ℤ) → c < n → length before ≡ n → length after ≡ n
     → product_of (unit (edge_width n m) (n + c) (pos 1)) (before ++ (after ++ inputs)) ≡ get_or after c (pos 0)
 after_is n m c before after inputs h one two =
@@ -32,19 +34,24 @@ after_is n m c before after inputs h one two =
     ∙ get_or_append_left after inputs (pos 0) c (omega arith)
 
 -- ---- differences
+-- A difference of 0 makes both the same.
 none_left : (a b : ℤ) → a +ℤ neg_ℤ b ≡ pos 0 → a ≡ b
 none_left a b e = omega (arith, ints)
 
+-- A difference is added to the second number.
 some_left : (a b k : ℤ) → a +ℤ neg_ℤ b ≡ k → a ≡ b +ℤ k
 some_left a b k e = omega (arith, ints)
 
+-- The difference of a number with itself is 0.
 left_none : (a b : ℤ) → a ≡ b → a +ℤ neg_ℤ b ≡ pos 0
 left_none a b e = omega (arith, ints)
 
+-- A number less another is what was added.
 left_some : (a b k : ℤ) → a ≡ b +ℤ k → a +ℤ neg_ℤ b ≡ k
 left_some a b k e = omega (arith, ints)
 
 -- ---- tests
+-- Where the rows of tests hold, the tests hold before the step.
 tests-to : (n m : ℕ) (before after inputs : List ℤ) → length before ≡ n → length after ≡ n
     → (tests : List Row) → AllByRecursion (IsRowOver (n + m)) tests → MeetsAll (map (test_row n) tests) (before ++ (after ++ inputs)) → MeetsAll tests (before ++ inputs)
 tests-to n m before after inputs one two [] over all = tt
@@ -54,6 +61,7 @@ tests-to n m before after inputs one two (row ∷ tests) over all =
       tests-to n m before after inputs one two tests over.1 all.1,
     )
 
+-- Where tests hold before the step, their rows hold.
 tests-from : (n m : ℕ) (before after inputs : List ℤ) → length before ≡ n → length after ≡ n
     → (tests : List Row) → AllByRecursion (IsRowOver (n + m)) tests → MeetsAll tests (before ++ inputs) → MeetsAll (map (test_row n) tests) (before ++ (after ++ inputs))
 tests-from n m before after inputs one two [] over all = tt
@@ -64,6 +72,7 @@ tests-from n m before after inputs one two (row ∷ tests) over all =
     )
 
 -- ---- sets
+-- Where the rows of sets hold, the sets are done.
 sets-to : (n m : ℕ) (before after inputs : List ℤ) → length before ≡ n → length after ≡ n
     → (sets : List (ℕ × Form)) → AllByRecursion (λ set. set.0 < n) sets → AllByRecursion (λ set. IsFormOver (n + m) set.1) sets
     → MeetsAll (map (set_row n) sets) (before ++ (after ++ inputs)) → AreSet sets (before ++ inputs) after
@@ -74,6 +83,7 @@ sets-to n m before after inputs one two ((c, form) ∷ sets) within over all =
       sets-to n m before after inputs one two sets within.1 over.1 all.1,
     )
 
+-- Where sets are done, their rows hold.
 sets-from : (n m : ℕ) (before after inputs : List ℤ) → length before ≡ n → length after ≡ n
     → (sets : List (ℕ × Form)) → AllByRecursion (λ set. set.0 < n) sets → AllByRecursion (λ set. IsFormOver (n + m) set.1) sets
     → AreSet sets (before ++ inputs) after → MeetsAll (map (set_row n) sets) (before ++ (after ++ inputs))
@@ -93,38 +103,46 @@ set-below ((d, form) ∷ sets) k c below found = elim (eqb_tells d c) [
 ]
 
 -- ---- kept columns
+-- What holds of all images holds of the image of each.
 AllByRecursion-from_map : (P : Row → Type 0) (f : ℕ → Row) (xs : List ℕ) → AllByRecursion P (map f xs) → AllByRecursion (λ x. P (f x)) xs
 AllByRecursion-from_map P f [] all = tt
 AllByRecursion-from_map P f (x ∷ xs) all = (all.0, AllByRecursion-from_map P f xs all.1)
 
+-- What holds of the image of each holds of all images.
 AllByRecursion-to_map : (P : Row → Type 0) (f : ℕ → Row) (xs : List ℕ) → AllByRecursion (λ x. P (f x)) xs → AllByRecursion P (map f xs)
 AllByRecursion-to_map P f [] all = tt
 AllByRecursion-to_map P f (x ∷ xs) all = (all.0, AllByRecursion-to_map P f xs all.1)
 
+-- A point that meets all rows meets both parts.
 appended-to : (xs ys : List Row) (z : List ℤ) → MeetsAll (xs ++ ys) z → MeetsAll xs z × MeetsAll ys z
 appended-to [] ys z all = (tt, all)
 appended-to (x ∷ xs) ys z all = let rest = appended-to xs ys z all.1 in ((all.0, rest.0), rest.1)
 
+-- A point that meets both parts meets all rows.
 appended-from : (xs ys : List Row) (z : List ℤ) → MeetsAll xs z → MeetsAll ys z → MeetsAll (xs ++ ys) z
 appended-from [] ys z one other = other
 appended-from (x ∷ xs) ys z one other = (one.0, appended-from xs ys z one.1 other)
 
+-- A column that is neither the counter nor set is kept.
 kept_when : (counter c : ℕ) (edge : Edge) → counter ≢ c → is_set edge.sets c ≡ false → is_kept counter edge c ≡ true
 kept_when counter c edge other none =
     let apart : (c == counter) ≡ false = ne_eqb c counter (λ e. other (sym e)) in
     ap (λ b. not b && not (is_set edge.sets c)) apart ∙ ap not none
 
+-- Neither of two tests holds where their negations do.
 kept_cases : (a b : Bool) → (not a && not b) ≡ true → (a ≡ false) × (b ≡ false)
 kept_cases true b h = cc
 kept_cases false true h = cc
 kept_cases false false h = (refl, refl)
 
+-- A column that is kept is neither the counter nor set.
 kept_then : (counter c : ℕ) (edge : Edge) → is_kept counter edge c ≡ true → ((counter == c) ≡ false) × (is_set edge.sets c ≡ false)
 kept_then counter c edge kept =
     let h = kept_cases (c == counter) (is_set edge.sets c) kept in
     (ne_eqb counter c (λ e. let hit : (c == counter) ≡ true = eq-eqb c counter (sym e) in let wrong : true ≡ false = sym hit ∙ h.0 in cc), h.1)
 
 -- ---- the state after, column by column
+-- The value of a column after a step: the next location, the next value, or what it was.
 after_step-value : (thread : Thread) (edge : Edge) (before inputs : List ℤ) (c : ℕ) → c < length before
     → get_or (after_step thread edge before inputs) c (pos 0) ≡ cond (thread.counter == c) (pos edge.to) (next_value edge.sets (before ++ inputs) before c)
 after_step-value thread edge before inputs c h =
@@ -132,10 +150,12 @@ after_step-value thread edge before inputs c h =
     get_or-set (after_sets edge.sets w before) thread.counter c (pos edge.to) (omega (arith, length-assigned edge.sets w before))
     ∙ ap (λ v. cond (thread.counter == c) (pos edge.to) v) (get_or-assigned edge.sets w before c h)
 
+-- A state keeps its length over a step.
 pub length-after_step : (thread : Thread) (edge : Edge) (before inputs : List ℤ) → length (after_step thread edge before inputs) ≡ length before
 length-after_step thread edge before inputs =
     length-set (after_sets edge.sets (before ++ inputs) before) thread.counter (pos edge.to) ∙ length-assigned edge.sets (before ++ inputs) before
 
+-- A column has its value after a step where counter, sets and kept columns have.
 after-value : (thread : Thread) (edge : Edge) (before after inputs : List ℤ) (c : ℕ) → get_or after thread.counter (pos 0) ≡ pos edge.to → AreSet edge.sets (before ++ inputs) after
     → (is_kept thread.counter edge c ≡ true → get_or after c (pos 0) ≡ get_or before c (pos 0))
     → get_or after c (pos 0) ≡ cond (thread.counter == c) (pos edge.to) (next_value edge.sets (before ++ inputs) before c)
@@ -145,6 +165,7 @@ after-value thread edge before after inputs c target sets kept = elim (eqb_tells
 ]
 
 -- ---- all rows
+-- Where the rows of an edge hold, the thread steps by it.
 rows-to : (n : ℕ) (thread : Thread) (edge : Edge) (before after inputs : List ℤ) → length before ≡ n → length after ≡ n → length inputs ≡ edge.inputs
     → thread.counter < n → AllByRecursion (IsRowOver (n + edge.inputs)) edge.tests → AllByRecursion (λ set. set.0 < n) edge.sets → AllByRecursion (λ set. IsFormOver (n + edge.inputs) set.1) edge.sets
     → MeetsAll (edge_rows n thread.counter edge) (before ++ (after ++ inputs)) → Steps thread edge before inputs after
@@ -171,6 +192,7 @@ rows-to n thread edge before after inputs one two each counter tests_over within
           after-value thread edge before after inputs c target are_set (kept c (omega arith)) ∙ sym (after_step-value thread edge before inputs c (omega arith)));
     }
 
+-- Where the thread steps by an edge, its rows hold.
 rows-from : (n k : ℕ) (thread : Thread) (edge : Edge) (before after inputs : List ℤ) → length before ≡ n → length after ≡ n
     → k ≤ thread.counter → thread.counter < n → AllByRecursion (IsRowOver (n + edge.inputs)) edge.tests → AllByRecursion (λ set. set.0 < k) edge.sets → AllByRecursion (λ set. set.0 < n) edge.sets
     → AllByRecursion (λ set. IsFormOver (n + edge.inputs) set.1) edge.sets → IsDistinct nat_eq (map (λ set. set.0) edge.sets)
@@ -206,6 +228,7 @@ rows-from n k thread edge before after inputs one two last counter tests_over be
       ),
     )
 
+-- The rows of an edge hold at exactly the steps by it.
 pub edge_rows-exact : EdgeRowsAreExact
 edge_rows-exact program i e thread edge before after inputs is at one two each =
     let n = length program.columns in

@@ -11,15 +11,19 @@ use Rattle.transition_formula.specs.inside.Worked.{first_counter_column, second_
 use Rattle.transition_formula.proofs.OwnTexts.{first-own, second-own, first-counter, second-counter}
 use Rattle.lin_rows.proofs.Numbers.{minus_one_fits}
 
+-- The first thread's counter is one.
 first_counts : (column : Column) → Some first_counter_column ≡ Some column → IsCounter 1 column
 first_counts column at = let same : first_counter_column ≡ column = cc in subst (λ found. IsCounter 1 found) same (record { owned = refl; named = first-counter; starts = refl })
 
+-- The second thread's counter is one.
 second_counts : (column : Column) → Some second_counter_column ≡ Some column → IsCounter 2 column
 second_counts column at = let same : second_counter_column ≡ column = cc in subst (λ found. IsCounter 2 found) same (record { owned = refl; named = second-counter; starts = refl })
 
+-- A number below 10 fits.
 small : (n : ℕ) → n < 10 → Fits (pos n)
 small n h = omega arith
 
+-- The first thread's edge meets what is asked of edges.
 first_edge-is : IsEdge worked_program (worked_thread 2 first_edge) first_edge
 unfolding IsDistinct
 first_edge-is = record {
@@ -47,6 +51,7 @@ first_edge-is = record {
   sets_none_twice = (tt, tt);
 }
 
+-- The second thread's edge meets what is asked of edges.
 second_edge-is : IsEdge worked_program (worked_thread 3 second_edge) second_edge
 unfolding IsDistinct
 second_edge-is = record {
@@ -68,6 +73,7 @@ second_edge-is = record {
   sets_none_twice = (tt, tt);
 }
 
+-- The first thread meets what is asked of threads.
 first_thread-is : IsThread worked_program 1 (worked_thread 2 first_edge)
 first_thread-is = record {
   in_order = refl;
@@ -78,6 +84,7 @@ first_thread-is = record {
   edges_are = (first_edge-is, tt);
 }
 
+-- The second thread meets what is asked of threads.
 second_thread-is : IsThread worked_program 2 (worked_thread 3 second_edge)
 second_thread-is = record {
   in_order = refl;
@@ -88,6 +95,7 @@ second_thread-is = record {
   edges_are = (second_edge-is, tt);
 }
 
+-- Each thread meets what is asked of threads.
 threads-are : (i : ℕ) (thread : Thread) → IsThreadOf worked_program i thread → IsThread worked_program i thread
 threads-are zero thread at = cc
 threads-are (suc zero) thread at = let same : worked_thread 2 first_edge ≡ thread = cc in subst (λ found. IsThread worked_program 1 found) same first_thread-is
@@ -95,10 +103,12 @@ threads-are (suc (suc zero)) thread at = let same : worked_thread 3 second_edge 
 threads-are (suc (suc (suc zero))) thread at = cc
 threads-are (suc (suc (suc (suc k)))) thread at = cc
 
+-- The texts of the columns differ.
 texts-differ : IsDistinct bytes_eq ((120 ∷ []) ∷ (116 ∷ 49 ∷ 46 ∷ 108 ∷ []) ∷ (116 ∷ 49 ∷ 46 ∷ 36 ∷ 112 ∷ 99 ∷ []) ∷ (116 ∷ 50 ∷ 46 ∷ 36 ∷ 112 ∷ 99 ∷ []) ∷ [])
 unfolding IsDistinct
 texts-differ = ((refl, (refl, (refl, tt))), ((refl, (refl, tt)), ((refl, tt), (tt, tt))))
 
+-- The program of the tests meets what is asked of programs.
 pub worked-is : IsProgram worked_program
 worked-is = record {
   few_columns = omega arith;

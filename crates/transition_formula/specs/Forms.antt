@@ -1,6 +1,8 @@
--- Linear forms: their values, sums, multiples and compositions, each given where the numbers that it is made of fit.
-use Rattle.std.specs.Prelude.{ℕ, ℤ, pos, ◌+ℤ◌, ◌*ℤ◌, Bool, ◌&&◌, if◌then◌else◌, List, [], ◌∷◌, Option, Some, None, option_and_then}
+-- Linear forms: their values, sums, differences, multiples, products and compositions, each given where the numbers that it is made of
+-- fit.
+use Rattle.std.specs.Prelude.{ℕ, ℤ, pos, negsuc, ◌+ℤ◌, ◌*ℤ◌, Bool, ◌&&◌, if◌then◌else◌, List, [], ◌∷◌, Option, Some, None, option_and_then}
 use Rattle.std.specs.List.{list_all}
+use Rattle.std.specs.Ordering.{int_eq}
 use Rattle.thr_base.specs.Number.{fits}
 use Rattle.lin_rows.specs.Exact.{fitting}
 use Rattle.lin_rows.specs.Row.{multiple_of, sum_of}
@@ -45,6 +47,21 @@ fitting_sum one other = fitting_form (form_sum one other)
 -- the form times k, where each of its numbers fits
 abbrev pub fitting_multiple : ℤ → Form → Option Form
 fitting_multiple k form = fitting_form (form_multiple k form)
+
+-- the difference, where each of its numbers fits
+abbrev pub fitting_difference : Form → Form → Option Form
+fitting_difference one other = fitting_form (form_sum one (form_multiple (negsuc 0) other))
+
+-- ---- products
+
+-- the form has one value everywhere
+abbrev pub is_constant : Form → Bool
+is_constant form = list_all (int_eq (pos 0)) form.coefficients
+
+-- the product of two forms of which one is constant, where each of its numbers fits
+abbrev pub fitting_product : Form → Form → Option Form
+fitting_product one other =
+    if is_constant one then fitting_multiple one.constant other else (if is_constant other then fitting_multiple other.constant one else None)
 
 -- ---- compositions
 

@@ -38,6 +38,23 @@ fn sums_and_multiples(rt: HostRuntime) -> Result<(), Fail> {
     Ok(())
 }
 
+#[test]
+fn differences_and_products(rt: HostRuntime) -> Result<(), Fail> {
+    let alloc = rt.alloc();
+    let first = line(alloc, &[2, -1], 3)?;
+    let second = Line::column(alloc, 2, 1)?;
+    let three = Line::constant(alloc, 2, 3)?;
+    let least = Line::constant(alloc, 2, -i128::MAX)?;
+    assert!(rt; is_line(&first.minus(alloc, &second)?, &[2, -2], 3));
+    assert!(rt; least.minus(alloc, &three)?.is_none());
+    assert!(rt; is_line(&three.product(alloc, &first)?, &[6, -3], 9));
+    assert!(rt; is_line(&first.product(alloc, &three)?, &[6, -3], 9));
+    assert!(rt; first.product(alloc, &second)?.is_none());
+    assert!(rt; is_line(&Line::constant_if_fits(alloc, 2, 4)?, &[0, 0], 4));
+    assert!(rt; Line::constant_if_fits(alloc, 2, i128::MIN)?.is_none());
+    Ok(())
+}
+
 /// `2a - b + 3` where a becomes `b + 1` and b becomes 5.
 #[test]
 fn a_composition(rt: HostRuntime) -> Result<(), Fail> {

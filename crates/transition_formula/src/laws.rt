@@ -1,4 +1,4 @@
-ghost use Rattle.transition_formula.specs.FormLaws.{FormsAreMade, SumsAreExact, MultiplesAreExact, CompositionsAreExact, ValuesAreExact};
+ghost use Rattle.transition_formula.specs.FormLaws.{FormsAreMade, SumsAreExact, DifferencesAreExact, MultiplesAreExact, ProductsAreExact, CompositionsAreExact, ValuesAreExact};
 ghost use Rattle.transition_formula.specs.TextLaws.{ColumnTextsAreWords, AtomTextsTellAtoms, AtomTextsArePrintable};
 ghost use Rattle.transition_formula.specs.Laws.{InitRowsAreExact, EdgeRowsAreExact, RunsEndInReachedStates, FailingStatesEndRuns, FailingRunsReach};
 
@@ -25,7 +25,9 @@ pub fn runs_end_in_reached_states()
 pub fn forms_are_exact()
     ensures made { FormsAreMade }
     ensures sums { SumsAreExact }
+    ensures differences { DifferencesAreExact }
     ensures multiples { MultiplesAreExact }
+    ensures products { ProductsAreExact }
     ensures compositions { CompositionsAreExact }
     ensures values { ValuesAreExact }
 {}

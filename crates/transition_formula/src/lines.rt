@@ -1,15 +1,16 @@
-ghost use Rattle.std.specs.Prelude.{◌≡◌, ◌<◌, ◌+◌, ◌*ℤ◌, ◌++◌, pos, length, map, slice_index_or, option_map, IfOk, IfSome};
+ghost use Rattle.std.specs.Prelude.{◌≡◌, ◌<◌, ◌+◌, ◌*ℤ◌, ◌++◌, pos, negsuc, length, map, slice_index_or, option_map, IfOk, IfSome};
 ghost use Rattle.std.specs.List.{AllByRecursion};
+ghost use Rattle.thr_base.specs.Number.{fits};
 ghost use Rattle.lin_rows.specs.Exact.{fitting};
 ghost use Rattle.lin_rows.specs.Row.{multiple_of, sum_of};
 ghost use Rattle.lin_rows.specs.Sum.{sum_with_product, sum_in_order};
-ghost use Rattle.transition_formula.specs.Forms.{fitting_sum, column_form, fitting_composition, constant_form, fitting_multiple, value_if_fits, with_multiple, with_multiples};
+ghost use Rattle.transition_formula.specs.Forms.{fitting_sum, column_form, fitting_composition, constant_form, fitting_difference, fitting_form, fitting_multiple, fitting_product, is_constant, value_if_fits, with_multiple, with_multiples};
 ghost use Rattle.transition_formula.specs.Stored.{form_of};
 ghost use Rattle.transition_formula.specs.inside.FormParts.{fitting_list, form_of_both};
 
 use crate::blocks::{push_unit, push_zeros};
 use crate::graph::Line;
-use lin_rows::{product_if_fits, sum_if_fits};
+use lin_rows::{difference_if_fits, product_if_fits, sum_if_fits};
 use std::alloc::{AllocError, Global};
 
 /// The sum of the numbers at a place, where it fits.
@@ -34,6 +35,34 @@ fn sums_of(alloc: Global, one: &[i128], other: &[i128]) -> Result<Option<Vec<i12
         }
     }
     Ok(Some(sums))
+}
+
+/// The difference of the numbers at a place, where it fits.
+fn difference_of_both(one: &[i128], other: &[i128], place: usize) -> Option<i128>
+    requires lengths { length one.now ≡ length other.now }
+    requires within { place < length one.now }
+    ensures { result ≡ fitting (slice_index_or (sum_of one.now (multiple_of (negsuc 0) other.now)) place (pos 0)) }
+{
+    difference_if_fits(one[place], other[place])
+}
+
+/// The differences of two lists, place by place, where each of them fits.
+fn differences_of(
+    alloc: Global,
+    one: &[i128],
+    other: &[i128],
+) -> Result<Option<Vec<i128>>, AllocError>
+    requires { length one.now ≡ length other.now }
+    ensures { IfOk result (λ made. option_map (λ differences. differences.items) made ≡ fitting_list (sum_of one.now (multiple_of (negsuc 0) other.now))) }
+{
+    let mut differences = Vec::with_capacity(alloc, one.len())?;
+    'places: for place in 0..one.len() {
+        match difference_of_both(one, other, place) {
+            Some(difference) => differences.push(difference)?,
+            None => return Ok(None),
+        }
+    }
+    Ok(Some(differences))
 }
 
 /// The number at a place of a state with inputs behind it.
@@ -115,6 +144,13 @@ fn line_of(coefficients: Option<Vec<i128>>, constant: Option<i128>) -> Option<Li
     }
 }
 
+/// Whether the number fits.
+fn fits(number: i128) -> bool
+    ensures { result ≡ fits number }
+{
+    number != i128::MIN
+}
+
 impl Line {
     /// The line that has one value everywhere.
     pub fn constant(alloc: Global, width: u32, value: i128) -> Result<Line, AllocError>
@@ -126,6 +162,22 @@ impl Line {
             coefficients,
             constant: value,
         })
+    }
+
+    /// The line that has one value everywhere, where that fits.
+    pub fn constant_if_fits(
+        alloc: Global,
+        width: u32,
+        value: i128,
+    ) -> Result<Option<Line>, AllocError>
+        ensures { IfOk result (λ made. option_map form_of made ≡ fitting_form (constant_form width value)) }
+    {
+        if fits(value) {
+            let line = Line::constant(alloc, width, value)?;
+            Ok(Some(line))
+        } else {
+            Ok(None)
+        }
     }
 
     /// The line whose value is that of a column.
@@ -154,12 +206,48 @@ impl Line {
         Ok(line_of(coefficients, sum_if_fits(self.constant, other.constant)))
     }
 
+    /// The difference, where each of its numbers fits.
+    pub fn minus(&self, alloc: Global, other: &Line) -> Result<Option<Line>, AllocError>
+        requires { length (form_of self.now).coefficients ≡ length (form_of other.now).coefficients }
+        ensures { IfOk result (λ made. option_map form_of made ≡ fitting_difference (form_of self.now) (form_of other.now)) }
+    {
+        let coefficients = differences_of(
+            alloc,
+            self.coefficients.as_slice(),
+            other.coefficients.as_slice(),
+        )?;
+        Ok(line_of(
+            coefficients,
+            difference_if_fits(self.constant, other.constant),
+        ))
+    }
+
     /// The line times a number, where each number of it fits.
     pub fn times(&self, alloc: Global, k: i128) -> Result<Option<Line>, AllocError>
         ensures { IfOk result (λ made. option_map form_of made ≡ fitting_multiple k (form_of self.now)) }
     {
         let coefficients = products_of(alloc, k, self.coefficients.as_slice())?;
         Ok(line_of(coefficients, product_if_fits(k, self.constant)))
+    }
+
+    /// Whether the line has one value everywhere.
+    fn is_constant(&self) -> bool
+        ensures { result ≡ is_constant (form_of self.now) }
+    {
+        self.coefficients.iter().all(|number| 0 == *number)
+    }
+
+    /// The product of two lines of which one is constant, where each of its numbers fits.
+    pub fn product(&self, alloc: Global, other: &Line) -> Result<Option<Line>, AllocError>
+        ensures { IfOk result (λ made. option_map form_of made ≡ fitting_product (form_of self.now) (form_of other.now)) }
+    {
+        if self.is_constant() {
+            other.times(alloc, self.constant)
+        } else if other.is_constant() {
+            self.times(alloc, other.constant)
+        } else {
+            Ok(None)
+        }
     }
 
     /// The line with its columns replaced by lines of one width: the multiples are summed in column order, and the

@@ -6,12 +6,11 @@ use Rattle.c_check.specs.declared.operation.Operation.{Operation}
 use Rattle.c_check.specs.declared.operation.Operation.TheVariants as operation
 use Rattle.transition_formula.specs.declared.graph.Line.{Line}
 use Rattle.transition_formula.specs.Program.{Form}
-use Rattle.transition_formula.specs.Forms.{column_form, constant_form, fitting_form, fitting_multiple, fitting_sum}
+use Rattle.transition_formula.specs.Forms.{column_form, constant_form, fitting_difference, fitting_form, fitting_multiple, fitting_product, fitting_sum}
 use Rattle.transition_formula.specs.Stored.{form_of}
 use Rattle.thread_cfg.specs.declared.event.Expression.{Expression}
 use Rattle.thread_cfg.specs.declared.event.Expression.TheVariants as expression
 use Rattle.thread_cfg.specs.Source.{Frame, column_of}
-use Rattle.thread_cfg.specs.Edge.{fitting_difference, fitting_product}
 
 -- ---- temporaries in place of what all threads share, the next of which has this number
 

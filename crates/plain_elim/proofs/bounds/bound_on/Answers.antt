@@ -2,7 +2,7 @@ use Rattle.std.proofs.Common.{◌≡◌, ◌<ℤ◌, ◌*ℤ◌, ◌∙◌, sym,
 use Rattle.lin_rows.specs.Exact.{fitting}
 use Rattle.lin_rows.proofs.Numbers.{read_back}
 use Rattle.farkas_cert.specs.Line.{coefficient_at}
-use Rattle.plain_elim.proofs.PointFractions.{fitting_is}
+use Rattle.farkas_cert.proofs.Reduced.{fitting_is}
 use Rattle.plain_elim.proofs.PointBounds.{nonzero_product}
 use Rattle.plain_elim.proofs.bounds.bound_on.Goals as goal
 

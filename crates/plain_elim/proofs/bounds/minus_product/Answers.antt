@@ -2,9 +2,10 @@ use Rattle.std.proofs.Common.{◌≡◌, ◌∙◌, Some, rules}
 use Rattle.std.specs.Prelude.{neg_ℤ, ◌+ℤ◌, ◌*ℤ◌}
 use Rattle.lin_rows.specs.Exact.{fitting}
 use Rattle.lin_rows.proofs.Numbers.{read_back, Fits-neg}
-use Rattle.plain_elim.proofs.PointFractions.{fitting_is, fits-fitting}
+use Rattle.plain_elim.proofs.PointFractions.{fits-fitting}
 use Rattle.plain_elim.proofs.PointBounds.{minus_product-some}
 use Rattle.plain_elim.proofs.bounds.minus_product.Goals as goal
+use Rattle.farkas_cert.proofs.Reduced.{fitting_is}
 
 pub returns : goal.returns
 returns c =

@@ -6,7 +6,8 @@ use Rattle.thr_base.specs.Number.{Fits}
 use Rattle.lin_rows.specs.System.{IsRowOver}
 use Rattle.lin_rows.proofs.Lists.{AllByRecursion-slice_get, slice_get-there}
 use Rattle.farkas_cert.specs.Line.{Line}
-use Rattle.plain_elim.proofs.GivenLines.{given_fit, equality-place}
+use Rattle.farkas_cert.proofs.NumberedRows.{equality-place}
+use Rattle.plain_elim.proofs.GivenLines.{given_fit}
 use Rattle.plain_elim.proofs.given.given_line.Goals as goal
 
 -- a line by its parts

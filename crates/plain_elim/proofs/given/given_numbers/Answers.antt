@@ -2,8 +2,9 @@ use Rattle.std.proofs.Common.{◌≡◌, ◌∙◌, ap, arith, ◌++◌, ◌∷�
 use Rattle.std.specs.Prelude.{pos, replicate, slice_set}
 use Rattle.lin_rows.specs.System.{IsRowOver}
 use Rattle.lin_rows.proofs.Lists.{AllByRecursion-slice_get}
-use Rattle.plain_elim.proofs.GivenLines.{given_as_written, numbers_of-place}
+use Rattle.plain_elim.proofs.GivenLines.{given_as_written}
 use Rattle.plain_elim.proofs.given.given_numbers.Goals as goal
+use Rattle.farkas_cert.proofs.NumberedRows.{numbers_of-place}
 
 pub returns : goal.returns
 returns c = λ row is.

@@ -5,7 +5,7 @@ use Rattle.thr_base.specs.Number.{Fits}
 use Rattle.lin_rows.specs.Row.{multiple_of}
 use Rattle.lin_rows.proofs.Numbers.{read_back, true-fits}
 use Rattle.farkas_cert.specs.Line.{all_fit}
-use Rattle.plain_elim.proofs.PointFractions.{fitting_is}
+use Rattle.farkas_cert.proofs.Reduced.{fitting_is}
 use Rattle.plain_elim.proofs.PointColumns.{scaled_to, get-scaled_to, set-scaled_to, fit-scaled_from}
 use Rattle.plain_elim.proofs.rational_point.scale_all.Goals as goal
 

@@ -4,7 +4,6 @@ use Rattle.std.specs.List.{range_with_len}
 use Rattle.lin_rows.specs.System.{IsRowOver}
 use Rattle.lin_rows.proofs.Lists.{AllByRecursion-slice_get, slice_get-there}
 use Rattle.tableau_elim.specs.declared.variable.Variable.TheVariants.{Column}
-use Rattle.tableau_elim.specs.declared.tableau.Tableau.{Tableau as HeldTableau}
 use Rattle.tableau_elim.proofs.GivenLines.{giving_begins, giving_goes_on, giving_ends, given_is, given_held, slack_is}
 use Rattle.tableau_elim.proofs.given.given_tableau.Goals as goal
 
@@ -24,18 +23,17 @@ rows-preserved c =
     giving_goes_on system.rows (suc system.columns) c.rows.basics.items c.push.new.self.items c.rows.numbers.items c.push_line.new.numbers.items place row there.1
     (ap suc over.width) (c.in_ok-push.ensures.items ∙ ap (λ x. c.rows.basics.items ++ x ∷ []) slack) (c.in_ok-bound.ensures.numbers row there.1) c.rows.invariant
 
-pub returns-clause-tableau : goal.returns-clause-tableau
-returns-clause-tableau c =
+pub returns : goal.returns
+returns c =
     let system = c.args.rows.now in
-    let held : HeldTableau = record { basics = c.rows.basics; numbers = c.rows.numbers; places = c.in_ok-places.places } in
     let places = c.in_ok-places.ensures ∙ ap (λ n. map Column (range_with_len 0 n)) c.columns.ensures.columns in
     let lines = giving_ends system.rows (suc system.columns) c.rows.basics.items c.rows.numbers.items c.rows.place (omega (arith, c.count-count.ensures.count, c.rows-test.false)) c.rows.invariant in
-    given_is system held (suc system.columns) places refl lines
+    given_is system c.rows.basics.items c.rows.numbers.items c.in_ok-places.places.items (suc system.columns) places refl lines
 
-pub returns-clause-held : goal.returns-clause-held
-returns-clause-held c =
+pub invariant_of-result : goal.invariant_of-result
+invariant_of-result c =
     let system = c.args.rows.now in
-    let held : HeldTableau = record { basics = c.rows.basics; numbers = c.rows.numbers; places = c.in_ok-places.places } in
     let places = c.in_ok-places.ensures ∙ ap (λ n. map Column (range_with_len 0 n)) c.columns.ensures.columns in
     let lines = giving_ends system.rows (suc system.columns) c.rows.basics.items c.rows.numbers.items c.rows.place (omega (arith, c.count-count.ensures.count, c.rows-test.false)) c.rows.invariant in
-    given_held system held (suc system.columns) places refl c.count-count.ensures.named.columns c.count-count.ensures.named.rows lines c.rows.invariant.size
+    let held = given_held system c.rows.basics.items c.rows.numbers.items c.in_ok-places.places.items (suc system.columns) places refl c.count-count.ensures.named.columns c.count-count.ensures.named.rows lines c.rows.invariant.size in
+    record { size = held.size; sound = held.sound; few = held.few }

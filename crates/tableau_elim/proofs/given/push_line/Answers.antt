@@ -1,8 +1,9 @@
 use Rattle.std.proofs.Common.{◌≡◌, ◌∙◌, ◌++◌, ◌-◌, ap, arith, pos, to_z, of_z, rules}
 use Rattle.std.specs.Int.{w128}
-use Rattle.tableau_elim.proofs.GivenLines.{IsSome-place, numbers_of-place, line_pushed}
+use Rattle.tableau_elim.proofs.GivenLines.{line_pushed}
 use Rattle.tableau_elim.proofs.Multipliers.{get_default}
 use Rattle.tableau_elim.proofs.given.push_line.Goals as goal
+use Rattle.farkas_cert.proofs.NumberedRows.{numbers_of-place, IsSome-place}
 
 pub overflow_add-place : goal.overflow_add-place
 overflow_add-place c = let few = c.requires.named.count in omega arith

@@ -1,8 +1,9 @@
 use Rattle.std.proofs.Common.{◌∙◌, ap, arith, to_z-of_z}
 use Rattle.std.specs.Prelude.{false}
 use Rattle.std.specs.Option.{unwrap_or}
-use Rattle.tableau_elim.proofs.GivenLines.{equality-place, slack_is}
+use Rattle.tableau_elim.proofs.GivenLines.{slack_is}
 use Rattle.tableau_elim.proofs.given.slack_of.Goals as goal
+use Rattle.farkas_cert.proofs.NumberedRows.{equality-place}
 
 pub overflow_add-place : goal.overflow_add-place
 overflow_add-place c = let few = c.requires.named.count in omega arith

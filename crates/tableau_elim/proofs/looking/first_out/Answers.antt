@@ -1,6 +1,7 @@
 use Rattle.std.proofs.Common.{length, suc, arith}
 use Rattle.std.specs.Option.{option_map}
-use Rattle.tableau_elim.specs.inside.Held.{tableau_of, line_at}
+use Rattle.tableau_elim.specs.inside.Held.{tableau_of}
+use Rattle.tableau_elim.specs.inside.Lines.{line_at}
 use Rattle.tableau_elim.proofs.Lines.{length-lines}
 use Rattle.tableau_elim.proofs.Firsts.{first_begins, first_goes_on, first_ends}
 use Rattle.tableau_elim.proofs.looking.first_out.Goals as goal

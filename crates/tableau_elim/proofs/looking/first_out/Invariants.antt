@@ -1,7 +1,8 @@
 use Rattle.std.proofs.Common.{◌≡◌, ◌<◌, drop, length, IfSome}
 use Rattle.std.specs.Option.{option_map}
 use Rattle.tableau_elim.specs.Rounds.{first_out}
-use Rattle.tableau_elim.specs.inside.Held.{tableau_of, line_at}
+use Rattle.tableau_elim.specs.inside.Held.{tableau_of}
+use Rattle.tableau_elim.specs.inside.Lines.{line_at}
 use Rattle.tableau_elim.proofs.Firsts.{first_from}
 use Rattle.tableau_elim.proofs.looking.first_out.Given as goal
 

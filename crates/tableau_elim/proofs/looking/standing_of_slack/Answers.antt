@@ -3,7 +3,8 @@ use Rattle.std.specs.Prelude.{◌*ℤ◌}
 use Rattle.std.specs.Int.{w128}
 use Rattle.lin_rows.specs.Exact.{fitting}
 use Rattle.tableau_elim.specs.Tableau.{sum_of_line, divisor_of}
-use Rattle.tableau_elim.specs.inside.Held.{tableau_of, line_at}
+use Rattle.tableau_elim.specs.inside.Held.{tableau_of}
+use Rattle.tableau_elim.specs.inside.Lines.{line_at}
 use Rattle.tableau_elim.proofs.Firsts.{standing_read}
 use Rattle.tableau_elim.proofs.looking.standing_of_slack.Goals as goal
 

@@ -1,5 +1,6 @@
 use Rattle.lin_rows.proofs.Numbers.{read_back}
-use Rattle.tableau_elim.specs.inside.Held.{tableau_of, line_at}
+use Rattle.tableau_elim.specs.inside.Held.{tableau_of}
+use Rattle.tableau_elim.specs.inside.Lines.{line_at}
 use Rattle.tableau_elim.proofs.Multiples.{line_sum_fits}
 use Rattle.tableau_elim.proofs.point.column_value.Goals as goal
 

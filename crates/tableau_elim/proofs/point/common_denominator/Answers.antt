@@ -7,9 +7,10 @@ use Rattle.lin_rows.proofs.Lists.{AllByRecursion-at}
 use Rattle.lin_rows.proofs.Numbers.{read_back}
 use Rattle.tableau_elim.specs.inside.Held.{IsValue}
 use Rattle.tableau_elim.specs.declared.point.Value.{Value}
-use Rattle.tableau_elim.proofs.Multiples.{fitting_is, multiple_of_none, multiple_goes_on, multiple_stops, multiple_ends}
+use Rattle.tableau_elim.proofs.Multiples.{multiple_of_none, multiple_goes_on, multiple_stops, multiple_ends}
 use Rattle.tableau_elim.proofs.Multipliers.{get_default}
 use Rattle.tableau_elim.proofs.point.common_denominator.Goals as goal
+use Rattle.farkas_cert.proofs.Reduced.{fitting_is}
 
 abbrev zero_value : Value
 zero_value = record { numerator = pos 0; denominator = pos 0 }

@@ -4,13 +4,14 @@ use Rattle.farkas_cert.specs.Divided.{over}
 use Rattle.std.specs.Int.{w128}
 use Rattle.std.proofs.lemmas.List.{length-map}
 use Rattle.farkas_cert.specs.Elimination.{every}
+use Rattle.farkas_cert.proofs.Reduced.{fitting_is}
 use Rattle.lin_rows.proofs.Lists.{AllByRecursion-at}
 use Rattle.lin_rows.proofs.Numbers.{read_back}
 use Rattle.tableau_elim.specs.declared.point.Value.{Value}
 use Rattle.tableau_elim.specs.inside.Held.{fraction_in, IsValue}
 use Rattle.tableau_elim.specs.inside.Combined.{numerator_over}
 use Rattle.tableau_elim.proofs.Every.{making_begins, making_goes_on, making_stops, making_ends}
-use Rattle.tableau_elim.proofs.Multiples.{fitting_is, get_map}
+use Rattle.tableau_elim.proofs.Multiples.{get_map}
 use Rattle.tableau_elim.proofs.point.numerators_over.Goals as goal
 
 abbrev zero_value : Value

@@ -5,10 +5,11 @@ use Rattle.std.specs.Option.{option_map}
 use Rattle.lin_rows.specs.Exact.{fitting}
 use Rattle.lin_rows.proofs.Numbers.{read_back}
 use Rattle.farkas_cert.specs.Elimination.{every}
+use Rattle.farkas_cert.proofs.Reduced.{fitting_is}
 use Rattle.tableau_elim.specs.Rounds.{common_denominator}
 use Rattle.tableau_elim.specs.inside.Held.{fraction_in}
 use Rattle.tableau_elim.specs.inside.Combined.{numerator_over}
-use Rattle.tableau_elim.proofs.Multiples.{fitting_is, point_made, point_none}
+use Rattle.tableau_elim.proofs.Multiples.{point_made, point_none}
 use Rattle.tableau_elim.proofs.point.point_over.Goals as goal
 
 pub returns-in-Some-made : goal.returns-in-Some-made

@@ -6,7 +6,8 @@ use Rattle.thr_base.specs.Number.{Fits}
 use Rattle.farkas_cert.specs.Divided.{divided_numbers}
 use Rattle.farkas_cert.specs.Line.{nonzero_pairs}
 use Rattle.tableau_elim.specs.Rounds.{multipliers}
-use Rattle.tableau_elim.specs.inside.Held.{tableau_of, line_at}
+use Rattle.tableau_elim.specs.inside.Held.{tableau_of}
+use Rattle.tableau_elim.specs.inside.Lines.{line_at}
 use Rattle.farkas_cert.proofs.Combinations.{divided_fit}
 use Rattle.tableau_elim.proofs.Multipliers.{zeros_are, multipliers_fit, held_line, divisor_fit}
 use Rattle.tableau_elim.proofs.refuting.certificate.Goals as goal
@@ -32,10 +33,10 @@ of_multipliers-requires-clause-fit c =
     let line = line_at c.args.line (tableau_of c.args.tableau.now) in
     let places = c.args.tableau.now.places.items in
     let n = length c.deref_mut.result.now in
-    let sound = held_line c.args.tableau.now c.args.line c.requires.held c.requires.within in
+    let sound = held_line c.args.tableau.now c.args.line c.requires in
     let long : length c.weigh.new.multipliers ≡ c.in_ok-multipliers.multipliers.len = c.weigh.auto.multipliers ∙ c.deref_mut.ensures.len in
     let made = c.as_slice.ensures.value ∙ with_items_is c.in_ok-multipliers.multipliers c.weigh.new.multipliers long ∙ c.weigh.ensures in
-    subst (λ (xs : List ℤ). AllByRecursion Fits xs) (sym made) (divided_fit (multipliers c.args.side n places line) (multipliers_fit c.args.side n places line sound.fits (divisor_fit line sound.fits)))
+    subst (λ (xs : List ℤ). AllByRecursion Fits xs) (sym made) (divided_fit (multipliers c.args.side n places line) (multipliers_fit c.args.side n places line sound.0 (divisor_fit line sound.0)))
 
 pub returns : goal.returns
 returns c =

@@ -6,7 +6,8 @@ use Rattle.farkas_cert.specs.Proof.{Proves}
 use Rattle.farkas_cert.specs.declared.answers.CertAnswer.{CertAnswer}
 use Rattle.farkas_cert.specs.declared.answers.CertAnswer.TheVariants as answers
 use Rattle.tableau_elim.specs.Rounds.{multipliers}
-use Rattle.tableau_elim.specs.inside.Held.{tableau_of, line_at}
+use Rattle.tableau_elim.specs.inside.Held.{tableau_of}
+use Rattle.tableau_elim.specs.inside.Lines.{line_at}
 use Rattle.tableau_elim.proofs.Multipliers.{proved_is, unproved_is}
 use Rattle.tableau_elim.proofs.refuting.refutation.Goals as goal
 

@@ -1,7 +1,8 @@
 use Rattle.std.proofs.Common.{◌≡◌, ◌∙◌, sym, ap, ap₂, drop, Some}
 use Rattle.std.proofs.lemmas.List.{take_rest}
 use Rattle.tableau_elim.specs.Rounds.{chosen_place}
-use Rattle.tableau_elim.specs.inside.Held.{tableau_of, line_at}
+use Rattle.tableau_elim.specs.inside.Held.{tableau_of}
+use Rattle.tableau_elim.specs.inside.Lines.{line_at}
 use Rattle.tableau_elim.proofs.Certificates.{chosen_is, get_rest}
 use Rattle.tableau_elim.proofs.round.mended_by_place.Goals as goal
 

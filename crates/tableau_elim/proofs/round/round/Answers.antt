@@ -2,7 +2,8 @@ use Rattle.std.proofs.Common.{◌≡◌, ◌∙◌, sym, ap, subst}
 use Rattle.std.specs.Prelude.{IfOk}
 use Rattle.std.specs.Option.{option_map}
 use Rattle.tableau_elim.specs.Rounds.{Found, Ends, refuted_outcome, point_of}
-use Rattle.tableau_elim.specs.inside.Held.{tableau_of, line_at, found_of}
+use Rattle.tableau_elim.specs.inside.Held.{tableau_of, found_of}
+use Rattle.tableau_elim.specs.inside.Lines.{line_at}
 use Rattle.tableau_elim.proofs.Outcomes.{found_refutes, found_line, found_point}
 use Rattle.tableau_elim.proofs.round.round.Goals as goal
 

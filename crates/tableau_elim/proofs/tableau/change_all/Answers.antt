@@ -1,7 +1,7 @@
 use Rattle.std.proofs.Common.{◌≡◌, ◌<◌, ◌+◌, ◌*◌, sym, ◌∙◌, ap, subst, arith, length, List, None, Some}
 use Rattle.tableau_elim.specs.Tableau.{Line, line_after_pivot}
 use Rattle.tableau_elim.specs.declared.variable.Variable.TheVariants.{Column}
-use Rattle.tableau_elim.specs.inside.Held.{pivot_of, lines_of, IsSound}
+use Rattle.tableau_elim.specs.inside.Lines.{pivot_of, lines_of, IsSound}
 use Rattle.tableau_elim.proofs.Lines.{no_line, length-lines, line_here, line_set, part_long}
 use Rattle.tableau_elim.proofs.Changes.{IsChanging, changing_begins, changing_goes_on, changing_stops, changing_ends, sound_now}
 use Rattle.tableau_elim.proofs.tableau.change_all.Goals as goal
@@ -14,7 +14,7 @@ change-requires-clause-fits c =
     let now = lines_of w c.lines.basics c.lines.numbers in
     let many = length-lines w c.args.basics.now c.args.numbers.now in
     let sound = sound_now given now k (omega (arith, c.lines-test.true)) c.lines.invariant.left c.requires.sound in
-    (subst IsSound (line_here w c.lines.basics c.lines.numbers k (Column 0) no_line (omega (arith, c.lines-test.true, c.lines.auto.basics))) sound).fits
+    (subst IsSound (line_here w c.lines.basics c.lines.numbers k (Column 0) no_line (omega (arith, c.lines-test.true, c.lines.auto.basics))) sound).0
 
 pub lines-init : goal.lines-init
 lines-init c = changing_begins _ _

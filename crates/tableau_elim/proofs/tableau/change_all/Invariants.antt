@@ -1,4 +1,4 @@
-use Rattle.tableau_elim.specs.inside.Held.{pivot_of, lines_of}
+use Rattle.tableau_elim.specs.inside.Lines.{pivot_of, lines_of}
 use Rattle.tableau_elim.proofs.Changes.{IsChanging}
 use Rattle.tableau_elim.proofs.tableau.change_all.Given as goal
 

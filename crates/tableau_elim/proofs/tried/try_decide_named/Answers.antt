@@ -8,7 +8,7 @@ pub rounds-requires-clause-widths : goal.rounds-requires-clause-widths
 rounds-requires-clause-widths c = HasWidths-named c.args.rows.now c.count.ensures.named
 
 pub rounds-requires-clause-leads : goal.rounds-requires-clause-leads
-rounds-requires-clause-leads c = outcome_begins c.args.rows.now _ (tableau_of c.in_ok-tableau.tableau) (omega (arith, c.count.ensures.count, c.columns.ensures.columns)) c.in_ok-tableau.ensures.tableau
+rounds-requires-clause-leads c = outcome_begins c.args.rows.now _ (tableau_of c.in_ok-tableau.tableau) (omega (arith, c.count.ensures.count, c.columns.ensures.columns)) c.in_ok-tableau.ensures
 
 pub returns-clause-evidence : goal.returns-clause-evidence
 returns-clause-evidence c = evidence_of c.args.rows.now c.rounds.result (HasWidths-named c.args.rows.now c.count.ensures.named) c.rounds.ensures

@@ -1,7 +1,7 @@
 use Rattle.std.proofs.Common.{◌≡◌, ◌∙◌, Some, negsuc, pos, sym, rules}
 use Rattle.transition_formula.specs.Stored.{form_of}
 use Rattle.thread_cfg.specs.Edge.{raised}
-use Rattle.thread_cfg.proofs.FormLemmas.{raised-over}
+use Rattle.thread_cfg.proofs.Relations.{raised-over}
 use Rattle.thread_cfg.proofs.row.row_by.Goals as goal
 
 pub row_between-requires-in-Some : goal.row_between-requires-in-Some

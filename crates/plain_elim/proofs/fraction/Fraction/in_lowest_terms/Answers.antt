@@ -1,6 +1,7 @@
 use Rattle.std.proofs.Common.{rules}
-use Rattle.plain_elim.proofs.PointFractions.{fraction-parts, IsFraction-parts}
+use Rattle.plain_elim.proofs.PointFractions.{IsFraction-parts}
 use Rattle.plain_elim.proofs.fraction.Fraction.in_lowest_terms.Goals as goal
+use Rattle.farkas_cert.proofs.Reduced.{fraction-parts}
 
 pub invariant_of-result : goal.invariant_of-result
 invariant_of-result c =

@@ -1,8 +1,9 @@
 use Rattle.std.proofs.Common.{◌≡◌, ◌*ℤ◌, None, rules}
 use Rattle.lin_rows.specs.Exact.{fitting}
 use Rattle.lin_rows.proofs.Numbers.{read_back}
-use Rattle.plain_elim.proofs.PointFractions.{fitting_is, is_below-none}
+use Rattle.plain_elim.proofs.PointFractions.{is_below-none}
 use Rattle.plain_elim.proofs.fraction.Fraction.is_below.Goals as goal
+use Rattle.farkas_cert.proofs.Reduced.{fitting_is}
 
 pub returns-in_err-right : goal.returns-in_err-right
 returns-in_err-right c =

@@ -6,7 +6,7 @@ use Rattle.lin_rows.specs.Exact.{fitting}
 use Rattle.lin_rows.specs.Row.{multiple_of}
 use Rattle.lin_rows.proofs.Numbers.{read_back}
 use Rattle.farkas_cert.specs.Line.{all_fit}
-use Rattle.plain_elim.proofs.PointFractions.{fitting_is}
+use Rattle.farkas_cert.proofs.Reduced.{fitting_is}
 use Rattle.plain_elim.proofs.PointColumns.{assigned_point_by-steps, assigned_point_by-made, IsPoint-set}
 use Rattle.plain_elim.proofs.rational_point.RationalPoint.assigned_point_by.Goals as goal
 

@@ -1,9 +1,8 @@
 use Rattle.std.proofs.Common.{◌≡◌, ◌∙◌, ap, sym, length}
 use Rattle.std.specs.Prelude.{slice_set}
 use Rattle.std.proofs.lemmas.List.{with_items_is}
-use Rattle.std.specs.Vec.{with_items, with_item}
-use Rattle.tableau_elim.specs.declared.tableau.Tableau.{Tableau as HeldTableau}
-use Rattle.tableau_elim.specs.inside.Held.{pivot_of, tableau_of, line_at}
+use Rattle.tableau_elim.specs.inside.Held.{tableau_of}
+use Rattle.tableau_elim.specs.inside.Lines.{pivot_of, line_at}
 use Rattle.tableau_elim.specs.Tableau.{Pivot}
 use Rattle.tableau_elim.proofs.Moves.{pivoted_by_none, pivoted_by_some, held_by, pivot_place}
 use Rattle.tableau_elim.proofs.tableau.Tableau.after_pivot.Goals as goal
@@ -20,27 +19,18 @@ returns-clause-tableau c =
     let longer : length c.change_all.new.numbers ≡ held.numbers.len = c.change_all.auto.numbers ∙ c.deref_mut-2.ensures.len in
     let place = ap (λ (p : Pivot). p.place) c.in_ok-pivot.ensures.pivot ∙ pivot_place c.args.place (line_at c.args.line (tableau_of held)) (tableau_of held) in
     let places = ap (λ j. slice_set held.places.items j c.in_ok-pivot.pivot.leaving) (sym place) in
-    let made : HeldTableau = record {
-      basics = with_items held.basics c.change_all.new.basics;
-      numbers = with_items held.numbers c.change_all.new.numbers;
-      places = with_item held.places c.args.place c.in_ok-pivot.pivot.leaving;
-    } in
-    pivoted_by_some held made (pivot_of c.in_ok-pivot.pivot) _ c.width-width.result c.deref_mut.result.now c.change_all.new.basics c.deref_mut-2.result.now c.change_all.new.numbers
+    pivoted_by_some held (pivot_of c.in_ok-pivot.pivot) _ c.width-width.result c.deref_mut.result.now c.change_all.new.basics _ _ c.deref_mut-2.result.now c.change_all.new.numbers _
     c.in_ok-pivot.ensures.pivot c.width-width.ensures c.deref_mut.ensures.value c.deref_mut-2.ensures.value c.if-not-change_all.ensures
     (with_items_is held.basics c.change_all.new.basics long) (with_items_is held.numbers c.change_all.new.numbers longer) places
 
-pub returns-clause-held : goal.returns-clause-held
-returns-clause-held c =
+pub invariant_of-result : goal.invariant_of-result
+invariant_of-result c =
     let held = c.args.self in
     let long : length c.change_all.new.basics ≡ held.basics.len = c.change_all.auto.basics ∙ c.deref_mut.ensures.len in
     let longer : length c.change_all.new.numbers ≡ held.numbers.len = c.change_all.auto.numbers ∙ c.deref_mut-2.ensures.len in
     let place = ap (λ (p : Pivot). p.place) c.in_ok-pivot.ensures.pivot ∙ pivot_place c.args.place (line_at c.args.line (tableau_of held)) (tableau_of held) in
     let places = ap (λ j. slice_set held.places.items j c.in_ok-pivot.pivot.leaving) (sym place) in
-    let made : HeldTableau = record {
-      basics = with_items held.basics c.change_all.new.basics;
-      numbers = with_items held.numbers c.change_all.new.numbers;
-      places = with_item held.places c.args.place c.in_ok-pivot.pivot.leaving;
-    } in
-    held_by held made (pivot_of c.in_ok-pivot.pivot) c.width-width.result c.deref_mut.result.now c.change_all.new.basics c.deref_mut-2.result.now c.change_all.new.numbers
-    c.requires.held c.in_ok-pivot.ensures.known c.width-width.ensures c.deref_mut.ensures.value c.deref_mut-2.ensures.value c.if-not-change_all.ensures c.change_all.auto.basics c.change_all.auto.numbers
-    (with_items_is held.basics c.change_all.new.basics long) (with_items_is held.numbers c.change_all.new.numbers longer) places
+    let next = held_by held (pivot_of c.in_ok-pivot.pivot) c.width-width.result c.deref_mut.result.now c.change_all.new.basics _ _ c.deref_mut-2.result.now c.change_all.new.numbers _
+    c.in_ok-pivot.ensures.known c.width-width.ensures c.deref_mut.ensures.value c.deref_mut-2.ensures.value c.if-not-change_all.ensures c.change_all.auto.basics c.change_all.auto.numbers
+    (with_items_is held.basics c.change_all.new.basics long) (with_items_is held.numbers c.change_all.new.numbers longer) places in
+    record { size = next.size; sound = next.sound; few = next.few }

@@ -9,4 +9,4 @@ returns-clause-numbers c =
     let self = c.args.self.now in
     let w = suc (length self.places.items) in
     rw (c.width-width.ensures, c.deref.ensures.value)
-    (sym (ap (λ (line : Line). line.numbers) (line_here w self.basics.items self.numbers.items c.args.line (Column 0) no_line c.requires.within)))
+    (sym (ap (λ (line : Line). line.numbers) (line_here w self.basics.items self.numbers.items c.args.line (Column 0) no_line c.requires)))

@@ -1,5 +1,6 @@
 use Rattle.std.proofs.Common.{◌∙◌}
-use Rattle.tableau_elim.specs.inside.Held.{tableau_of, line_at}
+use Rattle.tableau_elim.specs.inside.Held.{tableau_of}
+use Rattle.tableau_elim.specs.inside.Lines.{line_at}
 use Rattle.tableau_elim.proofs.Moves.{pivot_same}
 use Rattle.tableau_elim.proofs.tableau.Tableau.pivot_at.Goals as goal
 
