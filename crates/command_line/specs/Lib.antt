@@ -1,4 +1,5 @@
 pub mod Grammar
+pub mod Once
 pub mod Request
 pub mod Seen
 pub mod inside

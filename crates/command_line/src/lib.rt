@@ -13,7 +13,7 @@ mod reading;
 mod works;
 
 pub use commands::Command;
-pub use laws::words_ask_for_one;
+pub use laws::{each_option_stands_once, limits_are_allowed, words_ask_for_one};
 pub use options::Options;
 pub use reading::{Request, read_words};
 pub use works::Work;

@@ -138,3 +138,9 @@ fn all_else_is_refused(rt: HostRuntime) -> Result<(), Fail> {
     }
     Ok(())
 }
+
+#[test]
+fn laws_are_called() {
+    each_option_stands_once();
+    words_ask_for_one();
+}
