@@ -1,11 +1,12 @@
 -- Which homes a program has.
-use Rattle.std.proofs.Common.{◌≡◌, ℕ, zero, suc, ◌+◌, ◌<◌, ◌≤◌, List, length, map, take, Option, Some, None, refl, sym, ap, subst, ◌∙◌, arith}
+use Rattle.std.proofs.Common.{◌≡◌, ℕ, zero, suc, ◌+◌, ◌-◌, ◌<◌, ◌≤◌, List, length, map, take, Option, Some, None, refl, sym, ap, subst, ◌∙◌, arith}
 use Rattle.std.specs.Prelude.{option_map}
 use Rattle.std.specs.Option.{IsSome}
 use Rattle.std.specs.List.{slice_get, Contains, range_with_len}
 use Rattle.std.proofs.lemmas.Option.{slice_get_within, slice_get-map, get_or_from_slice_get}
 use Rattle.std.proofs.lemmas.List.{length-map}
 use Rattle.std.proofs.lemmas.List.FromFn.{length-map-range_with_len}
+use Rattle.lin_rows.proofs.Lists.{slice_get-there}
 use Rattle.transition_formula.specs.Program.{Program, Thread, Edge, IsThreadOf, IsEdgeOf, at_number}
 use Rattle.transition_formula.specs.Stored.{edge_of}
 use Rattle.transition_formula.specs.declared.graph.Edge.{Edge as StoredEdge}
@@ -87,6 +88,20 @@ pub edge-home : (program : Program) (i e : ℕ) (thread : Thread) (edge : Edge) 
 edge-home program i zero thread edge is = let at = is.edge_is in cc
 edge-home program i (suc p) thread edge is =
     env-from_place program i p thread is.thread_is (omega (arith, slice_get_within thread.edges p edge is.edge_is, length-map-range_with_len (Env i) 1 (length thread.edges)))
+
+-- and a home at an edge has its edge
+edge-numbered : (program : Program) (i e p : ℕ) (thread : Thread) → e ≡ suc p → IsThreadOf program i thread → p < length thread.edges → (edge : Edge) × IsEdgeOf program i e thread edge
+edge-numbered program i e p thread next at within =
+    let (edge, there) = slice_get-there thread.edges p within in
+    (edge, record { thread_is = at; edge_is = ap (at_number thread.edges) next ∙ there })
+
+pub home-edge : (program : Program) (i e : ℕ) → IsHomeOf program (Env i e) → (thread : Thread) × (edge : Edge) × IsEdgeOf program i e thread edge
+home-edge program i e is =
+    let there = env_home-place program i e is in
+    let place = there.1 in
+    let next : e ≡ suc (e - 1) = omega (arith, there.0) in
+    let (edge, at) = edge-numbered program i e (e - 1) place.thread next place.thread_is (omega (arith, place.within, length-map-range_with_len (Env i) 1 (length place.thread.edges))) in
+    (place.thread, edge, at)
 
 -- a place among a thread's locations is one of them
 pub place-location : (program : Program) (k l : ℕ) (place : HasPlace program Location k l) → IsLocationOf program k l place.thread

@@ -1,5 +1,5 @@
 -- The rows of a premise, made one after another.
-use Rattle.std.proofs.Common.{◌≡◌, ℕ, zero, suc, ◌+◌, ◌-◌, ◌<◌, ◌≤◌, Bool, true, false, List, [], ◌∷◌, ◌++◌, map, filter, length, Option, Some, None, refl, sym, ◌∙◌, ap, ap₂, arith, pos, ◌^◌, append_assoc, length-append}
+use Rattle.std.proofs.Common.{◌≡◌, ℕ, zero, suc, ◌+◌, ◌-◌, ◌*◌, ◌<◌, ◌≤◌, Bool, true, false, List, [], ◌∷◌, ◌++◌, map, filter, length, Option, Some, None, refl, sym, ◌∙◌, ap, ap₂, arith, pos, ◌^◌, append_assoc, length-append}
 use Rattle.std.proofs.lemmas.List.{map-append, append-nil, length-map}
 use Rattle.std.proofs.lemmas.List.Elements.{filter-append, filter_map-append}
 use Rattle.std.specs.Prelude.{slice_get, cond, filter_map}
@@ -17,6 +17,7 @@ use Rattle.lin_rows.proofs.Lists.{AllByRecursion-weaken}
 use Rattle.horn_rules.specs.declared.job.Premise.{Premise}
 use Rattle.horn_rules.specs.Home.{Home, State, Env, home_width}
 use Rattle.thr_base.specs.Held.{holds, positions}
+use Rattle.thr_base.specs.Limits.{most_predicates}
 use Rattle.horn_rules.specs.Fact.{Statement, IsSetOf, IsAtomOf, atoms_at}
 use Rattle.horn_rules.specs.Case.{wider_row, state_rows, env_rows, with_edge, behind}
 use Rattle.horn_rules.specs.Job.{premise_says}
@@ -42,15 +43,16 @@ none_there w atoms held position system is past =
 
 -- before the first position, all are left
 pub held-start : (w : Row → Row) (atoms done : List Row) (held : ℕ)
-    → done ++ map w (filter_map (at_number atoms) (filter (holds held) (range_with_len 1 128))) ≡ done ++ map w (atoms_at atoms (positions held))
+    → done ++ map w (filter_map (at_number atoms) (filter (holds held) (range_with_len 1 most_predicates))) ≡ done ++ map w (atoms_at atoms (positions held))
 unfolding positions
 held-start w atoms done held = refl
 
-pub held-next : (w : Row → Row) (g : ℕ → Option Row) (p : ℕ → Bool) (done more total : List Row) (k : ℕ) → k < 129 → more ≡ done ++ map w (filter_map g (filter p (k ∷ [])))
-    → done ++ map w (filter_map g (filter p (range_with_len k (129 - k)))) ≡ total → more ++ map w (filter_map g (filter p (range_with_len (k + 1) (129 - (k + 1))))) ≡ total
+-- one position more
+pub held-next : (w : Row → Row) (g : ℕ → Option Row) (p : ℕ → Bool) (done more total : List Row) (k : ℕ) → k < most_predicates + 1 → more ≡ done ++ map w (filter_map g (filter p (k ∷ [])))
+    → done ++ map w (filter_map g (filter p (range_with_len k (most_predicates + 1 - k)))) ≡ total → more ++ map w (filter_map g (filter p (range_with_len (k + 1) (most_predicates + 1 - (k + 1))))) ≡ total
 held-next w g p done more total k below is made =
     let rest = range_with_len (k + 1) (129 - (k + 1)) in
-    let left : 129 - k ≡ suc (129 - (k + 1)) = omega arith in
+    let left : most_predicates + 1 - k ≡ suc (most_predicates + 1 - (k + 1)) = omega arith in
     let whole : map w (filter_map g (filter p (k ∷ rest))) ≡ map w (filter_map g (filter p (k ∷ []))) ++ map w (filter_map g (filter p rest)) =
     ap (λ l. map w (filter_map g l)) (filter-append p (k ∷ []) rest)
     ∙ ap (map w) (filter_map-append g (filter p (k ∷ [])) (filter p rest))
@@ -147,8 +149,9 @@ few_edge_rows program i e thread edge is at =
     let set_few = few_sets edge.sets n (sets-within program edge.sets well.sets_no_counter) well.sets_none_twice in
     omega (arith, length-append kept_rows (tests ++ sets), length-append tests sets, length-map kept (kept_row n edge.inputs), length-map edge.tests (test_row n), length-map edge.sets (set_row n), few_kept, set_few, well.few_tests, is.few_columns)
 
+-- a premise's rows and an edge's have room in one system
 pub room : (program : Program) (i e k : ℕ) (thread : Thread) (edge : Edge) (rows view empty said : System) (w : ℕ) → IsProgram program → IsEdgeOf program i e thread edge
-    → rows ≡ edge_system program thread edge → view ≡ rows → empty ≡ record { columns = w; rows = [] } → length said.rows ≤ length empty.rows + k → k ≤ 258
+    → rows ≡ edge_system program thread edge → view ≡ rows → empty ≡ record { columns = w; rows = [] } → length said.rows ≤ length empty.rows + k → k ≤ 2 * (most_predicates + 1)
     → length said.rows + length view.rows < 2 ^ 32 - 1
 room program i e k thread edge rows view empty said w is at rows_is same made few less =
     omega (arith, few_edge_rows program i e thread edge is at, ap (λ system. length system.rows) rows_is, ap (λ system. length system.rows) same, ap (λ system. length system.rows) made, few)
@@ -214,7 +217,8 @@ pub seen_wide : (program : Program) (thread : Thread) (edge : Edge) (rows view e
 seen_wide program thread edge rows view empty w is same width made =
     omega (arith, ap (λ system. system.columns) is, ap (λ system. system.columns) same, width, ap (λ system. system.columns) made)
 
-pub few_after : (seen view empty said last : System) (w : ℕ) → length seen.rows ≤ 4098 → view ≡ seen → length said.rows ≤ length empty.rows + 129 → empty ≡ record { columns = w; rows = [] }
+-- rows of a premise with those that are seen are few
+pub few_after : (seen view empty said last : System) (w : ℕ) → length seen.rows ≤ 4098 → view ≡ seen → length said.rows ≤ length empty.rows + (most_predicates + 1) → empty ≡ record { columns = w; rows = [] }
     → last ≡ with_rows said view.rows → length last.rows < 2 ^ 31
 few_after seen view empty said last w few same more made is =
     omega (arith, few, ap (λ system. length system.rows) same, more, ap (λ system. length system.rows) made, ap (λ system. length system.rows) is, length-append said.rows view.rows)

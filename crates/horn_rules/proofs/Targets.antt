@@ -12,6 +12,7 @@ use Rattle.horn_rules.proofs.Numbers.{state_home-place}
 use Rattle.horn_rules.proofs.HomesThere.{place-location, edge-home, some-thread}
 use Rattle.std.specs.Option.{IsSome}
 use Rattle.horn_rules.proofs.InstanceLists.{eq-is, is-eq, is-told, is-apart, told-is, apart-is, other-number, same-number, edge-there}
+use Rattle.farkas_cert.proofs.Slack.{map_is}
 
 -- ---- from cases
 
@@ -45,10 +46,6 @@ if-option : {A : Type 0} (b : Bool) (x : Option A) (y : A) → (if b then x else
 if-option true x y e = (refl, e)
 if-option false x y e = cc
 
-map-some : {A B : Type 0} (f : A → B) (o : Option A) (y : B) → option_map f o ≡ Some y → (x : A) × (o ≡ Some x) × (f x ≡ y)
-map-some f None y e = cc
-map-some f (Some x) y e = (x, refl, cc)
-
 record LeadsBy (program : Program) (home : Home) (e : ℕ) (edge : Edge) : Type 0 where
   i : ℕ
   thread : Thread
@@ -77,17 +74,17 @@ leads-by program (State i l) e edge is = of-thread (at_number program.threads i)
 
 pub targets-have-cases : TargetsHaveCases
 targets-have-cases program (Init i) target homes is =
-    let (thread, at, same) = map-some (λ thread. State i 1) (at_number program.threads i) target is in
+    let (thread, at, same) = map_is (λ thread. State i 1) (at_number program.threads i) target is in
     (init_case program i, init i thread at, same)
 targets-have-cases program (Own f e) target homes is =
-    let (edge, at, same) = map-some (λ (edge : Edge). location_beside f.home edge.to) (edge_from program f.home e) target is in
+    let (edge, at, same) = map_is (λ (edge : Edge). location_beside f.home edge.to) (edge_from program f.home e) target is in
     let leads = leads-by program f.home e edge at in (
       own_case program leads.i leads.thread edge f,
       own leads.i e leads.thread edge f leads.edge_is leads.home_is,
       ap (λ h. location_beside h edge.to) (sym leads.home_is) ∙ same,
     )
 targets-have-cases program (Guar f e) target homes is =
-    let (edge, at, same) = map-some (λ (edge : Edge). edge_beside f.home e) (edge_from program f.home e) target is in
+    let (edge, at, same) = map_is (λ (edge : Edge). edge_beside f.home e) (edge_from program f.home e) target is in
     let leads = leads-by program f.home e edge at in (
       guar_case program leads.i e leads.thread edge f,
       guar leads.i e leads.thread edge f leads.edge_is leads.home_is,
@@ -104,7 +101,7 @@ targets-have-cases program (Environment f t) target homes is =
     )
 targets-have-cases program (Inter f g e) target homes is =
     let (differ, found) = if-option (of_another f.home g.home) (option_map (λ edge. f.home) (edge_from program g.home e)) target is in
-    let (edge, at, same) = map-some (λ (edge : Edge). f.home) (edge_from program g.home e) target found in
+    let (edge, at, same) = map_is (λ (edge : Edge). f.home) (edge_from program g.home e) target found in
     let are = apart-is f.home g.home differ in
     let leads = leads-by program g.home e edge at in
     let place = state_home-place program are.k are.l (subst (IsHomeOf program) are.home_is homes.0) in

@@ -9,7 +9,7 @@ use Rattle.farkas_cert.specs.Cert.{IsRefuted}
 use Rattle.predicate_sets.specs.Sets.{set_at}
 use Rattle.transition_formula.specs.Program.{Program, Thread, Edge, IsProgram, IsEdgeOf, at_number}
 use Rattle.horn_rules.specs.declared.job.Job.{Job}
-use Rattle.horn_rules.specs.Home.{Home, homes, IsHomeOf, home_width}
+use Rattle.horn_rules.specs.Home.{Home, State, Env, homes, IsHomeOf, IsLocationOf, home_width}
 use Rattle.horn_rules.specs.Fact.{Sets, Fact, Statement, AreSetsOf, IsStatementOf, statement_of}
 use Rattle.horn_rules.specs.Instance.{Instance, HasKind, premises_of, map_instance}
 use Rattle.horn_rules.specs.Case.{Case, IsCaseOf, placed_at, in_front}
@@ -141,6 +141,20 @@ pub record AreInstancesOver (program : Program) (rule : RuleName) (facts : List 
 abbrev pub InstancesAreExact : Type 0
 InstancesAreExact = (program : Program) (rule : RuleName) (facts : List Statement)
     → AllByRecursion (λ fact. IsHomeOf program fact.home) facts → AreInstancesOver program rule facts (instances_over program rule facts)
+
+-- ---- the homes that there are
+
+-- Each location of a thread is a home.
+abbrev pub LocationsAreHomes : Type 0
+LocationsAreHomes = (program : Program) (k l : ℕ) (thread : Thread) → IsLocationOf program k l thread → IsHomeOf program (State k l)
+
+-- Each edge is a home.
+abbrev pub EdgesAreHomes : Type 0
+EdgesAreHomes = (program : Program) (i e : ℕ) (thread : Thread) (edge : Edge) → IsEdgeOf program i e thread edge → IsHomeOf program (Env i e)
+
+-- A home at an edge has its edge.
+abbrev pub HomesHaveEdges : Type 0
+HomesHaveEdges = (program : Program) (i e : ℕ) → IsHomeOf program (Env i e) → (thread : Thread) × (edge : Edge) × IsEdgeOf program i e thread edge
 
 -- ---- what is stored
 

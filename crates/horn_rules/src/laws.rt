@@ -1,5 +1,5 @@
 ghost use Rattle.horn_rules.specs.Cover.{ClosedListsCover, ClosedLeastCovers, LeastIsClosed, CoveredListsDoNotFail, CoveredLeastDoesNotFail, CoveredListsAreSafe, CoveredLeastIsSafe};
-ghost use Rattle.horn_rules.specs.Laws.{CasesAreUnique, JobsHaveOneCase, PremisesHaveHomes, CasesHaveTheirTarget, TargetsHaveCases, AtomsArePlaced, PostsAreUnique, FactsAreGiven, GivenAtomsHold, OpenInstancesGiveTheirHomes, BareInstancesAreOpen, EachInstanceGivesItsHome, InstancesAreExact, LeastHasWhatItGives, LeastIsSmallest, HomesAreDistinct, StoredFactsTellFacts, StoredSetsAreByNumber, TablesAreUnique};
+ghost use Rattle.horn_rules.specs.Laws.{CasesAreUnique, JobsHaveOneCase, PremisesHaveHomes, CasesHaveTheirTarget, TargetsHaveCases, AtomsArePlaced, PostsAreUnique, FactsAreGiven, GivenAtomsHold, OpenInstancesGiveTheirHomes, BareInstancesAreOpen, EachInstanceGivesItsHome, InstancesAreExact, LocationsAreHomes, EdgesAreHomes, HomesHaveEdges, LeastHasWhatItGives, LeastIsSmallest, HomesAreDistinct, StoredFactsTellFacts, StoredSetsAreByNumber, TablesAreUnique};
 ghost use Rattle.horn_rules.specs.Steps.{StartsAreDescribed, OwnStepsAreDescribed, OwnStepsAreTold, ToldStepsAreDescribed, InterferingStepsAreDescribed};
 
 use thr_base::positions_are_those_held;
@@ -88,6 +88,13 @@ pub fn the_least_set_is_closed()
     ensures closed { LeastIsClosed }
     ensures gives { LeastHasWhatItGives }
     ensures smallest { LeastIsSmallest }
+{}
+
+/// Locations and edges are homes, and a home at an edge has its edge: laws, and no code.
+pub fn locations_and_edges_are_homes()
+    ensures locations { LocationsAreHomes }
+    ensures edges { EdgesAreHomes }
+    ensures told { HomesHaveEdges }
 {}
 
 /// A home has one number, what stands for the same fact is the same, and lists by number are predicates of their homes: laws, and no

@@ -20,11 +20,11 @@ pub use homes::{has_home, home_count, named, number};
 pub use job::{Job, Premise, instance_rows};
 pub use laws::{
     atoms_are_placed, cases_are_unique, closed_sets_cover, facts_are_given, given_atoms_hold,
-    instances_are_exact, interfering_steps_are_described, own_steps_are_described,
-    own_steps_are_told, posts_are_unique, premises_have_homes, starts_are_described,
-    stored_values_tell_what_they_stand_for, tables_are_unique, targets_are_by_homes,
-    the_least_set_is_closed, told_steps_are_described, where_nothing_fails_no_run_does,
-    without_predicates_each_instance_gives_its_home,
+    instances_are_exact, interfering_steps_are_described, locations_and_edges_are_homes,
+    own_steps_are_described, own_steps_are_told, posts_are_unique, premises_have_homes,
+    starts_are_described, stored_values_tell_what_they_stand_for, tables_are_unique,
+    targets_are_by_homes, the_least_set_is_closed, told_steps_are_described,
+    where_nothing_fails_no_run_does, without_predicates_each_instance_gives_its_home,
 };
 pub use leading::{of_another, target, tells_another};
 pub use lines::{push_fact, table};

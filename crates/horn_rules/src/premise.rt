@@ -10,7 +10,7 @@ ghost use Rattle.horn_rules.specs.Fact.{atoms_at};
 
 use lin_rows::{Atom, Rows};
 use std::alloc::AllocError;
-use thr_base::{Loc, ThreadNo, holds};
+use thr_base::{Loc, MOST_PREDICATES, ThreadNo, holds};
 use transition_formula::{Program, push_column_is};
 
 /// Appends an atom of the first columns. Here and below, `row` is room for the coefficients.
@@ -65,7 +65,7 @@ pub(crate) fn push_held(
     ensures few { OnOk result (length rows.new.rows ≤ length rows.old.rows + most_predicates) }
     ensures rows { OnOk result (rows.new ≡ with_rows rows.old (map (wider_row (rows.old.columns - columns)) (atoms_at atoms.now (positions held)))) }
 {
-    'positions: for position in 1..129 {
+    'positions: for position in 1..MOST_PREDICATES + 1 {
         push_if_held(rows, row, columns, atoms, held, position)?;
     }
     Ok(())

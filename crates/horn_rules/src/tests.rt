@@ -261,6 +261,7 @@ fn laws_are_called() {
     facts_are_given();
     given_atoms_hold();
     instances_are_exact();
+    locations_and_edges_are_homes();
     posts_are_unique();
     premises_have_homes();
     starts_are_described();

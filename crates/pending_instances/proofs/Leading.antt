@@ -1,8 +1,8 @@
 -- Turns of a layout are exactly the instances that lead.
-use Rattle.std.proofs.Common.{◌≡◌, ℕ, zero, suc, ◌+◌, ◌<◌, ◌≤◌, ◌⊎◌, inl, inr, eqb, eq-eqb, Bool, true, false, not, ◌&&◌, List, [], ◌∷◌, length, map, Option, Some, None, refl, ap, sym, ◌∙◌, subst, arith}
+use Rattle.std.proofs.Common.{◌≡◌, ℕ, zero, suc, ◌<◌, eqb, Bool, true, false, ◌&&◌, List, [], ◌∷◌, length, map, Option, Some, None, refl, ap, sym, ◌∙◌, subst, arith}
 use Rattle.std.specs.Prelude.{option_map, if◌then◌else◌}
-use Rattle.std.specs.Option.{option_and_then, IsSome}
-use Rattle.std.proofs.lemmas.Bool.{and_from, and_parts, eqb-true}
+use Rattle.std.specs.Option.{IsSome}
+use Rattle.std.proofs.lemmas.Bool.{and_from, and_parts}
 use Rattle.std.specs.List.{Contains, slice_get}
 use Rattle.thr_base.specs.Held.{Rise}
 use Rattle.thr_base.specs.declared.names.EdgeNo.{EdgeNo}
@@ -16,10 +16,9 @@ use Rattle.thr_base.specs.declared.names.RuleName.TheVariants.{Rg, Og}
 use Rattle.fact_table.specs.declared.live_fact.LiveFact.{LiveFact}
 use Rattle.transition_formula.specs.Program.{Program, Thread, Edge, IsEdgeOf, at_number}
 use Rattle.horn_rules.specs.Home.{Home, State, Env, homes}
-use Rattle.horn_rules.specs.Instance.{HasKind, Init, Own, Guar, Env as Environment, Inter, first_of, second_of}
+use Rattle.horn_rules.specs.Instance.{HasKind, Init, Own, Guar, Env as Environment, Inter}
 use Rattle.horn_rules.specs.Instances.{of_another, tells_another}
 use Rattle.horn_rules.specs.Laws.{HomesAreDistinct}
-use Rattle.horn_rules.specs.Stored.{instance_of}
 use Rattle.horn_rules.specs.Target.{edge_beside, edge_from, location_beside, target_at}
 use Rattle.instance_cursors.specs.declared.layout.EdgeHomes.{EdgeHomes}
 use Rattle.instance_cursors.specs.declared.start.Start.{Start as StartOf}
@@ -31,9 +30,9 @@ use Rattle.instance_cursors.specs.Turns.{turn_at}
 use Rattle.instance_cursors.specs.Waiting as waiting
 use Rattle.instance_cursors.specs.Ways.{Layout}
 use Rattle.pending_instances.specs.Layout.{AreStartsSeen, IsEdgeSeen, IsLayoutOf, seen_home}
-use Rattle.pending_instances.specs.Open.{IsTarget, LeadsTo, home_live, target_in}
+use Rattle.pending_instances.specs.Open.{LeadsTo, home_live, target_in}
 use Rattle.pending_instances.specs.Pending.{AreAtHomes}
-use Rattle.pending_instances.proofs.Seen.{LeadsFrom, SourceAt, Stands, edge_from-of, edge_from-there, has_source-of, of_back, of_from, seen_at, source_at, stands_from, stands_of, tells_back, tells_from}
+use Rattle.pending_instances.proofs.Seen.{Stands, edge_from-of, edge_from-there, has_source-of, of_back, of_from, seen_at, source_at, stands_from, stands_of, tells_back, tells_from}
 
 -- What is known of a layout, its starts and live facts.
 pub record Fits (program : Program) (layout : Layout) (starts : List StartOf) (live : List LiveFact) : Type 0 where
@@ -46,7 +45,7 @@ pub record Fits (program : Program) (layout : Layout) (starts : List StartOf) (l
 home_same : (one other : HomeNo) → one.0 ≡ other.0 → one ≡ other
 home_same one other e = let made : ℕ → HomeNo = λ n. record { 0 = n } in ap made e
 
-id_same : (one other : FactId) → one.0 ≡ other.0 → one ≡ other
+pub id_same : (one other : FactId) → one.0 ≡ other.0 → one ≡ other
 id_same one other e = let made : ℕ → FactId = λ n. record { 0 = n } in ap made e
 
 edge_same : (one other : EdgeNo) → one.0 ≡ other.0 → one ≡ other

@@ -1,8 +1,5 @@
 -- Where something leads, that home has a number.
-use Rattle.std.proofs.Common.{◌≡◌, ℕ, Option, Some, None, refl, ap, sym, ◌∙◌, subst, List}
-use Rattle.std.specs.List.{Contains}
-use Rattle.thr_base.specs.declared.names.EdgeNo.{EdgeNo}
-use Rattle.thr_base.specs.declared.names.FactId.{FactId}
+use Rattle.std.proofs.Common.{◌≡◌, Some, None, refl, ap, sym, ◌∙◌, List}
 use Rattle.thr_base.specs.declared.names.HomeNo.{HomeNo}
 use Rattle.thr_base.specs.declared.names.Instance.{Instance}
 use Rattle.thr_base.specs.declared.names.Instance.TheVariants as stored
@@ -12,7 +9,7 @@ use Rattle.horn_rules.specs.Home.{Home, State, Env, homes}
 use Rattle.horn_rules.specs.Target.{edge_beside, location_beside}
 use Rattle.instance_cursors.specs.declared.start.Start.{Start as StartOf}
 use Rattle.instance_cursors.specs.Ways.{Layout}
-use Rattle.pending_instances.specs.Open.{IsTarget, Leads, LeadsTo, home_live, target_in}
+use Rattle.pending_instances.specs.Open.{Leads, LeadsTo, home_live, target_in}
 use Rattle.pending_instances.proofs.Leading.{Fits, env_there, guar_there, inter_there, own_there, place_for, start_there}
 use Rattle.pending_instances.proofs.Seen.{stands_from}
 

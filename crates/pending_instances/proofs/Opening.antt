@@ -1,6 +1,5 @@
 -- What is open among cursors, said of the program.
-use Rattle.std.proofs.Common.{◌≡◌, ◌↔◌, ℕ, zero, suc, ◌<◌, ◌⊎◌, inl, inr, true, List, [], ◌∷◌, ◌++◌, map, length, get_or, Option, Some, None, refl, ap, sym, ◌∙◌, subst, arith}
-use Rattle.std.proofs.lemmas.Bool.{cases_eq}
+use Rattle.std.proofs.Common.{◌≡◌, ℕ, zero, suc, ◌<◌, inl, inr, List, [], ◌∷◌, map, length, get_or, Some, None, refl, ap, sym, ◌∙◌, subst, arith}
 use Rattle.std.specs.List.{Contains}
 use Rattle.std.specs.Option.{IsSome}
 use Rattle.thr_base.specs.Held.{Rise}
@@ -8,18 +7,16 @@ use Rattle.thr_base.specs.declared.names.HomeNo.{HomeNo}
 use Rattle.thr_base.specs.declared.names.Instance.{Instance}
 use Rattle.thr_base.specs.declared.names.Instance.TheVariants as stored
 use Rattle.fact_table.specs.declared.live_fact.LiveFact.{LiveFact}
-use Rattle.fact_table.specs.Live.{premises_of}
 use Rattle.instance_cursors.specs.declared.start.Start.{Start as StartOf}
 use Rattle.instance_cursors.specs.Cursors.{is_among}
-use Rattle.instance_cursors.specs.Waiting as waiting
-use Rattle.instance_cursors.specs.Waiting.{Begins, IsOpen, Opens, OpensTo, Reopens, Stays, Waiting, untaken}
+use Rattle.instance_cursors.specs.Waiting.{OpensTo, Waiting, untaken}
 use Rattle.instance_cursors.specs.Ways.{Layout}
 use Rattle.transition_formula.specs.Program.{Program, at_number}
 use Rattle.horn_rules.specs.Home.{Home, State, homes}
 use Rattle.horn_rules.specs.Laws.{HomesAreDistinct}
 use Rattle.pending_instances.specs.Layout.{AreStartsSeen, IsLayoutOf}
-use Rattle.pending_instances.specs.Laws.{BegunLead, ChangesReopen, ComersOpen, IsTargetAmong, StaysForPrograms, TurnsLead}
-use Rattle.pending_instances.specs.Open.{IsTarget, Leads, LeadsTo, home_live, target_in}
+use Rattle.pending_instances.specs.Laws.{BegunLead, ChangesReopen, ComersOpen, StaysForPrograms, TurnsLead}
+use Rattle.pending_instances.specs.Open.{Leads, LeadsTo, home_live, target_in}
 use Rattle.pending_instances.specs.Pending.{AreAtHomes, IsFor}
 use Rattle.pending_instances.proofs.Leading.{Fits, env_leads, env_there, guar_leads, guar_there, inter_leads, inter_there, leads_back, leads_forward, own_leads, own_there, same_number}
 use Rattle.pending_instances.proofs.Numbering.{leads_somewhere}
@@ -30,7 +27,7 @@ turns_lead distinct program layout starts live layout_is starts_are at_homes ris
     let fits : Fits program layout starts live = record { layout_is = layout_is; starts_are = starts_are; at_homes = at_homes; rise = rise; distinct = distinct } in
     (leads_forward program layout starts live fits instance home, leads_back program layout starts live fits instance home)
 
-fits_of : HomesAreDistinct → (program : Program) (w : Waiting) → IsFor program w → Rise 0 (map (λ f. f.id.0) w.live) → Fits program w.layout w.starts w.live
+pub fits_of : HomesAreDistinct → (program : Program) (w : Waiting) → IsFor program w → Rise 0 (map (λ f. f.id.0) w.live) → Fits program w.layout w.starts w.live
 fits_of distinct program w is rise = record { layout_is = is.layout; starts_are = is.starts; at_homes = is.at_homes; rise = rise; distinct = distinct }
 
 leads_of : (program : Program) (w : Waiting) (instance : Instance) (home : HomeNo) → LeadsTo program w.layout.rule w.live instance home → Leads program w.layout.rule w.live instance
@@ -61,7 +58,7 @@ alike_at (x ∷ one) (y ∷ other) same s k lt is =
 untaken_at : (one other : List StartOf) → map untaken one ≡ map untaken other → (s : StartOf) → Contains one s → (t : StartOf) × Contains other t × (untaken t ≡ untaken s)
 untaken_at one other same s has = let alike = alike_at one other same s has.0 has.1 has.2 in (alike.start, alike.is_there, alike.same)
 
-starts_stay : (program : Program) (one other : List StartOf) → map untaken other ≡ map untaken one → AreStartsSeen program one → AreStartsSeen program other
+pub starts_stay : (program : Program) (one other : List StartOf) → map untaken other ≡ map untaken one → AreStartsSeen program one → AreStartsSeen program other
 starts_stay program one other same is =
     record {
       are = λ s has.

@@ -1,6 +1,6 @@
 -- What a layout shows of its program, and live facts of their homes.
-use Rattle.std.proofs.Common.{◌≡◌, ℕ, zero, suc, ◌+◌, ◌<◌, ◌≤◌, ◌⊎◌, inl, inr, eqb, eq-eqb, Bool, true, false, not, ◌&&◌, cond, List, [], ◌∷◌, length, map, get_or, Option, Some, None, refl, ap, sym, ◌∙◌, subst, arith}
-use Rattle.std.specs.Prelude.{option_map, unwrap_or, ◌==◌, if◌then◌else◌}
+use Rattle.std.proofs.Common.{◌≡◌, ℕ, zero, suc, ◌<◌, ◌⊎◌, inl, inr, eqb, eq-eqb, Bool, true, false, cond, List, [], ◌∷◌, length, map, get_or, Option, Some, None, refl, ap, sym, ◌∙◌, arith}
+use Rattle.std.specs.Prelude.{option_map, unwrap_or}
 use Rattle.std.proofs.lemmas.Bool.{eqb-true, ne_eqb}
 use Rattle.std.proofs.lemmas.Option.{slice_get-map}
 use Rattle.std.specs.List.{Contains, slice_get}
@@ -62,11 +62,11 @@ pub record Stands (program : Program) (live : List LiveFact) (id : ℕ) (f : Liv
   pub number_is : at_number (homes program) f.fact.home.0 ≡ Some home
   pub home_is : home_live program live id ≡ Some home
 
-some_of : {X : Type 0} (o : Option X) → IsSome o → (x : X) × (o ≡ Some x)
+pub some_of : {X : Type 0} (o : Option X) → IsSome o → (x : X) × (o ≡ Some x)
 some_of None is = cc
 some_of (Some x) is = (x, refl)
 
-numbered_home : (program : Program) (n : ℕ) (home : Home) (o : Option Home) → at_number (homes program) n ≡ o → o ≡ Some home → home_numbered program n ≡ home
+pub numbered_home : (program : Program) (n : ℕ) (home : Home) (o : Option Home) → at_number (homes program) n ≡ o → o ≡ Some home → home_numbered program n ≡ home
 numbered_home program n home None is there = cc
 numbered_home program n home (Some other) is there =
     let same : other ≡ home = cc in

@@ -1,43 +1,19 @@
--- What the calls of a value that tells which instances are pending are to answer. There is no such value yet: it is to stand on cursors over the
--- program's layout, by the laws of this crate.
-use Rattle.std.specs.Prelude.{◌≡◌, ◌≢◌, ◌↔◌, ◌⊎◌, ℕ, ◌+◌, Bool, true, nat_eq, List, [], ◌∷◌, ◌++◌, filter, Some}
-use Rattle.std.specs.List.{Contains, list_any}
+-- What the calls of a value that tells which instances are pending answer, said of the program.
+use Rattle.std.specs.Prelude.{◌≡◌, ◌≢◌, ◌↔◌, ◌⊎◌, ℕ, ◌+◌, Bool, List, [], ◌∷◌, ◌++◌, filter, Some}
+use Rattle.std.specs.List.{Contains}
 use Rattle.thr_base.specs.declared.names.RuleName.{RuleName}
 use Rattle.thr_base.specs.declared.names.HomeNo.{HomeNo}
 use Rattle.thr_base.specs.declared.names.Instance.{Instance}
 use Rattle.transition_formula.specs.Program.{Program}
-use Rattle.horn_rules.specs.Home.{Home, State, Env}
+use Rattle.horn_rules.specs.Home.{Home}
 use Rattle.horn_rules.specs.Stored.{home_numbered}
 use Rattle.fact_table.specs.declared.live_fact.LiveFact.{LiveFact}
 use Rattle.fact_table.specs.Live.{premises_of}
 use Rattle.fact_table.specs.Table.{FactTable}
-use Rattle.pending_instances.specs.declared.next.Next.{Next}
+use Rattle.instance_cursors.specs.declared.choosing.Next.{Next}
+pub use Rattle.instance_cursors.specs.Waiting.{Waiting, IsOpen, NoneIsOpen}
 use Rattle.pending_instances.specs.Open.{IsTarget, Leads, target_in}
-
--- the thread of a home
-abbrev pub thread_of_home : Home → ℕ
-thread_of_home (State i l) = i
-thread_of_home (Env i e) = i
-
--- what contracts see of a value that tells which instances are pending: the rule, for how many facts there is room, how many ids were given, and the
--- live facts
-pub record Waiting : Type 0 where
-  pub rule : RuleName
-  pub room : ℕ
-  pub given : ℕ
-  pub live : List LiveFact
-
--- It is for the program: not built yet, so nothing is.
-unfoldable pub IsFor : Program → Waiting → Type 0
-IsFor program waiting = ⊥
-
--- The instance is open: not built yet, so none is.
-unfoldable pub IsOpen : Waiting → Instance → Type 0
-IsOpen waiting instance = ⊥
-
--- Nothing is open.
-abbrev pub NoneIsOpen : Waiting → Type 0
-NoneIsOpen waiting = (j : Instance) → ¬ IsOpen waiting j
+pub use Rattle.pending_instances.specs.Pending.{IsFor, IsTargetAmong, thread_of_home}
 
 -- It is open, with the number of its target; and it leads to a home of the thread, unless nothing that does is open.
 pub record IsNext (thread : ℕ) (waiting : Waiting) (next : Next) : Type 0 where
@@ -47,10 +23,15 @@ pub record IsNext (thread : ℕ) (waiting : Waiting) (next : Next) : Type 0 wher
       → (thread_of_home (home_numbered program next.home.0) ≡ thread)
       ⊎ ((j : Instance) (target : Home) → IsOpen waiting j → target_in program waiting.live j ≡ Some target → thread_of_home target ≢ thread)
 
+-- The home is that to which the open instance leads.
+pub record IsOpenTo (waiting : Waiting) (instance : Instance) (home : HomeNo) : Type 0 where
+  pub is_open : IsOpen waiting instance
+  pub target_is : (program : Program) → IsFor program waiting → IsTarget program waiting.live instance home
+
 -- At the beginning what leads is open.
 pub record Begins (program : Program) (rule : RuleName) (facts : ℕ) (made : Waiting) : Type 0 where
   pub is_for : IsFor program made
-  pub rule_is : made.rule ≡ rule
+  pub rule_is : made.layout.rule ≡ rule
   pub room_is : made.room ≡ facts
   pub given_is : made.given ≡ 0
   pub live_is : made.live ≡ []
@@ -59,7 +40,7 @@ pub record Begins (program : Program) (rule : RuleName) (facts : ℕ) (made : Wa
 -- All but what is open stays.
 pub record StaysFor (program : Program) (old new : Waiting) : Type 0 where
   pub is_for : IsFor program new
-  pub rule_is : new.rule ≡ old.rule
+  pub rule_is : new.layout.rule ≡ old.layout.rule
   pub room_is : new.room ≡ old.room
   pub given_is : new.given ≡ old.given
   pub live_is : new.live ≡ old.live
@@ -79,11 +60,11 @@ pub record HasCome (waiting : Waiting) (table : FactTable) : Type 0 where
 -- What names the new fact opens.
 pub record Opens (program : Program) (old : Waiting) (table : FactTable) (new : Waiting) : Type 0 where
   pub is_for : IsFor program new
-  pub rule_is : new.rule ≡ old.rule
+  pub rule_is : new.layout.rule ≡ old.layout.rule
   pub room_is : new.room ≡ old.room
   pub given_is : new.given ≡ table.given
   pub live_is : new.live ≡ table.live
-  pub opens : (j : Instance) → IsOpen new j ↔ (IsOpen old j ⊎ (Leads program new.rule new.live j × Contains (premises_of j) (record { 0 = table.given })))
+  pub opens : (j : Instance) → IsOpen new j ↔ (IsOpen old j ⊎ (Leads program new.layout.rule new.live j × Contains (premises_of j) (record { 0 = table.given })))
 
 -- Some facts of the table went.
 pub record IsLeft (waiting : Waiting) (table : FactTable) : Type 0 where
@@ -91,15 +72,11 @@ pub record IsLeft (waiting : Waiting) (table : FactTable) : Type 0 where
   pub keep : LiveFact → Bool
   pub live_is : table.live ≡ filter keep waiting.live
 
--- the home is one of these
-abbrev pub is_among : List HomeNo → HomeNo → Bool
-is_among homes home = list_any (λ h. nat_eq h.0 home.0) homes
-
 -- Of what leads that is open which was, or whose target is one of these.
 pub record Reopens (program : Program) (old : Waiting) (homes : List HomeNo) (table : FactTable) (new : Waiting) : Type 0 where
   pub is_for : IsFor program new
-  pub rule_is : new.rule ≡ old.rule
+  pub rule_is : new.layout.rule ≡ old.layout.rule
   pub room_is : new.room ≡ old.room
   pub given_is : new.given ≡ table.given
   pub live_is : new.live ≡ table.live
-  pub opens : (j : Instance) → IsOpen new j ↔ (Leads program new.rule new.live j × (IsOpen old j ⊎ ((home : HomeNo) × IsTarget program new.live j home × (is_among homes home ≡ true))))
+  pub opens : (j : Instance) → IsOpen new j ↔ (Leads program new.layout.rule new.live j × (IsOpen old j ⊎ IsTargetAmong program new.live homes j))

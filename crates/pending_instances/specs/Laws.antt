@@ -1,22 +1,19 @@
 -- What is open among the cursors is what leads in the program.
-use Rattle.std.specs.Prelude.{◌≡◌, ◌↔◌, ◌⊎◌, ℕ, true, List, [], map}
+use Rattle.std.specs.Prelude.{◌↔◌, ◌⊎◌, ℕ, List, [], map}
 use Rattle.std.specs.List.{Contains}
-use Rattle.std.specs.Option.{IsSome}
 use Rattle.thr_base.specs.Held.{Rise}
 use Rattle.thr_base.specs.declared.names.HomeNo.{HomeNo}
 use Rattle.thr_base.specs.declared.names.Instance.{Instance}
 use Rattle.fact_table.specs.declared.live_fact.LiveFact.{LiveFact}
 use Rattle.fact_table.specs.Live.{premises_of}
 use Rattle.instance_cursors.specs.declared.start.Start.{Start as StartOf}
-use Rattle.instance_cursors.specs.Cursors.{is_among}
 use Rattle.instance_cursors.specs.Waiting as waiting
 use Rattle.instance_cursors.specs.Waiting.{Begins, IsOpen, Opens, Reopens, Stays, Waiting}
 use Rattle.instance_cursors.specs.Ways.{Layout}
-use Rattle.transition_formula.specs.Program.{Program, at_number}
-use Rattle.horn_rules.specs.Home.{homes}
+use Rattle.transition_formula.specs.Program.{Program}
 use Rattle.pending_instances.specs.Layout.{AreStartsSeen, IsLayoutOf}
-use Rattle.pending_instances.specs.Open.{IsTarget, Leads, LeadsTo}
-use Rattle.pending_instances.specs.Pending.{AreAtHomes, IsFor}
+use Rattle.pending_instances.specs.Open.{Leads, LeadsTo}
+use Rattle.pending_instances.specs.Pending.{AreAtHomes, IsFor, IsTargetAmong}
 
 -- The turns and starts of a program's layout are exactly its instances that lead, each to the number of its target.
 abbrev pub TurnsLead : Type 0
@@ -36,10 +33,6 @@ BegunLead = (program : Program) (layout : Layout) (starts : List StartOf) (facts
 abbrev pub ComersOpen : Type 0
 ComersOpen = (program : Program) (old new : Waiting) (fact : LiveFact) → IsFor program new → Rise 0 (map (λ f. f.id.0) new.live) → Opens old fact new
     → (instance : Instance) → IsOpen new instance ↔ (IsOpen old instance ⊎ (Leads program new.layout.rule new.live instance × Contains (premises_of instance) fact.id))
-
--- The target's number is among these.
-abbrev pub IsTargetAmong : Program → List LiveFact → List HomeNo → Instance → Type 0
-IsTargetAmong program live homes instance = (home : HomeNo) × IsTarget program live instance home × (is_among homes home ≡ true)
 
 -- Where facts go and homes change, of what leads exactly that is open which was, or whose target changed.
 abbrev pub ChangesReopen : Type 0

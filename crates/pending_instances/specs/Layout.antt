@@ -1,5 +1,5 @@
 -- A program as cursors see it.
-use Rattle.std.specs.Prelude.{◌≡◌, ℕ, List, map, slice_get, Some}
+use Rattle.std.specs.Prelude.{◌≡◌, ℕ, false, List, map, slice_get, Some}
 use Rattle.std.specs.List.{Contains}
 use Rattle.std.specs.Option.{IsSome}
 use Rattle.thr_base.specs.Held.{Rise}
@@ -37,6 +37,10 @@ pub record AreStartsSeen (program : Program) (starts : List StartOf) : Type 0 wh
   pub are : (start : StartOf) → Contains starts start → IsSome (at_number program.threads start.thread.0)
   pub homes_are : (start : StartOf) → Contains starts start → at_number (homes program) start.home.0 ≡ Some (State start.thread.0 1)
   pub all : (i : ℕ) → IsSome (at_number program.threads i) → (start : StartOf) × Contains starts start × (start.thread.0 ≡ i)
+
+-- No start was taken.
+abbrev pub NoneIsTaken : List StartOf → Type 0
+NoneIsTaken starts = (start : StartOf) → Contains starts start → start.taken ≡ false
 
 -- The layout is of the program.
 pub record IsLayoutOf (program : Program) (layout : Layout) : Type 0 where

@@ -3,3 +3,4 @@ pub mod Layout
 pub mod Pending
 pub mod Laws
 pub mod Calls
+pub mod inside

@@ -1,4 +1,5 @@
-use Rattle.std.proofs.Common.{sym, ◌∙◌, ap, [], arith}
+use Rattle.std.proofs.Common.{sym, ◌∙◌, ap, [], ◌+◌, arith}
+use Rattle.thr_base.specs.Limits.{most_predicates}
 use Rattle.lin_rows.specs.System.{with_rows}
 use Rattle.horn_rules.specs.Job.{premise_says}
 use Rattle.horn_rules.proofs.Premises.{same_edge, wide, room, step_is}
@@ -14,7 +15,7 @@ pub push_rows-requires-clause-room : goal.push_rows-requires-clause-room
 push_rows-requires-clause-room c =
     let r = c.requires in
     let at = same_edge c.args.program.now _ _ _ _ c.args.e.0 r.thread r.edge (sym c.location_of.ensures ∙ r.premise_is.home_is) r.edge_is in
-    room c.args.program.now _ _ 129 r.thread r.edge _ _ c.new-rows.result c.push_state.new.rows _ c.in_ok-push_state.ensures.program at (c.in_ok-edge.ensures r.thread r.edge at) c.view-2.ensures c.new-rows.ensures c.in_ok-push_state.ensures.few (omega arith)
+    room c.args.program.now _ _ (most_predicates + 1) r.thread r.edge _ _ c.new-rows.result c.push_state.new.rows _ c.in_ok-push_state.ensures.program at (c.in_ok-edge.ensures r.thread r.edge at) c.view-2.ensures c.new-rows.ensures c.in_ok-push_state.ensures.few (omega arith)
 
 pub returns : goal.returns
 returns c i thread edge at home =
