@@ -9,7 +9,7 @@ use Rattle.thr_base.specs.declared.names.Instance.{Instance as StoredInstance}
 use Rattle.fact_table.specs.Table.{FactTable}
 use Rattle.derivation_tree.specs.Facts.{target_among}
 use Rattle.derivation_tree.specs.Tree.{thread_of}
-use Rattle.pending_instances.specs.declared.next.Next.{Next}
+use Rattle.instance_cursors.specs.declared.choosing.Next.{Next}
 use Rattle.pending_instances.specs.Calls.{Waiting, IsOpen, IsNext, NoneIsOpen, thread_of_home}
 use Rattle.pending_instances.specs.Open.{IsTarget, target_in}
 use Rattle.core_steps.specs.State.{Opening, State, Task}
@@ -31,7 +31,7 @@ same-thread (AtEdge i e) = refl
 
 pub none-pending : (opening : Opening) (state : State) (table : FactTable) (waiting : Waiting) → IsWaiting opening state table waiting → state.stop ≡ None → NoneIsOpen waiting → NonePending opening state
 none-pending opening state table waiting is none closed task pending =
-    closed (stored_of task.instance) ((is.opens none (stored_of task.instance)).1 (task, sym (same-stored task.instance), pending))
+    let (home, open_there) = (is.opens none (stored_of task.instance)).1 (task, sym (same-stored task.instance), pending) in closed (stored_of task.instance) home open_there
 
 -- where instances lead, by the table and by the state
 pub led-alike : (program : Program) (limit : ℕ) (state : State) (table : FactTable) (instance : StoredInstance) → IsFullTable program limit state table

@@ -1,19 +1,22 @@
 -- How a posted fact comes into the table.
-use Rattle.std.proofs.Common.{◌≡◌, ◌≢◌, ◌<◌, ◌≤◌, ◌+◌, ◌-◌, ◌^◌, ℕ, List, [], ◌∷◌, map, length, Option, Some, None, true, refl, sym, ap, subst, ◌∙◌, arith}
-use Rattle.std.specs.List.{AllByRecursion, list_all}
+use Rattle.std.proofs.Common.{◌≡◌, ◌<◌, ◌≤◌, ◌+◌, ◌-◌, ◌^◌, ℕ, List, map, length, Option, Some, sym, ap, ◌∙◌, arith}
+use Rattle.std.specs.List.{list_all}
 use Rattle.std.proofs.lemmas.List.{length-map, length-reverse}
-use Rattle.std.specs.Prelude.{◌==◌, ◌&&◌}
+use Rattle.std.specs.Prelude.{◌==◌}
 use Rattle.thr_base.specs.declared.names.FactId.{FactId}
 use Rattle.thr_base.specs.declared.names.Fact.{Fact as StoredFact}
 use Rattle.fact_table.specs.declared.live_fact.LiveFact.{LiveFact}
 use Rattle.fact_table.specs.declared.table.Inserted.TheVariants as inserted
 use Rattle.fact_table.specs.Live.{ArePremisesLive}
-use Rattle.fact_table.specs.Table.{FactTable, HasHome, IsInsertAnswer}
+use Rattle.fact_table.specs.Table.{FactTable, HasHome, IsInsertAnswer, IsTable}
 use Rattle.transition_formula.specs.Program.{Program, at_number}
 use Rattle.horn_rules.specs.declared.job.Job.{Job}
 use Rattle.horn_rules.specs.Home.{homes}
 use Rattle.horn_rules.specs.Instance.{premises_of}
 use Rattle.horn_rules.specs.Stored.{HasItsHome, fact_of, home_numbered, instance_of}
+use Rattle.horn_rules.proofs.Lists.{all-contained}
+use Rattle.horn_rules.proofs.Numbers.{numbered-there}
+use Rattle.pending_instances.specs.Pending.{AreAtHomes}
 use Rattle.core_steps.specs.State.{Opening, State, Task, IsOpening, held_by}
 use Rattle.core_steps.specs.Event.{New, Same}
 use Rattle.core_steps.specs.Withdrawn.{has_id}
@@ -26,7 +29,7 @@ use Rattle.core_steps.specs.inside.Publishing.{IsToPublish}
 use Rattle.core_steps.proofs.Tests.{both}
 use Rattle.core_steps.proofs.Keeps.{Keeps}
 use Rattle.core_steps.proofs.Counts.{Counts}
-use Rattle.core_steps.proofs.Reserve.{all-to}
+use Rattle.core_steps.proofs.PresentTasks.{all-to}
 use Rattle.core_steps.proofs.PremiseFacts.{home-of, number-within}
 use Rattle.core_steps.proofs.Agreements.{held-worker, lacks-live, has-live, premises-stored}
 
@@ -34,6 +37,12 @@ pub has-home : (program : Program) (table : FactTable) (fact : StoredFact) → t
 has-home program table fact same has =
     let within = number-within (homes program) fact.home.0 (home_numbered program fact.home.0) (home-of program fact.home.0 has) in
     (within.0, omega (arith, within.1, same))
+
+-- where a table's homes are those of the program, its facts stand at them
+pub at-homes : (program : Program) (table : FactTable) → IsTable table → table.homes ≡ length (homes program) → AreAtHomes program table.live
+at-homes program table is same f has =
+    let at = all-contained (λ g. HasHome table.homes (LiveFact.fact g).home.0) table.live f is.at_homes has in
+    numbered-there (homes program) f.fact.home.0 at.0 (omega (arith, at.1, same))
 
 -- the premises of the job are live
 pub premises-live : (opening : Opening) (state : State) (table : FactTable) (job : Job) (fact : StoredFact) → IsFullTable opening.program opening.limits.facts state table → IsToPublish opening state job fact

@@ -11,7 +11,7 @@ use Rattle.horn_rules.specs.Instance.{Instance, Init, Own, Guar, Env, Inter}
 use Rattle.horn_rules.specs.Stored.{home_numbered, instance_of}
 use Rattle.derivation_tree.specs.Facts.{target_among}
 use Rattle.fact_table.specs.Table.{FactTable}
-use Rattle.pending_instances.specs.declared.next.Next.{Next}
+use Rattle.instance_cursors.specs.declared.choosing.Next.{Next}
 use Rattle.pending_instances.specs.Calls.{Closes}
 use Rattle.core_steps.specs.declared.stored_core.Core.TheInside.{Inside}
 use Rattle.core_steps.specs.declared.held.Held.{Held}

@@ -45,11 +45,11 @@ use Rattle.core_steps.proofs.KeptEvents.{kept-event, table-same}
 use Rattle.core_steps.proofs.Choices.{led-alike}
 
 -- what is pending of an instance, where each task is
-pending-of : (opening : Opening) (one other : State) (instance : Instance ℕ) → ((task : Task) → IsPending opening one task → IsPending opening other task) → IsPendingOf opening one instance → IsPendingOf opening other instance
+pub pending-of : (opening : Opening) (one other : State) (instance : Instance ℕ) → ((task : Task) → IsPending opening one task → IsPending opening other task) → IsPendingOf opening one instance → IsPendingOf opening other instance
 pending-of opening one other instance each (task, is, pending) = (task, is, each task pending)
 
 -- the holds without that of a worker
-fewer-holds : (opening : Opening) (state later : State) (inside : Inside) (w : ℕ) → Holds opening state inside → IsWorker opening w → later.holds ≡ holds_without w state.holds
+pub fewer-holds : (opening : Opening) (state later : State) (inside : Inside) (w : ℕ) → Holds opening state inside → IsWorker opening w → later.holds ≡ holds_without w state.holds
     → AreHolds opening.program opening.workers later (slice_set inside.holds.items (w - 1) None)
 fewer-holds opening state later inside w holds worker are =
     holds-set opening.program opening.workers state later inside.holds.items w None holds.holds worker.from_1 worker.within
@@ -148,10 +148,10 @@ named-ids (stored.Guar f e) = refl
 named-ids (stored.Env f t) = refl
 named-ids (stored.Inter f g e) = refl
 
-names-from : (instance : StoredInstance) (id : FactId) → Contains (stored_premises instance) id → Names (instance_of instance) id.0
+pub names-from : (instance : StoredInstance) (id : FactId) → Contains (stored_premises instance) id → Names (instance_of instance) id.0
 names-from instance id there = subst (λ ids. Contains ids id.0) (sym (named-ids instance)) (Contains-map (λ (x : FactId). x.0) (stored_premises instance) id there)
 
-names-to : (instance : StoredInstance) (id : FactId) → Names (instance_of instance) id.0 → Contains (stored_premises instance) id
+pub names-to : (instance : StoredInstance) (id : FactId) → Names (instance_of instance) id.0 → Contains (stored_premises instance) id
 names-to instance id named =
     let (other, there, same) = Contains-unmap (λ (x : FactId). x.0) (stored_premises instance) id.0 (subst (λ ids. Contains ids id.0) (named-ids instance) named) in
     let made : ℕ → FactId = λ n. record { 0 = n } in
@@ -180,17 +180,17 @@ full-more program limit state later table new id fact instance is premises answe
     }
 
 -- what leads, by the table and by the state
-leads-from : (opening : Opening) (state : State) (table : FactTable) (waiting : Waiting) (j : StoredInstance) → IsFullTable opening.program opening.limits.facts state table
-    → waiting.rule ≡ opening.rule → waiting.live ≡ table.live → Leads opening.program waiting.rule waiting.live j
+pub leads-from : (opening : Opening) (state : State) (table : FactTable) (waiting : Waiting) (j : StoredInstance) → IsFullTable opening.program opening.limits.facts state table
+    → waiting.layout.rule ≡ opening.rule → waiting.live ≡ table.live → Leads opening.program waiting.layout.rule waiting.live j
     → HasKind opening.rule (instance_of j) × ((home : Home) × (target_among opening.program state.live (instance_of j) ≡ Some home))
 leads-from opening state table waiting j is rule live leads = (
   subst (λ r. HasKind r (instance_of j)) rule leads.has_kind,
   (leads.target, sym (led-alike opening.program opening.limits.facts state table j is) ∙ ap (λ xs. target_in opening.program xs j) (sym live) ∙ leads.target_is),
 )
 
-leads-to : (opening : Opening) (state : State) (table : FactTable) (waiting : Waiting) (j : StoredInstance) → IsFullTable opening.program opening.limits.facts state table
-    → waiting.rule ≡ opening.rule → waiting.live ≡ table.live → HasKind opening.rule (instance_of j)
-    → (home : Home) → target_among opening.program state.live (instance_of j) ≡ Some home → Leads opening.program waiting.rule waiting.live j
+pub leads-to : (opening : Opening) (state : State) (table : FactTable) (waiting : Waiting) (j : StoredInstance) → IsFullTable opening.program opening.limits.facts state table
+    → waiting.layout.rule ≡ opening.rule → waiting.live ≡ table.live → HasKind opening.rule (instance_of j)
+    → (home : Home) → target_among opening.program state.live (instance_of j) ≡ Some home → Leads opening.program waiting.layout.rule waiting.live j
 leads-to opening state table waiting j is rule live kind home leads = record {
   has_kind = subst (λ r. HasKind r (instance_of j)) (sym rule) kind;
   target = home;
@@ -219,7 +219,7 @@ kept-new inside later w task id fact instance kept allowed held named premises a
     let keeps = keeps-legal o (seen inside).history kept.legal in
     let full = full-more program o.limits.facts state done inside.table later.table id fact instance holds.table premises answer is_table unmarked word refl
     (ap (λ i. record { id = id.0; fact = fact_of program fact; kept = i } ∷ state.live) named) in
-    let rule : later.waiting.rule ≡ o.rule = opens.rule_is ∙ holds.waiting.rule_is in
+    let rule : later.waiting.layout.rule ≡ o.rule = opens.rule_is ∙ holds.waiting.rule_is in
     let given : later.table.given ≡ id.0 = ap (λ t. FactTable.given t) answer.3 ∙ sym answer.2 in
     let next : id.0 ≡ state.given + 1 = answer.2 ∙ ap (λ n. n + 1) (sym holds.table.table_is.given_is) in
     let stored_id : later.table.given ≡ id.0 = given in

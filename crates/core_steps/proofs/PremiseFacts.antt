@@ -31,7 +31,7 @@ use Rattle.horn_rules.proofs.InstanceLists.{eq-is}
 use Rattle.horn_rules.proofs.Numbers.{numbered-there, home-numbered}
 use Rattle.horn_rules.proofs.Targets.{targets-have-cases}
 use Rattle.derivation_tree.specs.Facts.{KeptFact, fact_at, home_at, target_among}
-use Rattle.pending_instances.specs.declared.next.Next.{Next}
+use Rattle.instance_cursors.specs.declared.choosing.Next.{Next}
 use Rattle.core_steps.specs.State.{Opening, State, Task, IsOpening}
 use Rattle.core_steps.specs.Event.{History}
 use Rattle.core_steps.specs.After.{after}

@@ -1,120 +1,29 @@
 -- How many events a legal history has at most. What is dropped was held or claimed when a refine, or a stop, made it stale.
 use Rattle.std.proofs.Common.{◌≡◌, ◌⊎◌, ◌<◌, ◌≤◌, ◌+◌, ◌*◌, ℕ, suc, Bool, true, false, not, ◌&&◌, List, [], ◌∷◌, length, Option, Some, None, refl, sym, ap, subst, ◌∙◌, inl, inr, arith}
 use Rattle.std.specs.Prelude.{◌==◌}
-use Rattle.std.specs.List.{AllByRecursion, Contains, list_all, filter}
+use Rattle.std.specs.List.{list_all}
 use Rattle.std.proofs.Math.Nat.{mul-suc, mul-le-mul_left}
 use Rattle.lin_rows.proofs.Lists.{AllByRecursion-weaken}
-use Rattle.horn_rules.specs.Home.{Home}
-use Rattle.horn_rules.specs.Instance.{Instance, premises_of}
-use Rattle.horn_rules.proofs.Lists.{first-or-later, contains-nothing}
+use Rattle.horn_rules.specs.Instance.{premises_of}
 use Rattle.horn_rules.proofs.InstanceLists.{is-eq}
 use Rattle.derivation_tree.specs.Facts.{KeptFact, target_among}
 use Rattle.core_steps.specs.State.{Opening, State, Reason, Task, Hold, Claimed, held_by, holds_without, claims_without}
 use Rattle.core_steps.specs.Event.{Event, Take, New, Same, Nothing, StalePublish, Claim, Refine, StaleRefine, Stop, StaleStop, History}
 use Rattle.core_steps.specs.Withdrawn.{has_id}
-use Rattle.core_steps.specs.Pending.{IsPending, is_present}
+use Rattle.core_steps.specs.Pending.{is_present}
 use Rattle.core_steps.specs.After.{with_job, with_published, with_fact, without_job, without_claim, without_any, effect, after}
 use Rattle.core_steps.specs.Allowed.{Allows, DropsJob, DropsClaim}
 use Rattle.core_steps.specs.Legal.{IsLegal}
 use Rattle.core_steps.specs.Laws.{PublishesAreFew, HistoriesAreShort}
 use Rattle.core_steps.proofs.Tests.{tells, true-false, both, with-both}
-use Rattle.core_steps.proofs.Live.{all-unmap, fact_at-found, has_id-at}
-use Rattle.core_steps.proofs.Events.{leads-found}
+use Rattle.core_steps.proofs.Live.{fact_at-found, has_id-at}
 use Rattle.core_steps.proofs.Workers.{held_by-is, claimed_by-is, by_worker-found, length-without, length-gone, length-but-one}
 use Rattle.core_steps.proofs.Counts.{Counts, holder, claimer, few-holds, few-claims, counts-legal}
+use Rattle.core_steps.proofs.CountsByTests.{count, count-all, count-fewer, count-left, count-gone}
+use Rattle.core_steps.proofs.PresentTasks.{all-from, all-to, leads-live}
 
 pub publishes-few : PublishesAreFew
 publishes-few opening history legal = let counts = counts-legal opening history legal in let all = counts.published in omega (arith, all)
-
--- ---- counts by tests
-
-abbrev count : {A : Type 0} → (A → Bool) → List A → ℕ
-count p xs = length (filter p xs)
-
-count-all : {A : Type 0} (p : A → Bool) (xs : List A) → count p xs ≤ length xs
-count-all p [] = omega arith
-count-all p (x ∷ xs) = elim (tells (p x)) [
-  | inl hit ↦ let e : count p (x ∷ xs) ≡ suc (count p xs) = rw hit refl in let rest = count-all p xs in omega (arith, e, rest)
-  | inr miss ↦ let e : count p (x ∷ xs) ≡ count p xs = rw miss refl in let rest = count-all p xs in omega (arith, e, rest)
-]
-
-count-fewer : {A : Type 0} (p q : A → Bool) (xs : List A) → ((x : A) → p x ≡ true → q x ≡ true) → count p xs ≤ count q xs
-count-fewer p q [] implies = omega arith
-count-fewer p q (x ∷ xs) implies = elim (tells (p x)) [
-  | inl hit ↦
-      let also = implies x hit in
-      let e : count p (x ∷ xs) ≡ suc (count p xs) = rw hit refl in
-      let f : count q (x ∷ xs) ≡ suc (count q xs) = rw also refl in
-      let rest = count-fewer p q xs implies in omega (arith, e, f, rest)
-  | inr miss ↦
-      let e : count p (x ∷ xs) ≡ count p xs = rw miss refl in
-      let rest = count-fewer p q xs implies in
-      elim (tells (q x)) [
-        | inl also ↦ let f : count q (x ∷ xs) ≡ suc (count q xs) = rw also refl in omega (arith, e, f, rest)
-        | inr never ↦ let f : count q (x ∷ xs) ≡ count q xs = rw never refl in omega (arith, e, f, rest)
-      ]
-]
-
--- of what is left there are no more
-count-left : {A : Type 0} (p keep : A → Bool) (xs : List A) → count p (filter keep xs) ≤ count p xs
-count-left p keep [] = omega arith
-count-left p keep (x ∷ xs) =
-    let rest = count-left p keep xs in
-    elim (tells (keep x)) [
-      | inl kept ↦
-          let l : filter keep (x ∷ xs) ≡ x ∷ filter keep xs = rw kept refl in
-          let at = ap (count p) l in
-          elim (tells (p x)) [
-            | inl hit ↦
-                let e : count p (x ∷ filter keep xs) ≡ suc (count p (filter keep xs)) = rw hit refl in
-                let f : count p (x ∷ xs) ≡ suc (count p xs) = rw hit refl in omega (arith, at, e, f, rest)
-            | inr miss ↦
-                let e : count p (x ∷ filter keep xs) ≡ count p (filter keep xs) = rw miss refl in
-                let f : count p (x ∷ xs) ≡ count p xs = rw miss refl in omega (arith, at, e, f, rest)
-          ]
-      | inr gone ↦
-          let l : filter keep (x ∷ xs) ≡ filter keep xs = rw gone refl in
-          let at = ap (count p) l in
-          elim (tells (p x)) [
-            | inl hit ↦ let f : count p (x ∷ xs) ≡ suc (count p xs) = rw hit refl in omega (arith, at, f, rest)
-            | inr miss ↦ let f : count p (x ∷ xs) ≡ count p xs = rw miss refl in omega (arith, at, f, rest)
-          ]
-    ]
-
--- and fewer where one that passes is not kept
-count-gone : {A : Type 0} (p keep : A → Bool) (xs : List A) (x : A) → Contains xs x → p x ≡ true → keep x ≡ false → count p (filter keep xs) < count p xs
-count-gone p keep [] x c hit gone = absurd (contains-nothing x c)
-count-gone p keep (y ∷ ys) x c hit gone = elim (first-or-later y x ys c) [
-  | inl same ↦
-      let hit_y : p y ≡ true = ap p same ∙ hit in
-      let gone_y : keep y ≡ false = ap keep same ∙ gone in
-      let l : filter keep (y ∷ ys) ≡ filter keep ys = rw gone_y refl in
-      let at = ap (count p) l in
-      let f : count p (y ∷ ys) ≡ suc (count p ys) = rw hit_y refl in
-      let rest = count-left p keep ys in omega (arith, at, f, rest)
-  | inr later ↦
-      let rest = count-gone p keep ys x later hit gone in
-      elim (tells (keep y)) [
-        | inl kept ↦
-            let l : filter keep (y ∷ ys) ≡ y ∷ filter keep ys = rw kept refl in
-            let at = ap (count p) l in
-            elim (tells (p y)) [
-              | inl also ↦
-                  let e : count p (y ∷ filter keep ys) ≡ suc (count p (filter keep ys)) = rw also refl in
-                  let f : count p (y ∷ ys) ≡ suc (count p ys) = rw also refl in omega (arith, at, e, f, rest)
-              | inr miss ↦
-                  let e : count p (y ∷ filter keep ys) ≡ count p (filter keep ys) = rw miss refl in
-                  let f : count p (y ∷ ys) ≡ count p ys = rw miss refl in omega (arith, at, e, f, rest)
-            ]
-        | inr left_out ↦
-            let l : filter keep (y ∷ ys) ≡ filter keep ys = rw left_out refl in
-            let at = ap (count p) l in
-            elim (tells (p y)) [
-              | inl also ↦ let f : count p (y ∷ ys) ≡ suc (count p ys) = rw also refl in omega (arith, at, f, rest)
-              | inr miss ↦ let f : count p (y ∷ ys) ≡ count p ys = rw miss refl in omega (arith, at, f, rest)
-            ]
-      ]
-]
 
 -- ---- what may still be dropped
 
@@ -148,29 +57,6 @@ stops (Some reason) = 1
 record IsWithin (opening : Opening) (state : State) (n m : ℕ) : Type 0 where
   dropped : n + droppable state ≤ 2 * (opening.workers * (state.refined + stops state.stop))
   events : m ≤ 2 * length state.published + length state.holds + length state.claims + 2 * state.refined + 3 * n + 3 * stops state.stop
-
--- ---- what is present
-
-pub all-from : {A : Type 0} (p : A → Bool) (xs : List A) → AllByRecursion (λ x. p x ≡ true) xs → list_all p xs ≡ true
-all-from p [] all = refl
-all-from p (x ∷ xs) all = with-both (p x) (list_all p xs) all.0 (all-from p xs all.1)
-
-pub all-to : {A : Type 0} (p : A → Bool) (xs : List A) → list_all p xs ≡ true → AllByRecursion (λ x. p x ≡ true) xs
-all-to p [] e = tt
-all-to p (x ∷ xs) e = let (hit, rest) = both (p x) (list_all p xs) e in (hit, all-to p xs rest)
-
-pub leads-live : (opening : Opening) (live : List KeptFact) (instance : Instance ℕ) (home : Home) → target_among opening.program live instance ≡ Some home → list_all (has_id live) (premises_of instance) ≡ true
-leads-live opening live instance home leads =
-    let found = leads-found opening.program live instance home leads in
-    let all : AllByRecursion (λ (f : KeptFact). has_id live f.id ≡ true) (premises_of found.premises) =
-    AllByRecursion-weaken (Contains live) (λ (f : KeptFact). has_id live f.id ≡ true) (λ f there. has_id-at live f there) (premises_of found.premises) found.are_live in
-    all-from (has_id live) (premises_of instance)
-    (subst (λ i. AllByRecursion (λ id. has_id live id ≡ true) (premises_of i)) found.ids (all-unmap (λ id. has_id live id ≡ true) (λ (f : KeptFact). f.id) found.premises all))
-
-pub pending-present : (opening : Opening) (state : State) (task : Task) → IsPending opening state task → is_present state task ≡ true
-pending-present opening state task pending =
-    with-both (task.epoch == state.epochs task.home) (list_all (has_id state.live) (premises_of task.instance))
-    (is-eq task.epoch (state.epochs task.home) pending.present) (leads-live opening state.live task.instance task.home pending.leads)
 
 -- ---- events
 

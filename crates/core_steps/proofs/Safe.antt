@@ -30,7 +30,7 @@ use Rattle.core_steps.specs.After.{with_job, with_published, with_fact, effect, 
 use Rattle.core_steps.specs.Allowed.{Suits}
 use Rattle.core_steps.specs.Legal.{IsLegal}
 use Rattle.core_steps.specs.Pending.{IsQuiet}
-use Rattle.core_steps.specs.Laws.{ClearStatesAreSafe}
+use Rattle.core_steps.specs.Laws.{QuietStatesCover, ClearStatesAreSafe}
 use Rattle.core_steps.proofs.Tests.{tells, same_home-is}
 use Rattle.core_steps.proofs.Live.{found-fact_at}
 use Rattle.core_steps.proofs.Refines.{keeps-legal}
@@ -112,13 +112,17 @@ least-gives opening history legal quiet instance given z has is all point =
       | inr (fact, posted, there) ↦ (fact, posted)
     ]
 
+pub quiet-covers : QuietStatesCover
+quiet-covers opening history is legal quiet =
+    let state = after opening history in
+    let closed = least-closed opening.program opening.rule state.sets (least-gives opening history legal quiet) in
+    closed-least-covers opening.program opening.rule state.sets is.is_program (legal-sets opening history is legal) closed
+
 pub clear-safe : ClearStatesAreSafe
 clear-safe opening history is legal clear =
     let state = after opening history in
     let keeps = keeps-legal opening history legal in
-    let closed = least-closed opening.program opening.rule state.sets (least-gives opening history legal clear.quiet) in
-    let covers = closed-least-covers opening.program opening.rule state.sets is.is_program (legal-sets opening history is legal) closed in
-    least-is-safe failing-runs opening.program opening.rule state.sets covers
+    least-is-safe failing-runs opening.program opening.rule state.sets (quiet-covers opening history is legal clear.quiet)
     (λ i statement (fact, least, says) at.
     let live = (quiet-least opening history fact legal clear.quiet).1 least in
     let (f, there, same) = Contains-unmap (λ (g : KeptFact). g.fact) state.live fact live in

@@ -4,7 +4,7 @@ use Rattle.std.specs.Prelude.{option_map, MatchOption, IfOk, IfSome, Result, Ok,
 use Rattle.thr_base.specs.declared.names.Instance.{Instance as StoredInstance}
 use Rattle.horn_rules.specs.Stored.{instance_of}
 use Rattle.derivation_tree.specs.Tree.{thread_of}
-use Rattle.pending_instances.specs.declared.next.Next.{Next}
+use Rattle.instance_cursors.specs.declared.choosing.Next.{Next}
 use Rattle.core_steps.specs.declared.answers.Taken.{Taken}
 use Rattle.core_steps.specs.declared.answers.Taken.TheVariants as taken
 use Rattle.core_steps.specs.State.{Opening, State, Task, IsFree, Jobs}

@@ -45,27 +45,27 @@ pub data StopAnswer : Type 0 where
   NotHeld : StopAnswer
   Stopped : StopAnswer
 
--- what worker w names in a stop: a job that is left, a claim that is left, or nothing that it holds
+-- what is named in a stop: a job that is left, or a claim that is left, each with the worker that it was given to, or nothing that is held
 pub data Named : Type 0 where
-  OfTask : Task → LeaveKind → Named
-  OfClaim : ℕ → TreeLeft → Named
+  OfTask : ℕ → Task → LeaveKind → Named
+  OfClaim : ℕ → ℕ → TreeLeft → Named
   OfRun : Reason → Named
 
 abbrev pub reason_of : Named → Reason
-reason_of (OfTask task kind) = JobLeft task.instance kind
-reason_of (OfClaim id left) = RootLeft id left
+reason_of (OfTask v task kind) = JobLeft task.instance kind
+reason_of (OfClaim v id left) = RootLeft id left
 reason_of (OfRun reason) = reason
 
--- the worker holds it
+-- it was given to the worker, which holds it
 abbrev pub IsNamed : State → ℕ → Named → Type 0
-IsNamed state w (OfTask task kind) = held_by state.holds w ≡ Some task
-IsNamed state w (OfClaim id left) = claimed_by state.claims w ≡ Some id
+IsNamed state w (OfTask v task kind) = (v ≡ w) × (held_by state.holds w ≡ Some task)
+IsNamed state w (OfClaim v id left) = (v ≡ w) × (claimed_by state.claims w ≡ Some id)
 IsNamed state w (OfRun reason) = Unit {0}
 
 -- it is stale
 abbrev pub IsStale : State → Named → Type 0
-IsStale state (OfTask task kind) = is_present state task ≡ false
-IsStale state (OfClaim id left) = has_id state.live id ≡ false
+IsStale state (OfTask v task kind) = is_present state task ≡ false
+IsStale state (OfClaim v id left) = has_id state.live id ≡ false
 IsStale state (OfRun reason) = ⊥
 
 -- Worker w stops the run by what it names, which agrees with the run.

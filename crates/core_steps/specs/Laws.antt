@@ -1,5 +1,5 @@
 -- What holds after every legal history.
-use Rattle.std.specs.Prelude.{◌≡◌, ◌≢◌, ◌↔◌, ◌⊎◌, ◌<◌, ◌≤◌, ◌+◌, ◌*◌, ℕ, Bool, true, length, AllPairs, Some}
+use Rattle.std.specs.Prelude.{◌≡◌, ◌≢◌, ◌↔◌, ◌⊎◌, ◌<◌, ◌≤◌, ◌+◌, ◌*◌, ℕ, Bool, true, ◌++◌, length, AllPairs, Some, None}
 use Rattle.std.specs.List.{AllByRecursion, Contains}
 use Rattle.thr_base.specs.declared.limits.Limits.{Limits}
 use Rattle.farkas_cert.specs.Cert.{IsRefuted}
@@ -8,8 +8,8 @@ use Rattle.horn_rules.specs.Fact.{Fact}
 use Rattle.horn_rules.specs.Instance.{HasKind, premises_of}
 use Rattle.horn_rules.specs.Case.{Case}
 use Rattle.horn_rules.specs.Post.{IsFactOf}
-use Rattle.horn_rules.specs.Least.{Least}
-use Rattle.horn_rules.specs.Cover.{NoRunFails}
+use Rattle.horn_rules.specs.Least.{Least, LeastSays}
+use Rattle.horn_rules.specs.Cover.{Covers, NoRunFails}
 use Rattle.derivation_tree.specs.Facts.{KeptFact, target_among}
 use Rattle.core_steps.specs.State.{Opening, State, Task, IsOpening}
 use Rattle.core_steps.specs.Event.{History}
@@ -66,6 +66,11 @@ QuietStatesHaveTheLeastSet = (opening : Opening) (history : History) (fact : Fac
     → IsQuiet opening (after opening history)
     → IsLiveFact (after opening history) fact ↔ Least opening.program opening.rule (after opening history).sets fact
 
+-- What it says covers all runs.
+abbrev pub QuietStatesCover : Type 0
+QuietStatesCover = (opening : Opening) (history : History) → IsOpening opening → IsLegal opening history → IsQuiet opening (after opening history)
+    → Covers opening.program (LeastSays opening.program opening.rule (after opening history).sets)
+
 -- In a clear one no run fails.
 abbrev pub ClearStatesAreSafe : Type 0
 ClearStatesAreSafe = (opening : Opening) (history : History) → IsOpening opening → IsLegal opening history
@@ -98,3 +103,14 @@ abbrev pub WhatRemainsIsNotWithdrawn : Type 0
 WhatRemainsIsNotWithdrawn = (opening : Opening) (history : History) (changed : Home → Bool) (f : KeptFact) → IsLegal opening history
     → let live = (after opening history).live in
     Contains live f → Contains (remaining changed live) f ↔ ¬ IsWithdrawn live changed f.id
+
+-- ---- what has ended
+
+-- The run is clear, or a stop stands.
+abbrev pub HasEnded : Opening → State → Type 0
+HasEnded opening state = IsClear opening state ⊎ (state.stop ≢ None)
+
+-- So it stays, whatever legal events follow.
+abbrev pub EndsStay : Type 0
+EndsStay = (opening : Opening) (later earlier : History) → IsLegal opening (later ++ earlier)
+    → HasEnded opening (after opening earlier) → HasEnded opening (after opening (later ++ earlier))

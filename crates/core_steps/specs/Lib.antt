@@ -9,9 +9,14 @@ pub mod Legal
 pub mod Answers
 pub mod Ends
 pub mod Laws
+pub mod Bounds
 pub mod Stored
 pub mod Course
 pub mod Readers
 pub mod Jobs
 pub mod Publishes
+pub mod Claims
+pub mod Stops
+pub mod Refines
+pub mod Noted
 pub mod inside

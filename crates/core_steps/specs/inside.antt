@@ -6,3 +6,6 @@ pub mod Premises
 pub mod Agreeing
 pub mod Publishing
 pub mod Quiet
+pub mod Standing
+pub mod Claiming
+pub mod Changing

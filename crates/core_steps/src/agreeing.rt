@@ -10,7 +10,7 @@ ghost use Rattle.core_steps.specs.inside.Agreeing.{PremiseFits};
 use crate::stored_core::Core;
 use horn_rules::{Job, Premise};
 use lin_rows::Atom;
-use predicate_sets::HomeSet;
+use predicate_sets::{HomeSet, is_same};
 use thr_base::{Fact, HomeNo};
 
 impl<'p> Core<'p> {
@@ -73,15 +73,9 @@ fn same_atoms(one: &[Atom], other: &[Atom]) -> bool
         return false;
     }
     for (place, atom) in one.iter().enumerate() {
-        if !same_atom(atom, &other[place]) {
+        if !is_same(atom, &other[place]) {
             return false;
         }
     }
     true
-}
-
-fn same_atom(one: &Atom, other: &Atom) -> bool
-    ensures { IsTrue result ↔ one.now ≡ other.now }
-{
-    one.bound() == other.bound() && one.coefficients() == other.coefficients()
 }

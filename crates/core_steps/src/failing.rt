@@ -45,7 +45,7 @@ fn none_in(program: &Program, facts: &[LiveFact]) -> bool
 }
 
 /// Whether the home is at location 0.
-fn is_failing(program: &Program, home: HomeNo) -> bool
+pub(crate) fn is_failing(program: &Program, home: HomeNo) -> bool
     requires { IsSome (at_number (homes program.now) home.0) }
     ensures { IsTrue result ↔ IsFailing (home_numbered program.now home.0) }
 {

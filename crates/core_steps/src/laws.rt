@@ -1,4 +1,4 @@
-ghost use Rattle.core_steps.specs.Laws.{LiveFactsArePosts, LiveFactsAreLeast, DoneInstancesArePosted, InstancesAreDoneHeldOrPending, QuietStatesHaveTheLeastSet, ClearStatesAreSafe, NoJobIsPublishedTwice, PublishesAreFew, HistoriesAreShort, WhatRemainsIsNotWithdrawn};
+ghost use Rattle.core_steps.specs.Laws.{LiveFactsArePosts, LiveFactsAreLeast, DoneInstancesArePosted, InstancesAreDoneHeldOrPending, QuietStatesHaveTheLeastSet, QuietStatesCover, ClearStatesAreSafe, NoJobIsPublishedTwice, PublishesAreFew, HistoriesAreShort, WhatRemainsIsNotWithdrawn, EndsStay};
 
 /// After a legal history each live fact is the post of its kept instance, and in the least set of the predicates that homes have: a
 /// law, and no code.
@@ -17,9 +17,10 @@ pub fn instances_are_done_held_or_pending()
     ensures { InstancesAreDoneHeldOrPending }
 {}
 
-/// In a quiet state the live facts are exactly the least set, and in a clear one no run fails: a law, and no code.
+/// In a quiet state the live facts are exactly the least set, which covers all runs, and in a clear one no run fails: laws, and no code.
 pub fn quiet_states_have_the_least_set()
     ensures least { QuietStatesHaveTheLeastSet }
+    ensures covers { QuietStatesCover }
     ensures safe { ClearStatesAreSafe }
 {}
 
@@ -41,4 +42,9 @@ pub fn histories_are_short()
 /// Where homes change, the facts that remain are exactly those that are not withdrawn: a law, and no code.
 pub fn what_remains_is_not_withdrawn()
     ensures { WhatRemainsIsNotWithdrawn }
+{}
+
+/// A run that is clear or stopped stays so, whatever legal events follow: a law, and no code.
+pub fn ends_stay()
+    ensures { EndsStay }
 {}

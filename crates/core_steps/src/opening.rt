@@ -61,7 +61,7 @@ impl<'p> Core<'p> {
 }
 
 /// The same lists.
-fn copy_of(alloc: Global, sets: &Sets, homes: u32) -> Result<Sets, AllocError>
+pub(crate) fn copy_of(alloc: Global, sets: &Sets, homes: u32) -> Result<Sets, AllocError>
     requires { length sets.now ≡ homes }
     ensures { IfOk result (λ copy. copy ≡ sets.now) }
 {
@@ -73,7 +73,11 @@ fn copy_of(alloc: Global, sets: &Sets, homes: u32) -> Result<Sets, AllocError>
 }
 
 /// The list of each home, shared.
-fn lists_of(alloc: Global, sets: &Sets, homes: u32) -> Result<Vec<Arc<HomeSet>>, AllocError>
+pub(crate) fn lists_of(
+    alloc: Global,
+    sets: &Sets,
+    homes: u32,
+) -> Result<Vec<Arc<HomeSet>>, AllocError>
     requires { length sets.now ≡ homes }
     ensures { IfOk result (λ lists. map (λ list. list.value) lists.items ≡ sets.now) }
 {

@@ -3,7 +3,7 @@ ghost use Rattle.std.specs.Vec.{vec_capacity};
 ghost use Rattle.horn_rules.specs.Stored.{instance_of};
 ghost use Rattle.core_steps.specs.Allowed.{Allows};
 ghost use Rattle.core_steps.specs.Course.{opening_of, state_of, with_events};
-ghost use Rattle.core_steps.specs.Event.{Take, Stop as Stops};
+ghost use Rattle.core_steps.specs.Event.{Take, Stop as Stops, Claim as Claims};
 ghost use Rattle.core_steps.specs.State.{Task};
 ghost use Rattle.core_steps.specs.Stored.{reason_of};
 ghost use Rattle.core_steps.specs.inside.Taking.{IsNextOf};
@@ -13,7 +13,7 @@ use crate::held::Held;
 use crate::stored_core::Core;
 use pending_instances::Next;
 use std::alloc::AllocError;
-use thr_base::Epoch;
+use thr_base::{Epoch, FactId};
 
 impl<'p> Core<'p> {
     /// The worker takes what is next.
@@ -33,6 +33,15 @@ impl<'p> Core<'p> {
         put_at(&mut self.holds, w as usize - 1, Some(held));
         add_event(&mut self.journal, Event::Take(w, next.instance));
         Ok(())
+    }
+
+    /// The worker has claimed the fact.
+    pub(crate) fn add_claim(&mut self, w: u32, root: FactId)
+        requires { Allows (opening_of self.old) (state_of self.old) (Claims w root.0) }
+        ensures { self.new ≡ with_events self.old (Claims w root.0 ∷ []) }
+    {
+        put_at(&mut self.claims, w as usize - 1, Some(root));
+        add_event(&mut self.journal, Event::Claim(w, root));
     }
 
     /// The run stops.

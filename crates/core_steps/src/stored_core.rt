@@ -1,5 +1,7 @@
 ghost use Rattle.std.specs.Prelude.{◌≡◌, option_map};
-ghost use Rattle.core_steps.specs.Course.{state_of};
+ghost use Rattle.core_steps.specs.Course.{opening_of, state_of};
+ghost use Rattle.core_steps.specs.Legal.{IsLegal};
+ghost use Rattle.core_steps.specs.State.{IsOpening};
 ghost use Rattle.core_steps.specs.Readers.{IsListsOf, IsTableOf};
 ghost use Rattle.core_steps.specs.Stored.{history_of, reason_of};
 
@@ -50,7 +52,8 @@ impl<'p> Model for Core<'p> {
 
 impl<'p> Core<'p> {
     pub fn program(&self) -> &'p Program
-        ensures { result.now ≡ self.now.program }
+        ensures program { result.now ≡ self.now.program }
+        ensures opening { IsOpening (opening_of self.now) }
     {
         self.program
     }
@@ -97,7 +100,8 @@ impl<'p> Core<'p> {
 
     /// The events so far, by rising time.
     pub fn journal(&self) -> &[Event<'p>]
-        ensures { history_of self.now.program result.now ≡ self.now.history }
+        ensures history { history_of self.now.program result.now ≡ self.now.history }
+        ensures legal { IsLegal (opening_of self.now) self.now.history }
     {
         self.journal.as_slice()
     }

@@ -32,7 +32,7 @@ derives-home program tree home (inter f g e from other given there h k case same
     inter-home program f g e (bare from) (bare other) given (derives-home program f from h) (derives-home program g other k) case ∙ ap Some same
 
 -- the home to which an instance of the program leads is one
-target-there : (program : Program) (i : instance.Instance Statement) (given : Case) → IsProgram program → IsCaseOf program i given → IsHomeOf program given.target
+pub target-there : (program : Program) (i : instance.Instance Statement) (given : Case) → IsProgram program → IsCaseOf program i given → IsHomeOf program given.target
 target-there program i given is (cases.init k thread at) =
     location-home program k 1 thread (record { thread_is = at; within = let h = (is.threads_are k thread at).has_start in omega arith })
 target-there program i given is (cases.own k e thread edge f at home) =

@@ -44,7 +44,7 @@ IsPendingOf opening state instance = (task : Task) × (task.instance ≡ instanc
 
 pub record IsWaiting (opening : Opening) (state : State) (table : FactTable) (waiting : Waiting) : Type 0 where
   pub is_for : IsFor opening.program waiting
-  pub rule_is : waiting.rule ≡ opening.rule
+  pub rule_is : waiting.layout.rule ≡ opening.rule
   pub room_is : waiting.room ≡ opening.limits.facts
   pub given_is : waiting.given ≡ table.given
   pub live_is : waiting.live ≡ table.live

@@ -8,7 +8,7 @@ use Rattle.horn_rules.specs.declared.job.Job.{Job}
 use Rattle.horn_rules.specs.Instance.{Instance, first_of, second_of, premises_of, map_instance}
 use Rattle.horn_rules.specs.Job.{IsPremise}
 use Rattle.horn_rules.specs.Stored.{instance_of}
-use Rattle.pending_instances.specs.declared.next.Next.{Next}
+use Rattle.instance_cursors.specs.declared.choosing.Next.{Next}
 use Rattle.core_steps.specs.State.{Opening, State, Task}
 use Rattle.core_steps.specs.Withdrawn.{has_id}
 use Rattle.core_steps.specs.Jobs.{PremiseAgrees, IsHandedOut}

@@ -13,7 +13,7 @@ use Rattle.derivation_tree.specs.Facts.{fact_at}
 use Rattle.core_steps.specs.State.{Opening, State, Task, held_by}
 use Rattle.core_steps.specs.Event.{Event, New, Same, StalePublish}
 use Rattle.core_steps.specs.Allowed.{Posts, IsNewPublish, IsSamePublish, IsFull}
-use Rattle.core_steps.specs.Course.{Course, opening_of, state_of, with_events}
+use Rattle.core_steps.specs.Course.{Course, state_of, with_events}
 use Rattle.core_steps.specs.Publishes.{job_task}
 
 -- After a stop: the job that the worker holds is dropped, if it holds one.

@@ -4,7 +4,7 @@ use Rattle.thr_base.specs.declared.names.Instance.{Instance as StoredInstance}
 use Rattle.transition_formula.specs.Program.{at_number}
 use Rattle.horn_rules.specs.Home.{homes}
 use Rattle.horn_rules.specs.Stored.{instance_of}
-use Rattle.pending_instances.specs.declared.next.Next.{Next}
+use Rattle.instance_cursors.specs.declared.choosing.Next.{Next}
 use Rattle.core_steps.specs.declared.answers.Taken.{Taken}
 use Rattle.core_steps.specs.declared.answers.Taken.TheVariants as taken
 use Rattle.core_steps.specs.State.{Opening, State, Task, Jobs}

@@ -1,6 +1,6 @@
-use Rattle.std.proofs.Common.{◌≡◌, ℕ, Some, sym, ap, ◌∙◌}
+use Rattle.std.proofs.Common.{Some, sym, ap, ◌∙◌}
 use Rattle.std.specs.Prelude.{unwrap_or}
-use Rattle.horn_rules.specs.Home.{Home, State as AtLocation, Env as AtEdge}
+use Rattle.horn_rules.specs.Home.{State as AtLocation}
 use Rattle.horn_rules.specs.Stored.{home_of}
 use Rattle.horn_rules.proofs.InstanceLists.{eq-is, is-eq}
 use Rattle.core_steps.proofs.QuietFacts.{place_at}

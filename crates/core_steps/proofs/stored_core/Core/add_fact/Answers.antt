@@ -1,4 +1,4 @@
-use Rattle.std.proofs.Common.{◌≡◌, ◌<◌, ◌≤◌, ◌+◌, ◌-◌, ◌^◌, refl, sym, ap, subst, arith}
+use Rattle.std.proofs.Common.{◌≡◌, ◌<◌, ◌≤◌, ◌+◌, ◌-◌, ◌^◌, refl, sym, ap, subst, ◌∙◌, arith}
 use Rattle.core_steps.specs.declared.event.Event.TheVariants as stored_event
 use Rattle.horn_rules.specs.Stored.{fact_of}
 use Rattle.core_steps.specs.Allowed.{IsNewPublish, IsSamePublish, IsFull}
@@ -14,7 +14,7 @@ use Rattle.core_steps.proofs.KeptEvents.{has-room}
 use Rattle.core_steps.proofs.KeptPublishes.{kept-new, kept-published}
 use Rattle.core_steps.proofs.PublishAnswers.{published-fits}
 use Rattle.core_steps.proofs.Agreements.{has-live, held-worker}
-use Rattle.core_steps.proofs.FactsAdded.{has-home, premises-live, ids-left, new-publish, new-allowed, same-publish, same-allowed, full-publish, place-there}
+use Rattle.core_steps.proofs.FactsAdded.{at-homes, has-home, premises-live, ids-left, new-publish, new-allowed, same-publish, same-allowed, full-publish, place-there}
 use Rattle.core_steps.proofs.stored_core.Core.add_fact.Goals as goal
 
 pub overflow_sub-place : goal.overflow_sub-place
@@ -143,7 +143,8 @@ invariant_of-self c =
     kept-new c.self.inside _ c.args.job.now.worker (job_task o.program c.args.job.now) c.in-New.id c.args.fact c.args.job.now.instance kept
     (new-allowed o s c.self.inside.table c.insert-inserted.new.self c.args.job.now c.args.fact c.in-New.id counts kept.holds.table to c.in-New.ensures.answer)
     to.posts.held refl (premises-live o s c.self.inside.table c.args.job.now c.args.fact kept.holds.table to) c.in-New.ensures.answer c.facts-facts.ensures.table c.in-New.ensures.unmarked to.word
-    (c.came.ensures o.program kept.holds.waiting.is_for) c.put_at.ensures refl c.add_event.ensures.events c.add_event.ensures.capacity refl
+    (c.came.ensures o.program kept.holds.waiting.is_for
+    (at-homes o.program c.insert-inserted.new.self c.facts-facts.ensures.table (c.in-New.ensures.homes ∙ kept.holds.table.table_is.homes_are))) c.put_at.ensures refl c.add_event.ensures.events c.add_event.ensures.capacity refl
 
 pub invariant_of-self-in-Same : goal.invariant_of-self-in-Same
 invariant_of-self-in-Same c =

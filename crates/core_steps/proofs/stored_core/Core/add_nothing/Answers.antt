@@ -1,4 +1,4 @@
-use Rattle.std.proofs.Common.{◌≡◌, ◌<◌, ◌+◌, ◌^◌, refl, sym, subst, arith}
+use Rattle.std.proofs.Common.{◌<◌, ◌+◌, ◌^◌, refl, sym, subst, arith}
 use Rattle.core_steps.specs.declared.event.Event.TheVariants as stored_event
 use Rattle.core_steps.specs.Allowed.{Allows}
 use Rattle.core_steps.specs.Course.{Course, opening_of, state_of}

@@ -12,6 +12,14 @@ use Rattle.core_steps.proofs.PremiseFacts.{number-within}
 use Rattle.core_steps.proofs.KeptEvents.{has-room, kept-take}
 use Rattle.core_steps.proofs.stored_core.Core.add_take.Goals as goal
 
+pub take-requires : goal.take-requires
+take-requires c =
+    let Allowed : Course → Type 0 = λ s. Allows (opening_of s) (state_of s) (Take c.args.w (instance_of c.args.next.instance)) in
+    let Next : Course → Type 0 = λ s. (task : Task) × IsNextOf (opening_of s) (state_of s) c.args.next task in
+    let (task, of) = subst Next (sym c.self.view_is) c.requires.next in
+    let allowed = subst Allowed (sym c.self.view_is) c.requires.allowed in
+    (c.self.invariant.holds.waiting.opens allowed.suits.0 c.args.next.instance).1 (task, of.instance_is, of.pending)
+
 pub add_event-requires : goal.add_event-requires
 add_event-requires c =
     let Allowed : Course → Type 0 = λ s. Allows (opening_of s) (state_of s) (Take c.args.w (instance_of c.args.next.instance)) in

@@ -1,5 +1,4 @@
-use Rattle.std.proofs.Common.{◌≡◌, true, false, refl, sym, ap, subst, ◌∙◌}
-use Rattle.core_steps.specs.Course.{opening_of, state_of}
+use Rattle.std.proofs.Common.{false, refl, sym, ◌∙◌}
 use Rattle.core_steps.proofs.Tests.{true-false}
 use Rattle.core_steps.proofs.Agreements.{job-home, job-premises}
 use Rattle.core_steps.proofs.stored_core.Core.agrees.Goals as goal

@@ -1,5 +1,5 @@
-use Rattle.std.proofs.Common.{◌≡◌, true, false, not, refl}
-use Rattle.core_steps.proofs.Tests.{true-false, not-true, not-false}
+use Rattle.std.proofs.Common.{◌≡◌, true, false, refl}
+use Rattle.core_steps.proofs.Tests.{true-false}
 use Rattle.core_steps.proofs.stored_core.Core.clear.Goals as goal
 
 pub returns-then-not-quiet : goal.returns-then-not-quiet

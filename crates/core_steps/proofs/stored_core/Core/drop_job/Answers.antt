@@ -1,4 +1,4 @@
-use Rattle.std.proofs.Common.{◌≡◌, refl, sym, subst}
+use Rattle.std.proofs.Common.{refl, sym, subst}
 use Rattle.core_steps.specs.Allowed.{Allows}
 use Rattle.core_steps.specs.Course.{Course, opening_of, state_of}
 use Rattle.core_steps.specs.Event.{StalePublish}

@@ -1,11 +1,10 @@
-use Rattle.std.proofs.Common.{◌≡◌, ◌<◌, ◌≤◌, Some, sym, ap, subst, ◌∙◌, arith}
+use Rattle.std.proofs.Common.{◌≡◌, sym, subst, ◌∙◌, arith}
 use Rattle.std.specs.Prelude.{IsTrue, IsSome}
 use Rattle.transition_formula.specs.Program.{at_number}
 use Rattle.predicate_sets.proofs.Homes.{set_at-map}
 use Rattle.horn_rules.specs.Home.{homes}
 use Rattle.horn_rules.specs.Stored.{home_numbered}
-use Rattle.core_steps.specs.Course.{Course, opening_of, state_of}
-use Rattle.core_steps.specs.inside.Kept.{seen}
+use Rattle.core_steps.specs.Course.{Course, state_of}
 use Rattle.core_steps.proofs.PremiseFacts.{home-of, number-within}
 use Rattle.core_steps.proofs.stored_core.Core.is_list_of.Goals as goal
 

@@ -1,8 +1,7 @@
-use Rattle.std.proofs.Common.{◌≡◌, Some, None, true, false, refl, sym, ap, subst, ◌∙◌}
+use Rattle.std.proofs.Common.{◌≡◌, Some, false, refl, sym, ap, subst, ◌∙◌}
 use Rattle.std.specs.Prelude.{IsTrue}
 use Rattle.horn_rules.specs.Job.{IsPremise}
-use Rattle.horn_rules.specs.Fact.{Fact}
-use Rattle.horn_rules.specs.Stored.{fact_of, home_numbered}
+use Rattle.horn_rules.specs.Stored.{fact_of}
 use Rattle.predicate_sets.specs.HomeSet.{IsHomeSet}
 use Rattle.derivation_tree.specs.Facts.{fact_at}
 use Rattle.core_steps.specs.Course.{Course, opening_of, state_of}

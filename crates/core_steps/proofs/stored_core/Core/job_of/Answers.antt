@@ -10,7 +10,7 @@ use Rattle.core_steps.specs.Withdrawn.{has_id}
 use Rattle.core_steps.specs.inside.Kept.{seen}
 use Rattle.core_steps.specs.inside.Taking.{IsNextOf}
 use Rattle.core_steps.specs.inside.Premises.{ArePremisesOf, IsTaskJob}
-use Rattle.core_steps.proofs.Reserve.{all-to, leads-live}
+use Rattle.core_steps.proofs.PresentTasks.{all-to, leads-live}
 use Rattle.core_steps.proofs.PremiseFacts.{job-fits, number-within}
 use Rattle.core_steps.proofs.stored_core.Core.job_of.Goals as goal
 

@@ -1,4 +1,4 @@
-use Rattle.std.proofs.Common.{◌≡◌, sym, ap, subst, ◌∙◌}
+use Rattle.std.proofs.Common.{sym, subst}
 use Rattle.std.specs.Prelude.{IsTrue}
 use Rattle.core_steps.specs.Course.{Course, opening_of, state_of}
 use Rattle.core_steps.specs.inside.Kept.{seen}

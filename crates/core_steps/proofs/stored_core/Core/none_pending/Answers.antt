@@ -1,4 +1,4 @@
-use Rattle.std.proofs.Common.{◌≡◌, true, false, refl}
+use Rattle.std.proofs.Common.{false, refl}
 use Rattle.core_steps.proofs.Tests.{true-false}
 use Rattle.core_steps.proofs.stored_core.Core.none_pending.Goals as goal
 

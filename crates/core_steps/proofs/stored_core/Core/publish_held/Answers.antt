@@ -1,19 +1,14 @@
-use Rattle.std.proofs.Common.{◌≡◌, ◌<◌, ◌^◌, [], ◌∷◌, None, Some, true, false, refl, sym, ap, subst, ◌∙◌, arith}
+use Rattle.std.proofs.Common.{◌≡◌, [], ◌∷◌, true, false, sym, ap, subst, ◌∙◌}
 use Rattle.horn_rules.specs.declared.job.Job.{Job}
 use Rattle.horn_rules.specs.Job.{IsOutcome}
-use Rattle.horn_rules.specs.Stored.{fact_of}
-use Rattle.derivation_tree.specs.Facts.{fact_at}
-use Rattle.core_steps.specs.State.{Facts, held_by}
-use Rattle.core_steps.specs.Allowed.{Allows, IsFull, IsNewPublish, IsSamePublish}
+use Rattle.core_steps.specs.Allowed.{Allows}
 use Rattle.core_steps.specs.Course.{Course, opening_of, state_of, with_events}
-use Rattle.core_steps.specs.Event.{New, Same, Nothing, StalePublish, Stop}
+use Rattle.core_steps.specs.Event.{StalePublish}
 use Rattle.core_steps.specs.Jobs.{JobAgrees}
 use Rattle.core_steps.specs.Pending.{is_present}
 use Rattle.core_steps.specs.Publishes.{job_task}
 use Rattle.core_steps.specs.inside.Kept.{seen}
-use Rattle.core_steps.specs.inside.Publishing.{DropsAny, IsToPublish}
 use Rattle.core_steps.proofs.Tests.{true-false}
-use Rattle.core_steps.proofs.WhatLooksTell.{no-stop}
 use Rattle.core_steps.proofs.Counts.{Counts, counts-legal}
 use Rattle.core_steps.proofs.PublishAnswers as answers
 use Rattle.core_steps.proofs.stored_core.Core.publish_held.Goals as goal

@@ -1,6 +1,5 @@
-use Rattle.std.proofs.Common.{◌≡◌, ◌≢◌, true, false, refl, sym, ap, subst, ◌∙◌}
-use Rattle.core_steps.specs.Course.{opening_of, state_of}
-use Rattle.core_steps.specs.Pending.{IsQuiet}
+use Rattle.std.proofs.Common.{false, refl}
+use Rattle.core_steps.specs.Course.{state_of}
 use Rattle.core_steps.proofs.Tests.{true-false}
 use Rattle.core_steps.proofs.WhatLooksTell.{no-stop}
 use Rattle.core_steps.proofs.QuietFacts.{not-some}

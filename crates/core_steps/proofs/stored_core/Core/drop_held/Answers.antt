@@ -1,0 +1,18 @@
+use Rattle.std.proofs.Common.{refl, sym, subst}
+use Rattle.core_steps.specs.Allowed.{Allows}
+use Rattle.core_steps.specs.Course.{Course, opening_of, state_of}
+use Rattle.core_steps.specs.Event.{StaleStop}
+use Rattle.core_steps.proofs.KeptEvents.{has-room}
+use Rattle.core_steps.proofs.KeptDrops.{kept-let_go}
+use Rattle.core_steps.proofs.stored_core.Core.drop_held.Goals as goal
+
+pub add_event-requires : goal.add_event-requires
+add_event-requires c =
+    let Allowed : Course → Type 0 = λ s. Allows (opening_of s) (state_of s) (StaleStop c.args.w) in
+    has-room c.self.inside (StaleStop c.args.w) c.self.invariant (subst Allowed (sym c.self.view_is) c.requires)
+
+pub invariant_of-self : goal.invariant_of-self
+invariant_of-self c =
+    let Allowed : Course → Type 0 = λ s. Allows (opening_of s) (state_of s) (StaleStop c.args.w) in
+    kept-let_go c.self.inside _ c.args.w c.self.invariant (subst Allowed (sym c.self.view_is) c.requires)
+    c.put_at.ensures c.put_at-2.ensures c.add_event.ensures.events c.add_event.ensures.capacity refl
