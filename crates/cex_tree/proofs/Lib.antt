@@ -1,0 +1,3 @@
+pub mod KeptTrees
+pub mod Shapes
+pub mod PushAnswers

@@ -1,0 +1,3 @@
+pub mod TreeCode
+pub mod Flat
+pub mod Growing
