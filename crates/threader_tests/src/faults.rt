@@ -22,20 +22,18 @@ fn a_missing_second_file_is_a_fault(rt: HostRuntime) -> Result<(), Fail> {
     Ok(())
 }
 
-/// The status, where this call of the store fails, and whether the text that goes with it is written.
-fn where_store_fails(alloc: Global, call: u64) -> Result<(u8, bool), Fail> {
-    let mut store = MemStore::new(
-        two_files(alloc, ASSIGNS_ONCE, "end\n")?,
-        vec![in alloc; call]?,
-    );
+/// The status, where this call of a store with these files fails, and whether the text that goes with it is written.
+fn where_store_fails(
+    alloc: Global,
+    files: Vec<(String, Vec<u8>)>,
+    call: u64,
+    answer: &str,
+) -> Result<(u8, bool), Fail> {
+    let mut store = MemStore::new(files, vec![in alloc; call]?);
     let mut out = RoomSink::new(alloc, 64)?;
     let words = words(alloc, "tables x.c x.pred")?;
     let status = threader_serial(alloc, &words, &mut store, &mut out);
-    let text = if status == 0 {
-        ITS_TABLE
-    } else {
-        "read fault\n"
-    };
+    let text = if status == 5 { "read fault\n" } else { answer };
     Ok((status, out.written() == text.as_bytes()))
 }
 
@@ -43,8 +41,36 @@ fn where_store_fails(alloc: Global, call: u64) -> Result<(u8, bool), Fail> {
 fn each_fault_of_the_store_is_told(rt: HostRuntime) -> Result<(), Fail> {
     // each of two files is opened, read, and read again to its end
     for (call, wanted) in [(1, 5), (2, 5), (3, 5), (4, 5), (5, 5), (6, 5), (7, 0)] {
-        let (status, written) = where_store_fails(rt.alloc(), call)?;
+        let files = two_files(rt.alloc(), ASSIGNS_ONCE, "end\n")?;
+        let (status, written) = where_store_fails(rt.alloc(), files, call, ITS_TABLE)?;
         assert_eq!(rt; status, wanted, "call {call}");
+        assert!(rt; written, "call {call}");
+    }
+    Ok(())
+}
+
+#[test]
+fn a_refused_program_is_told_before_a_later_fault(rt: HostRuntime) -> Result<(), Fail> {
+    // three calls read the program; the second file is not asked for, nor missed
+    for (call, wanted) in [(1, 5), (2, 5), (3, 5), (4, 3), (5, 3)] {
+        let both = two_files(rt.alloc(), "int x", "end\n")?;
+        let (status, written) = where_store_fails(rt.alloc(), both, call, "program E4 5\n")?;
+        assert_eq!(rt; status, wanted, "call {call}");
+        assert!(rt; written, "call {call}");
+        let alone = files(rt.alloc(), b"int x")?;
+        let (status, written) = where_store_fails(rt.alloc(), alone, call, "program E4 5\n")?;
+        assert_eq!(rt; status, wanted, "call {call}");
+        assert!(rt; written, "call {call}");
+    }
+    Ok(())
+}
+
+#[test]
+fn a_missing_second_file_is_a_fault_whatever_else_fails(rt: HostRuntime) -> Result<(), Fail> {
+    for call in 1..6 {
+        let files = files(rt.alloc(), ASSIGNS_ONCE.as_bytes())?;
+        let (status, written) = where_store_fails(rt.alloc(), files, call, "")?;
+        assert_eq!(rt; status, 5, "call {call}");
         assert!(rt; written, "call {call}");
     }
     Ok(())

@@ -2,11 +2,15 @@
 #![tactic(auto)]
 
 #[cfg(test)]
+mod budgets;
+#[cfg(test)]
 mod faults;
 #[cfg(test)]
 mod form;
 #[cfg(test)]
 mod grammar;
+#[cfg(test)]
+mod lengths;
 #[cfg(test)]
 mod limits;
 #[cfg(test)]

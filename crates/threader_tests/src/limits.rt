@@ -1,16 +1,7 @@
-use crate::runs::{ASSIGNS_ONCE, ITS_TABLE, run, run_with, spelled};
-use std::alloc::{AllocError, Global};
+use crate::runs::{ASSIGNS_ONCE, ITS_TABLE, numbered, run, run_with, spelled, times};
+use std::alloc::Global;
 use std::str::FromStr;
 use std::test::Fail;
-
-/// A text so many times.
-fn times(alloc: Global, count: u32, text: &str) -> Result<String, AllocError> {
-    let mut all = String::new(alloc);
-    for _ in 0..count {
-        all.push_str(text)?;
-    }
-    Ok(all)
-}
 
 /// The status and what is written, where so many fronts, what is inside and so many backs are a function's body.
 fn run_body(
@@ -96,12 +87,11 @@ fn atomic_blocks_have_limits(rt: HostRuntime) -> Result<(), Fail> {
 
 /// A program of so many variables, and a thread that does nothing.
 fn with_variables(alloc: Global, count: u32) -> Result<String, Fail> {
-    let mut text = String::new(alloc);
-    for i in 0..count {
-        text.push_str(&format!(in alloc; "int x{i}; ")?)?;
-    }
-    text.push_str("void *f(void *a) { } MAIN")?;
-    Ok(spelled(alloc, &text)?)
+    let variables = numbered(alloc, count, "int x", "; ")?;
+    Ok(spelled(
+        alloc,
+        &format!(in alloc; "{variables}void *f(void *a) {{ }} MAIN")?,
+    )?)
 }
 
 #[test]

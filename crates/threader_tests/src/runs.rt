@@ -45,6 +45,24 @@ pub fn spelled(alloc: Global, text: &str) -> Result<String, AllocError> {
         .replace(alloc, "MAIN", main)
 }
 
+/// A text so many times.
+pub fn times(alloc: Global, count: u32, text: &str) -> Result<String, AllocError> {
+    let mut all = String::new(alloc);
+    for _ in 0..count {
+        all.push_str(text)?;
+    }
+    Ok(all)
+}
+
+/// A front, a number from 0 on, and a back, so many times.
+pub fn numbered(alloc: Global, count: u32, front: &str, back: &str) -> Result<String, Fail> {
+    let mut all = String::new(alloc);
+    for number in 0..count {
+        all.push_str(&format!(in alloc; "{front}{number}{back}")?)?;
+    }
+    Ok(all)
+}
+
 /// Words that are parted by blanks.
 pub fn words(alloc: Global, line: &str) -> Result<Vec<String>, AllocError> {
     let mut words = Vec::new(alloc);
