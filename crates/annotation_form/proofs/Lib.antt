@@ -12,3 +12,4 @@ pub mod Passing
 pub mod WholeLaws
 pub mod Places
 pub mod Listed
+pub mod PrintedLines

@@ -17,7 +17,7 @@ pub whole-of-program : WholeAnnotationsAreOfTheirProgram
 whole-of-program program annotation whole = record { sets_are = whole.sets_are; facts_are = have-homes program annotation annotation.facts whole.facts_are }
 
 -- what is known stays known
-known-below : (known : ℕ) (numbers : List ℕ) (all : ℕ) → AreByFirstUse known numbers all → known ≤ all
+pub known-below : (known : ℕ) (numbers : List ℕ) (all : ℕ) → AreByFirstUse known numbers all → known ≤ all
 known-below known [] all e = omega arith
 known-below known (n ∷ numbers) all uses = omega (arith, known-below (max known n) numbers all uses.2)
 

@@ -6,4 +6,5 @@ pub mod Certificates
 pub mod Annotation
 pub mod Passes
 pub mod Whole
+pub mod AnnotationText
 pub mod inside

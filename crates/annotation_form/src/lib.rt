@@ -10,6 +10,7 @@ mod laws;
 mod line;
 mod listing;
 mod predicates;
+mod printing;
 
 pub use annotation::{Annotation, Group};
 pub use laws::{
@@ -18,6 +19,7 @@ pub use laws::{
 };
 pub use listing::instances;
 pub use predicates::read_predicates;
+pub use printing::print_annotation;
 
 #[cfg(test)]
 mod tests;
