@@ -8,6 +8,3 @@ mod run;
 
 pub use asking::Poster;
 pub use run::run_serial;
-
-#[cfg(test)]
-mod tests;
